@@ -1,0 +1,7 @@
+pub mod Ints
+pub mod Lengths
+pub mod Tlvs
+pub mod Fields
+pub mod Places
+pub mod Numbers
+pub mod Writes

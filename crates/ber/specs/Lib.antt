@@ -1,0 +1,6 @@
+pub mod Int
+pub mod Length
+pub mod Tlv
+pub mod Field
+pub mod Read
+pub mod Write
