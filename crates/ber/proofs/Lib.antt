@@ -4,4 +4,5 @@ pub mod Tlvs
 pub mod Fields
 pub mod Places
 pub mod Numbers
-pub mod Writes
+pub mod Writers
+pub mod Readers

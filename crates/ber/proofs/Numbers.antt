@@ -16,7 +16,7 @@ use Rattle.ber.specs.Int.{int, intEnc, intTop, spelt, shortest, allOctet
 use Rattle.ber.specs.Read.{numberOf}
 use Rattle.ber.specs.Write.{zeros, Holds}
 use Rattle.ber.specs.declared.int.Number.the-variants as N
-use Rattle.ber.proofs.Writes.{drop-zeros}
+use Rattle.ber.proofs.Writers.{drop-zeros}
 use Rattle.ber.proofs.Ints.{spelt-snoc, octets-snoc, int-small, int-large}
 
 -- ---- the shortest form

@@ -16,7 +16,7 @@ use Rattle.ber.specs.Length.{lenEnc, lenOctets, lenDec}
 use Rattle.ber.specs.Write.{Holds}
 use Rattle.ber.specs.Tlv.{tlvEnc, tlvForm, split, tlvDec, head}
 use Rattle.ber.proofs.Lengths.{len-1, len-2, len-3, len-complete, len-sound, LenOk, octets-yes, octets-no}
-use Rattle.ber.proofs.Writes.{holds-take}
+use Rattle.ber.proofs.Writers.{holds-take}
 
 pub tlv-complete : (t : ℕ) (c r : List ℕ) → length c < 65536 → tlvDec t (tlvEnc t c ++ r) ≡ some (c, r)
 unfolding tlvDec tlvEnc split

@@ -4,6 +4,7 @@
 // A reader that finds nothing that fits answers NOWHERE for the place after it, and so does a writer that finds no room. From
 // there every later one fails by itself. Nothing is written where there is no room. specs/Read.antt and specs/Write.antt say what
 // each answers, for all inputs.
+pub mod field;
 pub mod int;
 pub mod length;
 mod octet;

@@ -7,7 +7,7 @@ use lib.ListN.{length, take, length-append}
 use borrow.Author.Needs.{needs}
 use Rattle.ber.specs.Tlv.{tlvEnc}
 use Rattle.ber.proofs.Tlvs.{tlv-yes, tlv-no, tlv-length, len-most, len-none, len-heads}
-use Rattle.ber.proofs.Writes.{puts, puts-full, puts-none, puts-is, puts-room, put-is, puts-then, holds-room}
+use Rattle.ber.proofs.Writers.{puts, puts-full, puts-none, puts-is, puts-room, put-is, puts-then, holds-room}
 use Rattle.ber.proofs.tlv.put_tlv.Statement.{statement}
 use Rattle.ber.proofs.tlv.put_tlv.Tie as tie
 
