@@ -6,3 +6,4 @@ pub mod Places
 pub mod Numbers
 pub mod Writers
 pub mod Readers
+pub mod Imsis

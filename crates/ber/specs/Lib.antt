@@ -2,5 +2,6 @@ pub mod Int
 pub mod Length
 pub mod Tlv
 pub mod Field
+pub mod Imsi
 pub mod Read
 pub mod Write

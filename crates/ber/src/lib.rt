@@ -5,6 +5,7 @@
 // there every later one fails by itself. Nothing is written where there is no room. specs/Read.antt and specs/Write.antt say what
 // each answers, for all inputs.
 pub mod field;
+pub mod imsi;
 pub mod int;
 pub mod length;
 mod octet;
