@@ -9,13 +9,13 @@ cast-t3 : tie.Need-cast-t3
 cast-t3 c = search needs
 
 returns : tie.Need-returns
-returns c = holds-1 (c .before .args .n) (c .if1 .taken)
+returns c = holds-1 (c .before .args .len) (c .if1 .taken)
 
 cast-t5 : tie.Need-cast-t5
 cast-t5 c = search needs
 
 returns-2 : tie.Need-returns-2
-returns-2 c = holds-2 (c .before .before .args .n) (c .before .if1 .left) (c .if2 .taken)
+returns-2 c = holds-2 (c .before .before .args .len) (c .before .if1 .left) (c .if2 .taken)
 
 cast-t8 : tie.Need-cast-t8
 cast-t8 c = search needs
@@ -24,10 +24,10 @@ cast-t10 : tie.Need-cast-t10
 cast-t10 c = search needs
 
 returns-3 : tie.Need-returns-3
-returns-3 c = holds-3 (c .before .before .before .args .n) (c .before .if2 .left) (c .if3 .taken)
+returns-3 c = holds-3 (c .before .before .before .args .len) (c .before .if2 .left) (c .if3 .taken)
 
 returns-4 : tie.Need-returns-4
-returns-4 c = holds-0 (c .before .before .before .args .n) (c .if3 .left)
+returns-4 c = holds-0 (c .before .before .before .args .len) (c .if3 .left)
 
 pub len-octets-spec : {M : Type 1} → statement M
 len-octets-spec =
