@@ -3,7 +3,6 @@
 use mathlib.Core.Path.{_≡_, refl, sym, ap, _∙_, subst}
 use mathlib.Core.Bool.{Bool, true, false, _&&_}
 use mathlib.Core.List.{List, [], _∷_}
-use mathlib.Core.Option.{Option, none, some}
 use Prim.Native.Nat.{ℕ, _+_, _-_, _*_, _/_, _%_, _≤_, _<_}
 use native.Mathlib.Omega.{arith}
 use lib.Dec.{T, leb, ltb, ltb→lt, leb→le}
@@ -11,9 +10,8 @@ use lib.ListN.{length, getD}
 use borrow.Author.Tests.{ltb-true, ltb-false, le-ltb}
 use Rattle.format.specs.Format.{Law, eqs}
 use Rattle.format.proofs.Formats.{checked-law, eqs-refl, eqs-eq}
-use Rattle.format.proofs.Tests.{by, and-l, and-r, true-T, T-true}
+use Rattle.format.proofs.Tests.{by, and-l, and-r, T-true}
 use Rattle.calendar.specs.declared.Stamp.{Stamp}
-use Rattle.calendar.specs.declared.StampRead.{StampRead}
 use Rattle.calendar.specs.declared.StampRead.the-variants.{Time, NoTime}
 use Rattle.calendar.specs.Month.{firstDay, monthDay}
 use Rattle.calendar.specs.Stamp.{

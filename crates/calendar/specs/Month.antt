@@ -2,7 +2,7 @@
 use mathlib.Core.Bool.{Bool, true, false, cond, not, _&&_, _||_}
 use mathlib.Core.List.{List, [], _∷_}
 use mathlib.Core.Path.{_≡_}
-use Prim.Native.Nat.{ℕ, zero, suc, _+_, _-_, _/_, _%_, _≤_, _<_}
+use Prim.Native.Nat.{ℕ, zero, suc, _+_, _-_, _/_, _%_, _<_}
 use lib.Dec.{ltb, eqb}
 use lib.ListN.{getD}
 
@@ -33,7 +33,7 @@ seek (suc n) k f d = elim (ltb d (f + monthLen k)) [ true ↦ (k, d - f) | false
 unfoldable pub monthDay : ℕ → ℕ × ℕ
 monthDay d = seek 1199 0 0 d
 
--- Day d has place p in month k, one of the 1,200 from 2000 to 2099.
+-- Day d has place p in month k, one of the 1,200 from 2000 to 2099: what is proved of `monthDay` (`lies` of proofs/Months.antt).
 pub record Lies (d k p : ℕ) : Type 0 where
   pub starts : firstDay k + p ≡ d
   pub inside : p < monthLen k

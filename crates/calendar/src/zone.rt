@@ -1,6 +1,5 @@
 // The zone: minutes from universal time, plus 720. In octets it is a sign and a size.
 ghost use mathlib.Core.Path.{_≡_};
-ghost use Rattle.calendar.specs.Bound.{Is};
 ghost use Rattle.calendar.specs.Stamp.{sign, away, zoneVal};
 use crate::digits::of_bcd;
 

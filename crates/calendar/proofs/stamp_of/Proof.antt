@@ -1,7 +1,7 @@
 -- `calendar::stamp_of` meets its contract: what it puts together of the octets' parts is what they say by the definition, and each way
 -- out is a law of proofs/Stamps.antt. Assumes nothing.
 use mathlib.Core.Path.{_≡_, sym, ap, _∙_, subst}
-use mathlib.Core.Bool.{Bool, true, false}
+use mathlib.Core.Bool.{true, false}
 use Prim.Native.Nat.{ℕ, _+_, _-_, _*_}
 use lib.Dec.{T}
 use native.Mathlib.Omega.{arith}

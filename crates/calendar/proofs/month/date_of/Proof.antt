@@ -1,5 +1,4 @@
 -- `calendar::month::date_of` meets its contract: what is left of a day in its month is its place there. Assumes nothing.
-use Prim.Native.Nat.{ℕ, _<_, _/_}
 use native.Mathlib.Omega.{arith}
 use mathlib.Core.Path.{ap}
 use borrow.Author.Needs.{needs}

@@ -9,9 +9,6 @@ use Rattle.calendar.specs.Month.{firstDay}
 use Rattle.calendar.proofs.Months.{start, end, month-is}
 use Rattle.calendar.proofs.month.month_of.Statement.{statement}
 use Rattle.calendar.proofs.month.month_of.Tie as tie
-use Rattle.calendar.proofs.month.month_of.Reads as reads
-use Rattle.calendar.proofs.month.month_of.Lts as lts
-use Rattle.calendar.proofs.table.first_day.Reads as first-day-reads
 
 abbrev Inv-loop : tie.InvT-loop
 Inv-loop day month₀ month = (month ≤ 1199) × (firstDay month ≤ day)

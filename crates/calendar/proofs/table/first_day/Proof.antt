@@ -5,13 +5,11 @@ use Prim.Native.Nat.{_<_}
 use native.Mathlib.Omega.{arith}
 use lib.ListN.{getD}
 use borrow.Author.Needs.{needs}
-use Rattle.calendar.specs.Month.{firstDay, monthLen}
+use Rattle.calendar.specs.Month.{monthLen}
 use Rattle.calendar.proofs.Months.{below}
 use Rattle.calendar.proofs.Entries.{days, entry}
 use Rattle.calendar.proofs.table.first_day.Statement.{statement}
 use Rattle.calendar.proofs.table.first_day.Tie as tie
-use Rattle.calendar.proofs.table.first_day.Reads as reads
-use Rattle.calendar.proofs.table.first_day.Lts as lts
 
 mul-widened : tie.Need-mul-widened
 mul-widened c = search needs

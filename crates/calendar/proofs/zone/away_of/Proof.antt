@@ -3,8 +3,6 @@ use borrow.Author.Tests.{lt-ltb, le-ltb}
 use borrow.Author.Needs.{needs}
 use Rattle.calendar.proofs.zone.away_of.Statement.{statement}
 use Rattle.calendar.proofs.zone.away_of.Tie as tie
-use Rattle.calendar.proofs.zone.away_of.Reads as reads
-use Rattle.calendar.proofs.zone.away_of.Lts as lts
 
 sub-result : tie.Need-sub-result
 sub-result c = search needs

@@ -2,8 +2,6 @@
 use borrow.Author.Tests.{lt-ltb, le-ltb}
 use Rattle.calendar.proofs.zone.sign_of.Statement.{statement}
 use Rattle.calendar.proofs.zone.sign_of.Tie as tie
-use Rattle.calendar.proofs.zone.sign_of.Reads as reads
-use Rattle.calendar.proofs.zone.sign_of.Lts as lts
 
 returns : tie.Need-returns
 returns c = simp (lt-ltb _ _ (c .if1 .taken))

@@ -4,9 +4,6 @@ use borrow.Author.Tests.{eq-eqb, ne-eqb}
 use borrow.Author.Needs.{needs}
 use Rattle.calendar.proofs.zone.zone_of.Statement.{statement}
 use Rattle.calendar.proofs.zone.zone_of.Tie as tie
-use Rattle.calendar.proofs.zone.zone_of.Reads as reads
-use Rattle.calendar.proofs.zone.zone_of.Lts as lts
-use Rattle.calendar.proofs.digits.of_bcd.Reads as of-bcd-reads
 
 of-bcd-requires : tie.Need-of-bcd-requires
 of-bcd-requires c κs = search needs
