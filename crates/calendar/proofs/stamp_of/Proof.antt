@@ -2,6 +2,7 @@
 -- out is a law of proofs/Stamps.antt. Assumes nothing.
 use mathlib.Core.Path.{_≡_, sym, ap, _∙_, subst}
 use mathlib.Core.Bool.{true, false}
+use mathlib.Core.List.{List}
 use Prim.Native.Nat.{ℕ, _+_, _-_, _*_}
 use lib.Dec.{T}
 use native.Mathlib.Omega.{arith}
@@ -76,28 +77,37 @@ zone-of-requires c κs = search needs
 stamp-octets-requires : tie.Need-stamp-octets-requires
 stamp-octets-requires c κs = search needs
 
-true-not-false : true ≡ false → ⊥
-true-not-false e = subst T e tt
+-- where the time has been put together: the octets, and the time
+abbrev octets : tie.After-zone-of → List ℕ
+octets c = c .before .before .before .before .before .before .before .before .before .before .before .before .before .before .before .before .before .before .args .s .now
 
--- the time that was put together is what the octets say
-said : (c : tie.After-zone-of) → _≡_ {A = Stamp}
-    (record {
-      seconds = (c .before .before .before .before .before .before .before .before .before .before .before .first-day .result + c .before .before .before .before .before .before .before .before .less-one .result) * 86400 + c .before .before .before .before .second-of .result;
+abbrev time : tie.After-zone-of → Stamp
+time c =
+    let less = c .before .before .before .before .before .before .before .before in
+    record {
+      seconds = (less .before .before .before .first-day .result + less .less-one .result) * 86400 + c .before .before .before .before .second-of .result;
       zone = c .zone-of .result;
-    })
-    (stampVal (c .before .before .before .before .before .before .before .before .before .before .before .before .before .before .before .before .before .before .args .s .now))
+    }
+
+-- it is what the octets say
+said : (c : tie.After-zone-of) → time c ≡ stampVal (octets c)
 said c =
-    value (c .before .before .before .before .before .before .before .before .before .before .before .before .before .before .before .before .before .before .args .s .now)
-    (c .before .before .before .before .before .before .before .before .before .before .before .before .before .month-named .ensures .same)
-    (c .before .before .before .before .before .before .before .before .before .before .before .first-day .ensures .same)
-    (c .before .before .before .before .before .before .before .before .less-one .ensures ∙ ap (λ (n : ℕ). n - 1) (c .before .before .before .before .before .before .before .before .before .of-bcd .ensures .same))
+    let less = c .before .before .before .before .before .before .before .before in
+    let first = less .before .before .before in
+    value (octets c)
+    (first .before .before .month-named .ensures .same)
+    (first .first-day .ensures .same)
+    (less .less-one .ensures ∙ ap (λ (n : ℕ). n - 1) (less .before .of-bcd .ensures .same))
     (c .before .before .before .before .second-of .ensures .same)
     (c .zone-of .ensures)
+
+true-not-false : true ≡ false → ⊥
+true-not-false e = subst T e tt
 
 returns-3 : tie.Need-returns-3
 returns-3 c =
     let z = c .before .before .before in
-    read-out (z .before .before .before .before .before .before .before .before .before .before .before .before .before .before .before .before .before .before .args .s .now) (said z) (c .before .before .stamp-octets .ensures) (not-true _ (c .if3 .taken))
+    read-out (octets z) (said z) (c .before .before .stamp-octets .ensures) (not-true _ (c .if3 .taken))
 
 slice-aggregate-same : tie.Need-slice-aggregate-same
 slice-aggregate-same c = search needs
@@ -108,12 +118,12 @@ same-requires c κs = search needs
 returns-4 : tie.Need-returns-4
 returns-4 c =
     let z = c .before .before .before .before .before .before .before in
-    read-there (z .before .before .before .before .before .before .before .before .before .before .before .before .before .before .before .before .before .before .args .s .now) (said z) (c .before .before .before .before .before .before .stamp-octets .ensures) (not-false _ (c .before .before .before .before .if3 .left)) (c .before .same .ensures .0 (c .if4 .taken))
+    read-there (octets z) (said z) (c .before .before .before .before .before .before .stamp-octets .ensures) (not-false _ (c .before .before .before .before .if3 .left)) (c .before .same .ensures .0 (c .if4 .taken))
 
 returns-5 : tie.Need-returns-5
 returns-5 c =
     let z = c .before .before .before .before .before .before .before in
-    read-differs (z .before .before .before .before .before .before .before .before .before .before .before .before .before .before .before .before .before .before .args .s .now) (said z) (c .before .before .before .before .before .before .stamp-octets .ensures) (not-false _ (c .before .before .before .before .if3 .left))
+    read-differs (octets z) (said z) (c .before .before .before .before .before .before .stamp-octets .ensures) (not-false _ (c .before .before .before .before .if3 .left))
     (λ q. true-not-false (sym (c .before .same .ensures .1 q) ∙ c .if4 .left))
 
 pub stamp-of-spec : {M : Type 1} → statement M
