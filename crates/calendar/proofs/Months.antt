@@ -2,12 +2,12 @@
 use mathlib.Core.Path.{_≡_, refl, sym, ap, _∙_}
 use mathlib.Core.Bool.{Bool, true, false, cond, _&&_}
 use mathlib.Core.List.{List, [], _∷_}
-use Prim.Native.Nat.{ℕ, zero, suc, _+_, _-_, _/_, _%_, _≤_, _<_}
+use Prim.Native.Nat.{ℕ, zero, suc, _+_, _-_, _*_, _/_, _%_, _≤_, _<_}
 use native.Mathlib.Nat.{zero-add, suc-add}
 use native.Mathlib.Omega.{arith}
 use lib.Dec.{T, ltb, leb, eqb, leb→le}
 use lib.ListN.{getD}
-use borrow.Author.Tests.{ltb-true, ltb-false}
+use borrow.Author.Tests.{ltb-true, ltb-false, eqb-true}
 use Rattle.format.proofs.Tests.{by, either, and-l, and-r}
 use Rattle.calendar.specs.Month.{leap, plain, monthLen, firstDay, seek, monthDay, Lies, Dated}
 
@@ -73,7 +73,7 @@ abbrev all : (ℕ → Bool) → List ℕ → Bool
 all f [] = true
 all f (x ∷ xs) = f x && all f xs
 
--- no month is longer than 32 days (nor than 31, but this is enough)
+-- no month is longer than 31 days: February has 29 at most, and the others are as in a plain year
 entries : (xs : List ℕ) → T (all (λ x. leb x 31) xs) → (i : ℕ) → getD xs i 0 ≤ 31
 entries [] h i = omega arith
 entries (x ∷ xs) h zero = leb→le x 31 (and-l (leb x 31) (all (λ x. leb x 31) xs) h)
@@ -83,9 +83,17 @@ one : (t : Bool) → cond t 1 0 ≤ 1
 one true = omega arith
 one false = omega arith
 
-pub short : (k : ℕ) → monthLen k ≤ 32
+pub short : (k : ℕ) → monthLen k ≤ 31
 unfolding monthLen
-short k = omega (arith, entries plain tt (k % 12), one (eqb (k % 12) 1 && leap (2000 + k / 12)))
+short k =
+    by (eqb (k % 12) 1)
+    (λ a. rw (a, eqb-true (k % 12) 1 a) (omega (arith, one (leap (2000 + k / 12)))))
+    (λ a. rw a (omega (arith, entries plain tt (k % 12))))
+
+-- so each begins at most 31 days after the one before
+pub slow : (k : ℕ) → firstDay k ≤ k * 31
+slow zero = omega (arith, start)
+slow (suc k) = omega (arith, next k, short k, slow k)
 
 -- a day's month, and what is left of the day there, are its date
 pub dated : (d k f : ℕ) → d < 36525 → k ≡ monthDay d .0 → f ≡ firstDay k → Dated d k (d - f)

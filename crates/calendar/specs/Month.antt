@@ -44,4 +44,4 @@ pub record Dated (d k p : ℕ) : Type 0 where
   pub month : k ≡ monthDay d .0
   pub place : p ≡ monthDay d .1
   pub known : k < 1200
-  pub small : p < 32
+  pub small : p < 31

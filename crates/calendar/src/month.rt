@@ -8,12 +8,14 @@ use crate::digits::less_one;
 use crate::digits::of_bcd;
 use crate::table::first_day;
 
-// The month in which a day lies: the first whose next one begins after that day.
+// The month in which a day lies: the first whose next one begins after that day. No month is longer than 31 days, so it is
+// looked for from day / 31 on, at most 22 months before it. (A look at the table costs more than it seems: the compiler lays a
+// constant array out on the stack each time.)
 fn month_of(day: u32) -> u32
     requires { ⌜ day < 36525 ⌝ }
     ensures { λ r. ⌜ r ≡ monthDay day .0 ⌝ }
 {
-    let mut month = 0;
+    let mut month = day / 31;
     while month < 1199 {
         if day < first_day(month + 1) {
             return month;

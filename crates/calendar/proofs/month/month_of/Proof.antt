@@ -1,12 +1,12 @@
 -- `calendar::month::month_of` meets its contract: at each turn the day does not lie before the month that the walk has come to, so
 -- where it lies before the next, or there is no next, it lies in this one. Assumes nothing.
 use mathlib.Core.Path.{_≡_, sym, ap}
-use Prim.Native.Nat.{ℕ, suc, _-_, _≤_}
+use Prim.Native.Nat.{ℕ, suc, _-_, _/_, _≤_}
 use native.Mathlib.Numerals.{add-one}
 use native.Mathlib.Omega.{arith}
 use borrow.Author.Needs.{needs}
 use Rattle.calendar.specs.Month.{firstDay}
-use Rattle.calendar.proofs.Months.{start, end, month-is}
+use Rattle.calendar.proofs.Months.{end, slow, month-is}
 use Rattle.calendar.proofs.month.month_of.Statement.{statement}
 use Rattle.calendar.proofs.month.month_of.Tie as tie
 
@@ -17,7 +17,7 @@ abbrev μ-loop : tie.MeasureT-loop
 μ-loop day month₀ month = 1199 - month
 
 loop-holds : tie.Need-loop-holds Inv-loop μ-loop
-loop-holds c = omega (arith, start)
+loop-holds c = omega (arith, slow (c .args .day / 31))
 
 add-first-day : tie.Need-add-first-day Inv-loop μ-loop
 add-first-day c = search needs
