@@ -17,10 +17,10 @@ pub fn sign_of(zone: u16) -> u8
 pub fn away_of(zone: u16) -> u32
     ensures { λ r. ⌜ r ≡ away zone ⌝ }
 {
-    if zone < 720 {
-        return 720 - zone as u32;
+    if 720 <= zone {
+        return zone as u32 - 720;
     }
-    zone as u32 - 720
+    720 - zone as u32
 }
 
 // The zone that the octets S hh mm name: below zero it is at least 0, whatever they say.
