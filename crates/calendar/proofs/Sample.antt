@@ -7,7 +7,7 @@ use Prim.Native.Nat.{ℕ}
 use lib.Dec.{T}
 use Rattle.format.specs.Format.{eqs}
 use Rattle.calendar.specs.Month.{monthLen, firstDay, seek, monthDay}
-use Rattle.calendar.specs.Stamp.{stampEnc, stampVal, stamp}
+use Rattle.calendar.specs.Stamp.{stampOk, stampEnc, stampVal, stamp}
 
 -- the time and zone have these octets
 abbrev row : ℕ → ℕ → List ℕ → Bool
@@ -26,19 +26,19 @@ at s h m = 0x00 ∷ 0x01 ∷ 0x01 ∷ 0x00 ∷ 0x00 ∷ 0x00 ∷ s ∷ h ∷ m �
 
 -- zero is 2B
 pub no-minus-zero : stamp .dec (at 0x2D 0x00 0x00) ≡ none
-unfolding monthLen firstDay seek monthDay stampEnc stampVal
+unfolding monthLen firstDay seek monthDay stampOk stampEnc stampVal
 no-minus-zero = refl
 
 -- minutes end at 59
 pub no-sixty : stamp .dec (at 0x2B 0x01 0x60) ≡ none
-unfolding monthLen firstDay seek monthDay stampEnc stampVal
+unfolding monthLen firstDay seek monthDay stampOk stampEnc stampVal
 no-sixty = refl
 
 -- offsets end at 14:00 and begin at -12:00
 pub no-east : stamp .dec (at 0x2B 0x14 0x01) ≡ none
-unfolding monthLen firstDay seek monthDay stampEnc stampVal
+unfolding monthLen firstDay seek monthDay stampOk stampEnc stampVal
 no-east = refl
 
 pub no-west : stamp .dec (at 0x2D 0x12 0x01) ≡ none
-unfolding monthLen firstDay seek monthDay stampEnc stampVal
+unfolding monthLen firstDay seek monthDay stampOk stampEnc stampVal
 no-west = refl

@@ -57,10 +57,12 @@ zone-back z =
 module _ (t : Stamp) (h : T (stampOk t)) where
   -- a time in range lies on a day of 2000 to 2099
   pub day-known : t .seconds / 86400 < 36525
+  unfolding stampOk
   day-known = omega (arith, ltb→lt (t .seconds) 3155760000 (and-l (ltb (t .seconds) 3155760000) (leb (t .zone) 1560) h))
 
   -- a zone in range is at most 14 hours away
   pub away-known : away (t .zone) ≤ 840
+  unfolding stampOk
   away-known =
       let z = leb→le (t .zone) 1560 (and-r (ltb (t .seconds) 3155760000) (leb (t .zone) 1560) h) in
       by (ltb (t .zone) 720) (λ a. rw a (omega arith)) (λ a. rw a (omega arith))
@@ -75,12 +77,12 @@ module _ (t : Stamp) (h : T (stampOk t)) where
       = rw (month-back (m .0), digits-back (m .1 + 1), clock-back c) (omega (arith, lies (t .seconds / 86400) day-known .starts)) in
       λ i. record { seconds = s i; zone = zone-back (t .zone) i }
 
-nine-long : (t : Stamp) → length (stampEnc t) ≡ 9
+pub length-stamp : (t : Stamp) → length (stampEnc t) ≡ 9
 unfolding stampEnc
-nine-long t = refl
+length-stamp t = refl
 
 pub stamp-law : Law stamp
-stamp-law = checked-law stampOk stampEnc stampVal 9 stamp-back (λ t g. omega (arith, nine-long t))
+stamp-law = checked-law stampOk stampEnc stampVal 9 stamp-back (λ t g. omega (arith, length-stamp t))
 
 -- ---- what the writer answers
 
@@ -105,6 +107,10 @@ stamped-yes t h e = record { within = sym h; form = rw h e }
 pub stamped-no : (t : Stamp) → stampOk t ≡ false → Stamped t false blank
 stamped-no t h = record { within = sym h; form = rw h refl }
 
+-- and back: where the time is in range, the writer's octets are its form
+pub stamped-form : {t : Stamp} {ok : Bool} {o : List ℕ} → Stamped t ok o → stampOk t ≡ true → o ≡ stampEnc t
+stamped-form w h = rw h at (w .form)
+
 -- ---- what the reader answers
 
 -- octets that say a value out of range are no time
@@ -122,11 +128,11 @@ differ s n = rw (both-not (stampOk (stampVal s)) (eqs (stampEnc (stampVal s)) s)
 
 -- nor are octets that are not nine
 pub read-length : (s : List ℕ) → (length s ≡ 9 → ⊥) → NoTime ≡ stampRead (stamp .dec s)
-read-length s n = differ s (λ e. n (sym (ap length e) ∙ nine-long (stampVal s)))
+read-length s n = differ s (λ e. n (sym (ap length e) ∙ length-stamp (stampVal s)))
 
 -- nor those that name a month past 2099
 pub read-late : (s : List ℕ) → 1200 ≤ monthVal (getD s 0 0) (getD s 1 0) → NoTime ≡ stampRead (stamp .dec s)
-unfolding stampVal
+unfolding stampOk stampVal
 read-late s h = out s (ap (λ (b : Bool). b && leb (stampVal s .zone) 1560) (le-ltb (stampVal s .seconds) 3155760000 (omega (arith, past (monthVal (getD s 0 0) (getD s 1 0)) h))))
 
 -- what was put together of the octets' parts is what they say
@@ -146,7 +152,7 @@ module _ (s : List ℕ) {t : Stamp} {ok : Bool} {o : List ℕ} (e : t ≡ stampV
     inside = sym (w .within) ∙ h
 
     again : o ≡ stampEnc (stampVal s)
-    again = rw inside at (w .form) ∙ ap stampEnc e
+    again = stamped-form w inside ∙ ap stampEnc e
 
     pub read-differs : (o ≡ s → ⊥) → NoTime ≡ stampRead (stamp .dec s)
     read-differs n = differ s (λ q. n (again ∙ q))

@@ -14,7 +14,7 @@ use Rattle.calendar.specs.declared.StampRead.{StampRead}
 use Rattle.calendar.specs.declared.StampRead.the-variants.{Time, NoTime}
 
 -- local seconds since 2000-01-01 00:00:00 that end with 2099, and an offset of -720 to 840 minutes, which is kept as 0 to 1560
-abbrev pub stampOk : Stamp → Bool
+unfoldable pub stampOk : Stamp → Bool
 stampOk t = ltb (t .seconds) 3155760000 && leb (t .zone) 1560
 
 -- ---- writing
