@@ -7,7 +7,7 @@ use Prim.Native.Nat.{ℕ}
 use lib.Dec.{T}
 use Rattle.format.specs.Format.{eqs}
 use Rattle.calendar.specs.Month.{monthLen, firstDay, seek, monthDay}
-use Rattle.calendar.specs.Stamp.{stampOk, stampEnc, stampVal, stamp}
+use Rattle.calendar.specs.Stamp.{stampOk, stampEnc, stampVal, stamp, blank}
 
 -- the time and zone have these octets
 abbrev row : ℕ → ℕ → List ℕ → Bool
@@ -23,6 +23,16 @@ bench = tt
 -- 2000-01-01 00:00:00, with an offset of S hh mm
 abbrev at : ℕ → ℕ → ℕ → List ℕ
 at s h m = 0x00 ∷ 0x01 ∷ 0x01 ∷ 0x00 ∷ 0x00 ∷ 0x00 ∷ s ∷ h ∷ m ∷ []
+
+-- what the writer answers for a time out of range is no time
+pub no-blank : stamp .dec blank ≡ none
+unfolding monthLen firstDay seek monthDay stampOk stampEnc stampVal
+no-blank = refl
+
+-- 2001 is no leap year
+pub no-leap-day : stamp .dec (0x01 ∷ 0x02 ∷ 0x29 ∷ 0x00 ∷ 0x00 ∷ 0x00 ∷ 0x2B ∷ 0x00 ∷ 0x00 ∷ []) ≡ none
+unfolding monthLen firstDay seek monthDay stampOk stampEnc stampVal
+no-leap-day = refl
 
 -- zero is 2B
 pub no-minus-zero : stamp .dec (at 0x2D 0x00 0x00) ≡ none

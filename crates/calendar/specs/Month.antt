@@ -23,7 +23,7 @@ unfoldable pub firstDay : ℕ → ℕ
 firstDay zero = 0
 firstDay (suc k) = firstDay k + monthLen k
 
--- From month k, which begins on day f: the month in which day d lies, of this one and the n that follow, and d's place in it,
+-- The calendar's walk. From month k, which begins on day f: the month in which day d lies, of this one and the n that follow, and d's place in it,
 -- counted from 0.
 unfoldable pub seek : ℕ → ℕ → ℕ → ℕ → ℕ × ℕ
 seek zero k f d = (k, d - f)

@@ -13,7 +13,8 @@ use Rattle.calendar.specs.declared.Stamp.{Stamp}
 use Rattle.calendar.specs.declared.StampRead.{StampRead}
 use Rattle.calendar.specs.declared.StampRead.the-variants.{Time, NoTime}
 
--- local seconds since 2000-01-01 00:00:00 that end with 2099, and an offset of -720 to 840 minutes, which is kept as 0 to 1560
+-- The clock is local seconds since 2000-01-01 00:00:00, 0 to 3,155,759,999 at the end of 2099. The offset from universal time is
+-- -720 to 840 minutes, and the zone that is kept of it is 720 more: 0 to 1560.
 unfoldable pub stampOk : Stamp → Bool
 stampOk t = ltb (t .seconds) 3155760000 && leb (t .zone) 1560
 
@@ -23,25 +24,30 @@ stampOk t = ltb (t .seconds) 3155760000 && leb (t .zone) 1560
 abbrev pub bcd : ℕ → ℕ
 bcd n = n / 10 * 16 + n % 10
 
--- S: 2D west of universal time, else 2B
+-- S: 2D for an offset below zero, 2B for one of zero or more
 abbrev pub sign : ℕ → ℕ
 sign z = cond (ltb z 720) 0x2D 0x2B
 
--- how far from universal time, in minutes
+-- the offset's size, in minutes
 abbrev pub away : ℕ → ℕ
 away z = cond (ltb z 720) (720 - z) (z - 720)
 
--- month m .0 with the day m .1 of it, the second c of the day, and the zone z
+-- The date, the clock and the offset: of month m .0, which counts from January 2000, and place m .1 in it, of second c of the day,
+-- and of zone z. Months and days count from 1 in octets.
 abbrev pub octetsOf : ℕ × ℕ → ℕ → ℕ → List ℕ
 octetsOf m c z =
     bcd (m .0 / 12) ∷ bcd (m .0 % 12 + 1) ∷ bcd (m .1 + 1)
     ∷ bcd (c / 3600) ∷ bcd (c / 60 % 60) ∷ bcd (c % 60)
     ∷ sign z ∷ bcd (away z / 60) ∷ bcd (away z % 60) ∷ []
 
+-- the nine octets of a time
 unfoldable pub stampEnc : Stamp → List ℕ
 stampEnc t = octetsOf (monthDay (t .seconds / 86400)) (t .seconds % 86400) (t .zone)
 
--- ---- reading: what nine octets say if they are a time stamp. Whether they are is asked by writing it again.
+-- ---- reading
+
+-- What octets say, digit by digit, if they are a time stamp. Octets that are none say something too, which is out of range or has
+-- other octets: `stamp` asks both. (A difference below 0 is 0, so month 00 says what month 01 does.)
 
 -- the number in an octet of two digits
 abbrev pub unbcd : ℕ → ℕ
@@ -59,6 +65,7 @@ clockVal h m s = unbcd h * 3600 + unbcd m * 60 + unbcd s
 abbrev pub zoneVal : ℕ → ℕ → ℕ → ℕ
 zoneVal s h m = cond (eqb s 0x2D) (720 - (unbcd h * 60 + unbcd m)) (720 + (unbcd h * 60 + unbcd m))
 
+-- the time that nine octets say
 unfoldable pub stampVal : List ℕ → Stamp
 stampVal s = record {
   seconds = (firstDay (monthVal (getD s 0 0) (getD s 1 0)) + (unbcd (getD s 2 0) - 1)) * 86400
@@ -68,7 +75,8 @@ stampVal s = record {
 
 -- ---- the format, and what the functions answer
 
--- the time stamps: exactly the octets that a time and a zone in range give, each read back as these
+-- The time stamps: exactly the octets that a time and a zone in range give, each read back as these (`stamp-law` of
+-- proofs/Stamps.antt).
 abbrev pub stamp : Fmt Stamp
 stamp = checked stampOk stampEnc stampVal 9
 

@@ -45,6 +45,7 @@ pub fn stamp_within(t: Stamp) -> bool
     (t.seconds < 3155760000) & (t.zone <= 1560)
 }
 
+// Writes a time as the nine octets of a TimeStamp.
 pub fn stamp_octets(t: Stamp) -> StampOctets
     ensures { λ r. ⌜ Stamped t (r .ok) (r .octets) ⌝ }
 {

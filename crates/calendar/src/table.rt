@@ -1208,6 +1208,7 @@ const FIRST: [u16; 1200] = [
     36494,
 ];
 
+// The day on which a month begins. That the table is the calendar's is proved here, once, for all its entries.
 pub fn first_day(month: u32) -> u32
     requires { ⌜ month < 1200 ⌝ }
     ensures { λ r. ⌜ Is (firstDay month) 36525 r ⌝ }
