@@ -1,0 +1,4 @@
+pub mod Months
+pub mod Entries
+pub mod Stamps
+pub mod Sample

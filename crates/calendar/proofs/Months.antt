@@ -1,0 +1,103 @@
+-- Laws of the months: they follow one another without a gap, so a day of 2000 to 2099 lies in exactly one of them. Assumes nothing.
+use mathlib.Core.Path.{_≡_, refl, sym, ap, _∙_}
+use mathlib.Core.Bool.{Bool, true, false, cond, _&&_}
+use mathlib.Core.List.{List, [], _∷_}
+use Prim.Native.Nat.{ℕ, zero, suc, _+_, _-_, _*_, _/_, _%_, _≤_, _<_}
+use native.Mathlib.Nat.{zero-add, suc-add}
+use native.Mathlib.Omega.{arith}
+use lib.Dec.{T, ltb, leb, eqb, leb→le}
+use lib.ListN.{getD}
+use borrow.Author.Tests.{ltb-true, ltb-false, eqb-true}
+use Rattle.format.proofs.Tests.{by, either, and-l, and-r}
+use Rattle.calendar.specs.Month.{leap, plain, monthLen, firstDay, seek, monthDay, Lies, Dated}
+
+-- January 2000 begins on day 0
+pub start : 0 ≡ firstDay 0
+unfolding firstDay
+start = refl
+
+-- 2099 ends with day 36,524
+pub end : firstDay 1200 ≡ 36525
+unfolding firstDay monthLen
+end = refl
+
+-- a month begins where the one before it ends
+pub next : (k : ℕ) → firstDay (suc k) ≡ firstDay k + monthLen k
+unfolding firstDay
+next k = refl
+
+-- later months begin no earlier
+more : (n k : ℕ) → firstDay k ≤ firstDay (n + k)
+more zero k = rw (zero-add k) (omega arith)
+more (suc n) k = rw (suc-add n k) (omega (arith, more n k, next (n + k)))
+
+pub later : (j k : ℕ) → j ≤ k → firstDay j ≤ firstDay k
+later j k h = let e : k - j + j ≡ k = omega arith in rw e at (more (k - j) j)
+
+-- the months of 2000 to 2099 begin in these years
+pub below : (k : ℕ) → k < 1200 → firstDay k ≤ 36525
+below k h = omega (arith, later k 1200 (omega arith), end)
+
+-- what comes after them begins past these years
+pub past : (k : ℕ) → 1200 ≤ k → 36525 ≤ firstDay k
+past k h = omega (arith, later 1200 k h, end)
+
+seek-lies : (n k f d : ℕ) → f ≡ firstDay k → f ≤ d → n + k ≡ 1199 → d < firstDay 1200 → Lies d (seek n k f d .0) (seek n k f d .1)
+unfolding seek
+seek-lies zero k f d e h q u =
+    let l : k ≡ 1199 = omega arith in
+    let g : firstDay 1200 ≡ firstDay k + monthLen k = ap (λ (j : ℕ). firstDay (suc j)) (sym l) ∙ next k in
+    record { starts = omega arith; inside = omega arith; known = omega arith }
+seek-lies (suc n) k f d e h q u =
+    by (ltb d (f + monthLen k))
+    (λ a. rw (a, seek) (record { starts = omega arith; inside = omega (arith, ltb-true d (f + monthLen k) a); known = omega arith }))
+    (λ a. rw (a, seek) (seek-lies n (suc k) (f + monthLen k) d (ap (λ (x : ℕ). x + monthLen k) e ∙ sym (next k)) (ltb-false d (f + monthLen k) a) (omega arith) u))
+
+-- a day of these years has its place in the month that `monthDay` gives
+pub lies : (d : ℕ) → d < 36525 → Lies d (monthDay d .0) (monthDay d .1)
+unfolding monthDay
+lies d h = seek-lies 1199 0 0 d start (omega arith) (omega arith) (omega (arith, end))
+
+-- and lies in no other
+pub month-is : (d k : ℕ) → d < 36525 → firstDay k ≤ d → d < firstDay (suc k) → monthDay d .0 ≡ k
+month-is d k h u v =
+    let l = lies d h in
+    let m = monthDay d .0 in
+    either m k
+    (λ (a : m ≤ k). either k m (λ (b : k ≤ m). omega arith) (λ (b : m < k). absurd (omega (arith, next m, later (suc m) k (omega arith)))))
+    (λ (a : k < m). absurd (omega (arith, next m, later (suc k) m (omega arith))))
+
+-- ---- bounds
+
+abbrev all : (ℕ → Bool) → List ℕ → Bool
+all f [] = true
+all f (x ∷ xs) = f x && all f xs
+
+-- no month is longer than 31 days: February has 29 at most, and the others are as in a plain year
+entries : (xs : List ℕ) → T (all (λ x. leb x 31) xs) → (i : ℕ) → getD xs i 0 ≤ 31
+entries [] h i = omega arith
+entries (x ∷ xs) h zero = leb→le x 31 (and-l (leb x 31) (all (λ x. leb x 31) xs) h)
+entries (x ∷ xs) h (suc i) = entries xs (and-r (leb x 31) (all (λ x. leb x 31) xs) h) i
+
+one : (t : Bool) → cond t 1 0 ≤ 1
+one true = omega arith
+one false = omega arith
+
+pub short : (k : ℕ) → monthLen k ≤ 31
+unfolding monthLen
+short k =
+    by (eqb (k % 12) 1)
+    (λ a. rw (a, eqb-true (k % 12) 1 a) (omega (arith, one (leap (2000 + k / 12)))))
+    (λ a. rw a (omega (arith, entries plain tt (k % 12))))
+
+-- so each begins at most 31 days after the one before
+pub slow : (k : ℕ) → firstDay k ≤ k * 31
+slow zero = omega (arith, start)
+slow (suc k) = omega (arith, next k, short k, slow k)
+
+-- a day's month, and what is left of the day there, are its date
+pub dated : (d k f : ℕ) → d < 36525 → k ≡ monthDay d .0 → f ≡ firstDay k → Dated d k (d - f)
+dated d k f h e q =
+    let l = lies d h in
+    let g = ap firstDay e in
+    record { month = e; place = omega arith; known = omega arith; small = omega (arith, short (monthDay d .0)) }
