@@ -3,21 +3,21 @@ use mathlib.Core.Path.{_≡_, refl, sym, ap, ap₂, subst, _∙_}
 use mathlib.Core.Bool.{Bool, true, false}
 use mathlib.Core.Option.{Option, none, some, Option·none-ne-some, Option·some-injective}
 use mathlib.Core.List.{List, [], _∷_, _++_}
-use Prim.Native.Nat.{ℕ, _+_, _-_, _≤_, _<_}
+use Prim.Native.Nat.{ℕ, zero, suc, _+_, _-_, _≤_, _<_}
 use native.Mathlib.Omega.{arith}
-use lib.ListN.{length, take, drop, getD, length-drop}
+use lib.ListN.{length, take, drop, getD, length-drop, drop-of-length-le}
 use lib.Seq.{drop-cons, length-take-le}
-use borrow.Author.Tests.{le-leb, lt-leb}
-use Rattle.format.specs.Maybe.{bind}
-use Rattle.format.specs.Format.{Fmt, one}
-use Rattle.format.proofs.Tests.{either}
-use Rattle.format.proofs.Maybe.{bind-some}
+use borrow.Author.Tests.{le-leb, lt-leb, eq-eqb, ne-eqb}
+use Rattle.format.specs.Maybe.{bind, guard}
+use Rattle.format.specs.Format.{Fmt, one, exactly, mapped, refined}
+use Rattle.format.proofs.Tests.{by, either}
+use Rattle.format.proofs.Maybe.{bind-some, bind-bind, bind-same}
 use Rattle.ber.specs.Tlv.{tlvEnc, tlvDec}
-use Rattle.ber.specs.Field.{first}
+use Rattle.ber.specs.Field.{first, end, maybe, flagged, flag, isThere, starts, runDec}
 use Rattle.ber.specs.Read.{nowhere, here, placed, Reads, numberOf}
 use Rattle.ber.specs.declared.int.Number.the-variants as N
 use Rattle.ber.proofs.Tlvs.{tlv-sound}
-use Rattle.ber.proofs.Places.{rest-at, rest-is, part-end, PartIs}
+use Rattle.ber.proofs.Places.{at-cons, rest-at, rest-is, part-end, PartIs}
 
 module _ (s : List ℕ) (at : ℕ) where
   pub here-yes : at ≤ length s → here s at ≡ some (drop at s)
@@ -48,15 +48,19 @@ pub record Leaves {A : Type 0} (p : List ℕ → Option (A × List ℕ)) : Type 
   pub before : (z : List ℕ) (q : A × List ℕ) → p z ≡ some q → (x : List ℕ) × (z ≡ x ++ q .1)
 
 -- Reading p from a place is finding v and going on from the next place, and failing where that is nowhere.
+pub record Got {A : Type 0} (p : List ℕ → Option (A × List ℕ)) (s : List ℕ) (at : ℕ) (v : A) (next : ℕ) : Type 0 where
+  pub is : bind (here s at) p ≡ bind (here s next) (λ r. some (v, r))
+
 pub got : {A : Type 0} {blank : A} {p : List ℕ → Option (A × List ℕ)} {s : List ℕ} {at next : ℕ} {v : A}
-    → Leaves p → length s < nowhere → Reads blank p s at v next → bind (here s at) p ≡ bind (here s next) (λ r. some (v, r))
+    → Leaves p → length s < nowhere → Reads blank p s at v next → Got p s at v next
 unfolding placed
-got {A} {blank} {p} {s} {at} {next} {v} l h r =
-    either at (length s)
-    (λ k. let w = here-yes s at k in rw w (found k (p (drop at s)) refl (r .is ∙ ap (λ (o : Option (List ℕ)). placed blank s (bind o p)) w)))
-    (λ k. let w = here-no s at k in
-    let e : next ≡ nowhere = ap (λ (z : A × ℕ). z .1) (r .is ∙ ap (λ (o : Option (List ℕ)). placed blank s (bind o p)) w) in
-    rw (w, here-no s next (omega arith)))
+got {A} {blank} {p} {s} {at} {next} {v} l h r = record {
+  is = either at (length s)
+      (λ k. let w = here-yes s at k in rw w (found k (p (drop at s)) refl (r .is ∙ ap (λ (o : Option (List ℕ)). placed blank s (bind o p)) w)))
+      (λ k. let w = here-no s at k in
+      let e : next ≡ nowhere = ap (λ (z : A × ℕ). z .1) (r .is ∙ ap (λ (o : Option (List ℕ)). placed blank s (bind o p)) w) in
+      rw (w, here-no s next (omega arith)));
+}
   where
     found : at ≤ length s → (o : Option (A × List ℕ)) → p (drop at s) ≡ o → _≡_ {A = A × ℕ} (v, next) (placed blank s o) → o ≡ bind (here s next) (λ r. some (v, r))
     found k none d e =
@@ -68,6 +72,107 @@ got {A} {blank} {p} {s} {at} {next} {v} l h r =
         let (x, w) = l .before (drop at s) q d in
         let t = rest-is s at x (q .1) w k in
         rw (n, here-yes s (length s - length (q .1)) (t .0), u) (ap {B = Option (A × List ℕ)} (λ z. some (q .0, z)) (t .1))
+
+-- ---- readers one after another
+
+-- d, of all that stands from a place on, is o
+pub record Rest {B : Type 0} (d : List ℕ → Option B) (s : List ℕ) (at : ℕ) (o : Option B) : Type 0 where
+  pub is : bind (here s at) d ≡ o
+
+-- of all of s
+pub rest-whole : {B : Type 0} {d : List ℕ → Option B} {s : List ℕ} {o : Option B} → Rest d s 0 o → d s ≡ o
+rest-whole {B} {d} {s} r = sym (ap (λ (w : Option (List ℕ)). bind w d) (here-yes s 0 (omega arith))) ∙ r .is
+
+-- THE law of readers: what p finds, and what d makes of the rest, put together by f
+pub rest-then : {s : List ℕ} {at m : ℕ} {A B C : Type 0} {v : A} {p : List ℕ → Option (A × List ℕ)} {d : List ℕ → Option B} {o : Option B}
+    (f : A → B → Option C) → Got p s at v m → Rest d s m o → Rest (λ z. bind (p z) (λ q. bind (d (q .1)) (f (q .0)))) s at (bind o (f v))
+rest-then {s} {at} {m} {A} {B} {C} {v} {p} {d} {o} f g r = record {
+  is =
+      sym (bind-bind (here s at) p (λ q. bind (d (q .1)) (f (q .0))))
+      ∙ ap (λ (w : Option (A × List ℕ)). bind w (λ q. bind (d (q .1)) (f (q .0)))) (g .is)
+      ∙ bind-bind (here s m) (λ r. some (v, r)) (λ q. bind (d (q .1)) (f (q .0)))
+      ∙ sym (bind-bind (here s m) d (f v))
+      ∙ ap (λ (w : Option B). bind w (f v)) (r .is);
+}
+
+-- the same, for a field and for an optional one
+pub rest-field : {s : List ℕ} {at m : ℕ} {A B : Type 0} {v : A} {p : List ℕ → Option (A × List ℕ)} {d : List ℕ → Option B} {o : Option B}
+    → Got p s at v m → Rest d s m o → Rest {B = A × B} (λ z. bind (p z) (λ q. bind (d (q .1)) (λ b. some (q .0, b)))) s at (bind o (λ b. some (v, b)))
+rest-field g r = rest-then (λ a b. some (a, b)) g r
+
+rest-as : {s : List ℕ} {at : ℕ} {B : Type 0} {d e : List ℕ → Option B} {o : Option B} → ((z : List ℕ) → e z ≡ d z) → Rest d s at o → Rest e s at o
+rest-as {s} {at} {B} {d} {e} q r = record { is = bind-same (here s at) e d q ∙ r .is }
+
+-- a flag
+module _ (t : ℕ) (c : List ℕ) {B : Type 0} (e : Fmt B) where
+  flag-dec : (z : List ℕ) → flag t c e .dec z ≡ bind (flagged t c z) (λ q. bind (e .dec (q .1)) (λ b. some (q .0, b)))
+  unfolding flagged
+  flag-dec z = go (maybe t (exactly c) z)
+    where
+      go : (o : Option (Option (Unit {0}) × List ℕ))
+          → bind {A = Option (Unit {0}) × B} {B = Bool × B} (bind o (λ q. bind (e .dec (q .1)) (λ b. some (q .0, b)))) (λ v. some (isThere (v .0), v .1))
+          ≡ bind {A = Bool × List ℕ} {B = Bool × B} (bind o (λ p. some (isThere (p .0), p .1))) (λ q. bind (e .dec (q .1)) (λ b. some (q .0, b)))
+      go none = refl
+      go (some q) = bind-bind (e .dec (q .1)) _ _
+
+  pub rest-flag : {s : List ℕ} {at m : ℕ} {o : Option B} {b : Bool} → Got (flagged t c) s at b m → Rest (e .dec) s m o → Rest (flag t c e .dec) s at (bind o (λ r. some (b, r)))
+  rest-flag g r = rest-as flag-dec (rest-field g r)
+
+-- the end
+module _ (s : List ℕ) (at : ℕ) where
+  pub end-yes : at ≡ length s → Rest (end .dec) s at (some tt)
+  end-yes e = record { is = rw (here-yes s at (omega arith), drop-of-length-le s {i = at} (omega arith)) }
+
+  pub end-no : (at ≡ length s → ⊥) → Rest (end .dec) s at none
+  end-no n = record {
+    is = either at (length s)
+        (λ k. rw (here-yes s at k, drop-cons s at 0 (omega arith)))
+        (λ k. rw (here-no s at k));
+  }
+
+-- another type of value, and a test more
+pub rest-mapped : {A B : Type 0} (to : A → B) (back : B → A) (f : Fmt A) {s : List ℕ} {at : ℕ} {o : Option A} → Rest (f .dec) s at o
+    → Rest (mapped to back f .dec) s at (bind o (λ a. some (to a)))
+rest-mapped {A} {B} to back f {s} {at} r = record {
+  is =
+      sym (bind-bind (here s at) (f .dec) (λ a. some (to a))) ∙ ap (λ (w : Option A). bind w (λ a. some (to a))) (r .is);
+}
+
+pub rest-refined : {A : Type 0} (test : A → Bool) (f : Fmt A) {s : List ℕ} {at : ℕ} {o : Option A} → Rest (f .dec) s at o
+    → Rest (refined test f .dec) s at (bind o (λ a. guard (test a) a))
+rest-refined {A} test f {s} {at} r = record {
+  is =
+      sym (bind-bind (here s at) (f .dec) (λ a. guard (test a) a)) ∙ ap (λ (w : Option A). bind w (λ a. guard (test a) a)) (r .is);
+}
+
+-- values of a kind one after another
+module _ (t : ℕ) {A : Type 0} (x : Fmt A) (s : List ℕ) where
+  pub run-end : (k at : ℕ) → at ≡ length s → Rest (runDec t x k) s at (some [])
+  run-end k at e = record { is = rw (here-yes s at (omega arith), drop-of-length-le s {i = at} (omega arith)) (stop k) }
+    where
+      stop : (k : ℕ) → runDec t x k [] ≡ some []
+      stop zero = refl
+      stop (suc k) = refl
+
+  pub run-past : (k at : ℕ) → length s < at → Rest (runDec t x k) s at none
+  run-past k at h = record { is = rw (here-no s at h) }
+
+  pub run-full : (at : ℕ) → at < length s → Rest (runDec t x 0) s at none
+  run-full at h = record { is = rw (here-yes s at (omega arith), at-cons s at h) }
+
+  pub run-more : (k at : ℕ) {m : ℕ} {v : A} {o : Option (List A)} → at < length s → Got (first t x) s at v m → Rest (runDec t x k) s m o
+      → Rest (runDec t x (suc k)) s at (bind o (λ vs. some (v ∷ vs)))
+  run-more k at {m} {v} {o} h g r = record {
+    is =
+        let w : here s at ≡ some (drop at s) = here-yes s at (omega arith) in
+        let q = rest-then (λ a vs. some (a ∷ vs)) g r .is in
+        ap (λ (o : Option (List ℕ)). bind o (runDec t x (suc k))) w ∙ step (drop at s) (at-cons s at h)
+        ∙ sym (ap (λ (o : Option (List ℕ)). bind o (λ z. bind (first t x z) (λ p. bind (runDec t x k (p .1)) (λ vs. some (p .0 ∷ vs))))) w) ∙ q;
+  }
+    where
+      step : (z : List ℕ) → {y : ℕ} {zs : List ℕ} → z ≡ y ∷ zs → runDec t x (suc k) z ≡ bind (first t x z) (λ p. bind (runDec t x k (p .1)) (λ vs. some (p .0 ∷ vs)))
+      step [] e = absurd (omega (arith, ap length e))
+      step (y ∷ zs) e = refl
 
 -- ---- a value under a tag
 
@@ -101,6 +206,53 @@ module _ (t : ℕ) {A : Type 0} (x : Fmt A) (s : List ℕ) (at : ℕ) where
       where
         inside : at ≤ length s
         inside = either at (length s) (λ k. k) (λ k. absurd (Option·none-ne-some _ (sym (part-end s at t (omega arith)) ∙ p .is)))
+
+    -- the contents were read as a whole of their own
+    pub inner-there : {blank v : A} → Rest (x .dec) (take (e - a) (drop a s)) 0 (some v) → Reads blank (first t x) s at v e
+    inner-there r = first-there (rest-whole r)
+
+    pub inner-bad : {blank : A} → Rest (x .dec) (take (e - a) (drop a s)) 0 none → Reads blank (first t x) s at blank nowhere
+    inner-bad r = first-bad (rest-whole r)
+
+-- ---- a value that may be missing
+
+module _ (t : ℕ) {A : Type 0} (x : Fmt A) where
+  pub maybe-leaves : Leaves (maybe t x)
+  unfolding maybe
+  maybe-leaves = record {
+    before = λ z q e.
+        by (starts t z)
+        (λ a. let (p, d, f) = bind-some (first t x z) (λ p. some (some (p .0), p .1)) q (rw a at e) in
+        let (y, w) = first-leaves t x .before z p d in
+        let u : p .1 ≡ q .1 = ap {B = List ℕ} (λ v. v .1) (Option·some-injective (some (p .0), p .1) q f) in
+        (y, w ∙ ap (λ (r : List ℕ). y ++ r) u))
+        (λ a. ([], ap {B = List ℕ} (λ v. v .1) (Option·some-injective (none, z) q (rw a at e))));
+  }
+
+  module _ (s : List ℕ) (at : ℕ) where
+    pub maybe-end : {blank : Option A} → at ≡ length s → Reads blank (maybe t x) s at none at
+    unfolding maybe
+    maybe-end h = reads-some (omega arith) (omega arith) (rw (drop-of-length-le s {i = at} (omega arith)))
+
+    pub maybe-past : {blank : Option A} → length s < at → Reads blank (maybe t x) s at blank nowhere
+    maybe-past h = reads-none (λ k. absurd (omega arith))
+
+    module _ (h : at < length s) where
+      pub maybe-other : {blank : Option A} → (getD s at 0 ≡ t → ⊥) → Reads blank (maybe t x) s at none at
+      unfolding maybe
+      maybe-other n = reads-some (omega arith) (omega arith) (rw (at-cons s at h, ne-eqb _ t n))
+
+      starts-here : getD s at 0 ≡ t → starts t (drop at s) ≡ true
+      starts-here e = rw (at-cons s at h, eq-eqb _ t e)
+
+      -- where the tag is, the value is there as a field is, or nothing is found
+      pub maybe-there : {v : A} {e : ℕ} → getD s at 0 ≡ t → e ≤ length s → first t x (drop at s) ≡ some (v, drop e s) → Reads none (maybe t x) s at (some v) e
+      unfolding maybe
+      maybe-there g k q = reads-some (omega arith) k (rw (starts-here g, q))
+
+      pub maybe-bad : getD s at 0 ≡ t → first t x (drop at s) ≡ none → Reads none (maybe t x) s at none nowhere
+      unfolding maybe
+      maybe-bad g q = reads-none (λ k. rw (starts-here g, q))
 
 -- ---- an octet
 

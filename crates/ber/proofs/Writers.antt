@@ -118,6 +118,38 @@ puts-same (some x) {b} {b′} {at} {r} p =
     either (at + length x) (length b) (λ h. puts-room h p .same)
     (λ h. ap (λ (z : List ℕ × ℕ). length (z .0)) (rw (lt-leb (at + length x) (length b) h) at (p .is)))
 
+-- ---- writers one after another
+
+-- What is left of a promise where only a writer with room counts: composed writers then need no facts about room between them.
+pub record Wrote (x b b′ : List ℕ) (at r : ℕ) : Type 0 where
+  pub room : at + length x ≤ length b → Put x b b′ at r
+  pub same : length b′ ≡ length b
+
+pub wrote : {o : Option (List ℕ)} {x b b′ : List ℕ} {at r : ℕ} → o ≡ some x → Puts o b b′ at r → Wrote x b b′ at r
+wrote {o} {x} e p = let q = puts-is e p in record { room = λ h. puts-room h q; same = puts-same (some x) q }
+
+pub wrote-then : {x y b b₁ b₂ : List ℕ} {at m r : ℕ} → Wrote x b b₁ at m → Wrote y b₁ b₂ m r → Wrote (x ++ y) b b₂ at r
+wrote-then {x} {y} p q = record {
+  room = λ h.
+      let l = length-append x y in
+      let f = p .room (omega arith) in
+      put-then f (q .room (omega (arith, f .end, f .same)));
+  same = q .same ∙ p .same;
+}
+
+pub wrote-none : {b : List ℕ} {at : ℕ} → Wrote [] b b at at
+wrote-none {b} {at} = record { room = λ h. put-of (omega arith) (omega arith) (sym (take-append-drop at b) ∙ rw append-nil); same = refl }
+
+pub wrote-is : {x y b b′ : List ℕ} {at r : ℕ} → x ≡ y → Wrote x b b′ at r → Wrote y b b′ at r
+wrote-is {b = b} {b′ = b′} {at = at} {r = r} e p = subst (λ (z : List ℕ). Wrote z b b′ at r) e p
+
+-- what writers at the front of a buffer with room left there
+pub filled : {x b b′ : List ℕ} {r : ℕ} → Wrote x b b′ 0 r → length x ≤ length b → (take r b′ ≡ x) × (r ≡ length x) × (r ≤ length b′)
+filled {x} {b} {b′} {r} p h =
+    let q = p .room (omega arith) in
+    let e = q .end in
+    (ap (take r) (q .buf) ∙ take-at x (drop r b) r (omega arith), omega arith, omega (arith, p .same))
+
 -- ---- octets in an array
 
 pub zeros-length : (n : ℕ) → length (zeros n) ≡ n
