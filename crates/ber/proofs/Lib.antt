@@ -7,3 +7,4 @@ pub mod Numbers
 pub mod Writers
 pub mod Readers
 pub mod Imsis
+pub mod Codec

@@ -7,7 +7,7 @@ use Prim.Native.Nat.{ℕ, zero, suc, _+_, _*_, _≤_}
 use lib.Dec.{leb, eqb}
 use lib.ListN.{length}
 use Rattle.format.specs.Maybe.{bind, guard}
-use Rattle.format.specs.Format.{Fmt, exactly, mapped}
+use Rattle.format.specs.Format.{Fmt, octets, exactly, mapped}
 use Rattle.ber.specs.Tlv.{tlvEnc, tlvDec, head}
 
 -- the value of format x under the tag at the front of s, and what follows it
@@ -114,3 +114,19 @@ module _ (t : ℕ) {A : Type 0} (x : Fmt A) where
     dec = λ s. bind (runDec hi s) (λ vs. guard (leb lo (length vs)) vs);
     most = (head (x .most) + x .most) * hi;
   }
+
+-- ---- fields that the code keeps as a plain number or as plain octets
+
+-- a number where 0 says that there is none
+abbrev pub unless0 : ℕ → Option ℕ
+unless0 zero = none
+unless0 (suc n) = some (suc n)
+
+-- octets where none says that they are missing
+abbrev pub unlessNone : List ℕ → Option (List ℕ)
+unlessNone [] = none
+unlessNone (x ∷ s) = some (x ∷ s)
+
+-- lo to hi octets
+abbrev pub between : ℕ → ℕ → Fmt (List ℕ)
+between lo hi = octets hi (λ x. leb lo (length x))
