@@ -51,26 +51,21 @@ tlv-sound t (a ∷ s) p e = by (eqb a t) this other
 -- ---- how long a value is
 
 head-is : (n : ℕ) → suc (length (lenEnc n)) ≡ head n
-unfolding head
 head-is n =
     by (ltb n 128) (λ a. rw (len-1 n (ltb-true n 128 a), a))
     (λ a. let g = ltb-false n 128 a in by (ltb n 256) (λ b. rw (len-2 n g (ltb-true n 256 b), a, b)) (λ b. rw (len-3 n (ltb-false n 256 b), a, b)))
 
 -- tag and length take two octets or more
 pub head-2 : (n : ℕ) → 2 ≤ head n
-unfolding head
 head-2 n = by (ltb n 128) (λ a. rw (head, a) (omega arith)) (λ a. by (ltb n 256) (λ b. rw (head, a, b) (omega arith)) (λ b. rw (head, a, b) (omega arith)))
 
 head-3 : (n : ℕ) → ltb n 256 ≡ true → head n ≤ 3
-unfolding head
 head-3 n b = by (ltb n 128) (λ a. rw (head, a) (omega arith)) (λ a. rw (head, a, b) (omega arith))
 
 head-4 : (n : ℕ) → head n ≤ 4
-unfolding head
 head-4 n = by (ltb n 128) (λ a. rw (head, a) (omega arith)) (λ a. by (ltb n 256) (λ b. rw (head, a, b) (omega arith)) (λ b. rw (head, a, b) (omega arith)))
 
 head-mono : (n m : ℕ) → n ≤ m → head n ≤ head m
-unfolding head
 head-mono n m h =
     by (ltb m 128) (λ a. rw (head, a, lt-ltb n 128 (let k = ltb-true m 128 a in omega arith)) (omega arith))
     (λ a. by (ltb m 256) (λ b. rw (head, a, b) (head-3 n (lt-ltb n 256 (let k = ltb-true m 256 b in omega arith)))) (λ b. rw (head, a, b) (head-4 n)))

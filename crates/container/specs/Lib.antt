@@ -1,0 +1,3 @@
+pub mod Qos
+pub mod Container
+pub mod List

@@ -1,0 +1,58 @@
+-- The list of containers that a record has: 1 to 15 of them, and the rules between them. Assumes nothing.
+use mathlib.Core.Bool.{Bool, true, false, not, _&&_, Bool·beq}
+use mathlib.Core.List.{List, [], _∷_}
+use Prim.Native.Nat.{ℕ}
+use lib.Dec.{leb, ltb, eqb}
+use lib.ListN.{length}
+use Rattle.format.specs.Format.{Fmt}
+use Rattle.ber.proofs.Codec.{Codec, Many}
+use Rattle.calendar.specs.declared.Stamp.{Stamp}
+use Rattle.container.specs.declared.Qos.{Qos}
+use Rattle.container.specs.declared.Container.{Container}
+use Rattle.container.specs.Qos.{sameQos}
+use Rattle.container.specs.Container.{containerOk, ContainerCodec}
+
+-- every container's values are as they must be
+unfoldable pub eachOk : List Container → Bool
+eachOk [] = true
+eachOk (c ∷ cs) = containerOk c && eachOk cs
+
+-- the last alone ended with condition 2
+unfoldable pub lastAlone : List Container → Bool
+lastAlone [] = false
+lastAlone (c ∷ []) = eqb (c .condition) 2
+lastAlone (c ∷ d ∷ cs) = ltb (c .condition) 2 && lastAlone (d ∷ cs)
+
+-- one offset throughout
+unfoldable pub oneOffset : ℕ → List Container → Bool
+oneOffset z [] = true
+oneOffset z (c ∷ cs) = eqb (c .time .zone) z && oneOffset z cs
+
+-- times in order, from t on: not falling, equal ones are fine
+unfoldable pub inOrder : ℕ → List Container → Bool
+inOrder t [] = true
+inOrder t (c ∷ cs) = leb t (c .time .seconds) && inOrder (c .time .seconds) cs
+
+-- the QoS after a container differs from its own exactly where a QoS change ended it (condition 0)
+abbrev pub changes : Container → Qos → Bool
+changes c q = Bool·beq (not (sameQos (c .qos) q)) (eqb (c .condition) 0)
+
+-- so it is from each container to the next
+unfoldable pub qosRule : List Container → Bool
+qosRule [] = true
+qosRule (c ∷ []) = true
+qosRule (c ∷ d ∷ cs) = changes c (d .qos) && qosRule (d ∷ cs)
+
+-- 1 to 15 containers that keep the rules, of a record that opened at a time with its offset
+unfoldable pub listOk : Stamp → List Container → Bool
+listOk opening cs =
+    leb 1 (length cs) && leb (length cs) 15 && eachOk cs && lastAlone cs
+    && oneOffset (opening .zone) cs && inOrder (opening .seconds) cs && qosRule cs
+
+-- ---- its octets: the containers one after another, each under 30
+
+abbrev pub ListCodec : Codec (List Container)
+ListCodec = Many 0x30 ContainerCodec tt 1 15
+
+unfoldable pub containers : Fmt (List Container)
+containers = ListCodec .fmt

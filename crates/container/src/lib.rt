@@ -1,0 +1,25 @@
+// Containers of 12.15 (ChangeOfCharCondition): the octets counted under one QoS profile and tariff, and the list of them that a record
+// has. The S-CDR of the SGSN and the G-CDR of the gateway share them.
+//
+// No public function has a `requires`: each answers for every input.
+
+// The QoS profile of a context: five numbers, each in its range.
+#[repr(C)]
+pub struct Qos {
+    pub reliability: u8,
+    pub delay: u8,
+    pub precedence: u8,
+    pub peak: u8,
+    pub mean: u8,
+}
+
+// What was counted under one QoS profile: octets up and down, why the container ended (0 a QoS change, 1 a tariff change, 2 the
+// record's closing), and when.
+#[repr(C)]
+pub struct Container {
+    pub qos: Qos,
+    pub uplink: u64,
+    pub downlink: u64,
+    pub condition: u8,
+    pub time: calendar::Stamp,
+}
