@@ -8,9 +8,13 @@ use lib.Dec.{T, ltb, leb}
 use lib.ListN.{length}
 use Rattle.format.specs.Format.{Fmt, Law, octets, octet, exactly, refined, mapped}
 use Rattle.format.proofs.Formats.{octets-law, octet-law, exactly-law, refined-law, mapped-law}
-use Rattle.ber.specs.Int.{int}
+use Rattle.ber.specs.Int.{int, counted}
+use Rattle.ber.specs.Fixed.{fixed, ipv4}
+use Rattle.ber.specs.Imsi.{imsi}
 use Rattle.ber.specs.Field.{field, end, alone, optional, flag, many, Avoids}
 use Rattle.ber.proofs.Ints.{int-law}
+use Rattle.ber.proofs.Fixeds.{fixed-law, ipv4-law}
+use Rattle.ber.proofs.Imsis.{imsi-law}
 use Rattle.ber.proofs.Fields.{Caps, field-law, end-law, alone-law, optional-law, flag-law, many-law}
 
 pub record Codec (A : Type 0) : Type 1 where
@@ -30,6 +34,20 @@ Exactly c = record { fmt = exactly c; law = exactly-law c }
 
 abbrev pub Int : Codec ℕ
 Int = record { fmt = int; law = int-law }
+
+-- a number of at least 1
+abbrev pub Counted : Codec ℕ
+Counted = record { fmt = counted; law = refined-law (λ n. leb 1 n) int int-law }
+
+-- a number below 256^k in k octets
+abbrev pub Fixed : ℕ → Codec ℕ
+Fixed k = record { fmt = fixed k; law = fixed-law k }
+
+abbrev pub Ipv4 : Codec ℕ
+Ipv4 = record { fmt = ipv4; law = ipv4-law }
+
+abbrev pub Imsi : Codec (List ℕ)
+Imsi = record { fmt = imsi; law = imsi-law }
 
 abbrev pub End : Codec (Unit {0})
 End = record { fmt = end; law = end-law }

@@ -33,7 +33,7 @@ unfolding allOctets
 octets-snoc [] y g h = and-i (ltb y 256) true (lt→ltb y 256 h) tt
 octets-snoc (x ∷ s) y g h = and-i (ltb x 256) (allOctets (s ++ y ∷ [])) (and-l (ltb x 256) (allOctets s) g) (octets-snoc s y (and-r (ltb x 256) (allOctets s) g) h)
 
-octets-front : (s : List ℕ) (y : ℕ) → T (allOctets (s ++ y ∷ [])) → T (allOctets s) × (y < 256)
+pub octets-front : (s : List ℕ) (y : ℕ) → T (allOctets (s ++ y ∷ [])) → T (allOctets s) × (y < 256)
 unfolding allOctets
 octets-front [] y g = (tt, ltb→lt y 256 (and-l (ltb y 256) true g))
 octets-front (x ∷ s) y g =
@@ -71,7 +71,7 @@ shortest-front x (z ∷ s) y g = (
 )
 
 -- what holds of no octets, and of s and one more where it holds of s, holds of all
-snoc-elim : (P : List ℕ → Type 0) → P [] → ((s : List ℕ) (y : ℕ) → P s → P (s ++ y ∷ [])) → (s : List ℕ) → P s
+pub snoc-elim : (P : List ℕ → Type 0) → P [] → ((s : List ℕ) (y : ℕ) → P s → P (s ++ y ∷ [])) → (s : List ℕ) → P s
 snoc-elim P z f s = go [] s z
   where
     go : (p s : List ℕ) → P p → P (p ++ s)

@@ -7,4 +7,5 @@ pub mod Numbers
 pub mod Writers
 pub mod Readers
 pub mod Imsis
+pub mod Fixeds
 pub mod Codec
