@@ -8,7 +8,7 @@ use native.Mathlib.Nat.{pow-suc}
 use native.Mathlib.Numerals.{add-one}
 use native.Mathlib.Omega.{arith}
 use lib.Dec.{T, ltb, ltb→lt}
-use lib.ListN.{length, length-append}
+use lib.ListN.{length, take, drop, length-append}
 use borrow.Author.Tests.{lt-ltb}
 use Rattle.format.specs.Format.{Law, eqs}
 use Rattle.format.proofs.Tests.{by, T-true, true-T}
@@ -17,7 +17,11 @@ use Rattle.ber.specs.Int.{spelt, lowest, allOctets}
 use Rattle.ber.specs.Fixed.{fixed, ipv4}
 use Rattle.ber.proofs.Ints.{spelt-snoc, octets-front, snoc-elim}
 use Rattle.ber.proofs.Numbers.{lowest-length}
+use Rattle.ber.specs.Field.{first}
+use Rattle.ber.specs.Read.{nowhere, Reads}
 use Rattle.ber.proofs.Fields.{alone-law}
+use Rattle.ber.proofs.Places.{PartIs}
+use Rattle.ber.proofs.Readers.{first-there, first-bad, part-length}
 
 -- ---- from a number to its octets and back
 
@@ -57,13 +61,24 @@ unfolding lowest spelt
 spelt-back = snoc-elim Back (λ o. (refl, omega arith)) back-more
 
 -- the number that k octets say
-pub fixed-there : (k : ℕ) (s : List ℕ) → length s ≡ k → T (allOctets s) → fixed k .dec s ≡ some (spelt 0 s)
+pub fixed-there : (k : ℕ) (s : List ℕ) → length s ≡ k → T (allOctets s) → (fixed k .dec s ≡ some (spelt 0 s)) × (spelt 0 s < 256 ^ k)
 fixed-there k s l o =
     let (e, t) = rw l at (spelt-back s o) in
-    rw (lt-ltb (spelt 0 s) (256 ^ k) t, e, T-true (eqs s s) (eqs-refl s))
+    (rw (lt-ltb (spelt 0 s) (256 ^ k) t, e, T-true (eqs s s) (eqs-refl s)), t)
 
 pub fixed-bad : (k : ℕ) (s : List ℕ) → (length s ≡ k → ⊥) → fixed k .dec s ≡ none
 fixed-bad k s n =
     by (ltb (spelt 0 s) (256 ^ k))
     (λ a. by (eqs (lowest k (spelt 0 s)) s) (λ b. absurd (n (sym (ap length (eqs-eq (lowest k (spelt 0 s)) s (true-T (eqs (lowest k (spelt 0 s)) s) b))) ∙ lowest-length k (spelt 0 s)))) (λ b. rw (a, b)))
     (λ a. rw a)
+
+-- ---- under a tag
+
+module _ (k : ℕ) {s : List ℕ} {at t a e : ℕ} (p : PartIs s at t a e) where
+  pub number-there : e - a ≡ k → {v : ℕ} → v ≡ spelt 0 (take (e - a) (drop a s)) → T (allOctets (take (e - a) (drop a s))) → Reads 0 (first t (fixed k)) s at v e × (v < 256 ^ k)
+  number-there q w o =
+      let (d, b) = fixed-there k (take (e - a) (drop a s)) (part-length p ∙ q) o in
+      rw w (first-there t (fixed k) s at p d, b)
+
+  pub number-bad : (e - a ≡ k → ⊥) → Reads 0 (first t (fixed k)) s at 0 nowhere
+  number-bad n = first-bad t (fixed k) s at p (fixed-bad k (take (e - a) (drop a s)) (λ q. n (sym (part-length p) ∙ q)))

@@ -12,6 +12,7 @@ use lib.Seq.{drop-cons, drop-drop, drop-at, length-take-le, take-append-seam}
 use borrow.Author.Tests.{lt-ltb, le-ltb, le-leb, lt-leb, eq-eqb, ne-eqb}
 use Rattle.ber.specs.Length.{lenDec, lenOne, lenTwo, lenEnc}
 use Rattle.ber.specs.Tlv.{tlvDec, split, tlvEnc}
+use Rattle.ber.specs.Field.{starts}
 use Rattle.ber.specs.Read.{lenFound, lenAt, partFound, partAt}
 use Rattle.ber.specs.declared.length.Len.{Len}
 use Rattle.ber.specs.declared.length.Len.the-variants as L
@@ -33,6 +34,14 @@ rest-is s at x r e h =
     let l : length s - at ≡ length x + length r = sym (length-drop at s) ∙ ap length e ∙ length-append x r in
     let n : length s - length r ≡ at + length x = omega arith in
     (omega arith, rw n (sym (drop-at x r (length x) refl) ∙ ap (drop (length x)) (sym e) ∙ drop-drop (length x) at s))
+
+-- the tag at a place
+module _ (s : List ℕ) (at t : ℕ) where
+  pub starts-end : length s ≤ at → false ≡ starts t (drop at s)
+  starts-end h = rw (drop-of-length-le s h)
+
+  pub starts-at : at < length s → eqb (getD s at 0) t ≡ starts t (drop at s)
+  starts-at h = rw (at-cons s at h)
 
 -- ---- lengths
 

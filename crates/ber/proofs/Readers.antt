@@ -5,16 +5,17 @@ use mathlib.Core.Option.{Option, none, some, Option·none-ne-some, Option·some-
 use mathlib.Core.List.{List, [], _∷_, _++_}
 use Prim.Native.Nat.{ℕ, zero, suc, _+_, _-_, _≤_, _<_}
 use native.Mathlib.Omega.{arith}
+use lib.Dec.{eqb}
 use lib.ListN.{length, take, drop, getD, length-drop, drop-of-length-le}
 use lib.Seq.{drop-cons, length-take-le}
-use borrow.Author.Tests.{le-leb, lt-leb, eq-eqb, ne-eqb}
+use borrow.Author.Tests.{le-leb, lt-leb, eq-eqb, ne-eqb, eqb-true, eqb-false}
 use Rattle.format.specs.Maybe.{bind, guard}
 use Rattle.format.specs.Format.{Fmt, one, exactly, mapped, refined}
 use Rattle.format.proofs.Tests.{by, either}
 use Rattle.format.proofs.Maybe.{bind-some, bind-bind, bind-same}
 use Rattle.ber.specs.Tlv.{tlvEnc, tlvDec}
-use Rattle.ber.specs.Field.{first, end, maybe, flagged, flag, isThere, starts, runDec}
-use Rattle.ber.specs.Read.{nowhere, here, placed, Reads, numberOf}
+use Rattle.ber.specs.Field.{first, end, field, alone, maybe, flagged, flag, isThere, starts, runDec, unless0}
+use Rattle.ber.specs.Read.{nowhere, here, stay, placed, Reads, numberOf}
 use Rattle.ber.specs.declared.int.Number.the-variants as N
 use Rattle.ber.proofs.Tlvs.{tlv-sound}
 use Rattle.ber.proofs.Places.{at-cons, rest-at, rest-is, part-end, PartIs}
@@ -41,7 +42,23 @@ module _ {A : Type 0} {blank : A} {p : List ℕ → Option (A × List ℕ)} {s :
   unfolding placed
   reads-some {v} {e} l k q = record { is = rw (here-yes s at l, q, rest-at s e k) }
 
+  -- what it finds, of another type
+  pub reads-map : {B : Type 0} (f : A → B) {v : A} {e : ℕ} → Reads blank p s at v e → Reads (f blank) (λ z. bind (p z) (λ q. some (f (q .0), q .1))) s at (f v) e
+  unfolding placed
+  reads-map {B} f {v} {e} r = record {
+    is =
+        ap (λ (z : A × ℕ). (f (z .0), z .1)) (r .is) ∙ go (bind (here s at) p)
+        ∙ ap (placed (f blank) s) (bind-bind (here s at) p (λ q. some (f (q .0), q .1)));
+  }
+    where
+      go : (o : Option (A × List ℕ)) → _≡_ {A = B × ℕ} (f (placed blank s o .0), placed blank s o .1) (placed (f blank) s (bind o (λ q. some (f (q .0), q .1))))
+      go none = refl
+      go (some q) = refl
+
 -- ---- what who called a reader knows
+
+by-place : {X : Type 0} (n : ℕ) → (n ≡ nowhere → X) → ((n ≡ nowhere → ⊥) → X) → X
+by-place n f g = by (eqb n nowhere) (λ a. f (eqb-true n nowhere a)) (λ a. g (eqb-false n nowhere a))
 
 -- what p leaves is the end of what it was given
 pub record Leaves {A : Type 0} (p : List ℕ → Option (A × List ℕ)) : Type 0 where
@@ -72,6 +89,30 @@ got {A} {blank} {p} {s} {at} {next} {v} l h r = record {
         let (x, w) = l .before (drop at s) q d in
         let t = rest-is s at x (q .1) w k in
         rw (n, here-yes s (length s - length (q .1)) (t .0), u) (ap {B = Option (A × List ℕ)} (λ z. some (q .0, z)) (t .1))
+
+-- what a reader of p said of p
+module _ {A : Type 0} {blank : A} {p : List ℕ → Option (A × List ℕ)} {s : List ℕ} {at next : ℕ} {v : A} (l : Leaves p) (h : length s < nowhere) (r : Reads blank p s at v next) where
+  pub reads-lost : next ≡ nowhere → at ≤ length s → p (drop at s) ≡ none
+  reads-lost e k =
+      let g = got l h r .is in
+      sym (ap (λ (o : Option (List ℕ)). bind o p) (here-yes s at k)) ∙ g ∙ rw (here-no s next (omega arith))
+
+  pub reads-blank : next ≡ nowhere → v ≡ blank
+  unfolding placed
+  reads-blank e =
+      let g : bind (here s at) p ≡ none = got l h r .is ∙ rw (here-no s next (omega arith)) in
+      ap (λ (z : A × ℕ). z .0) (r .is ∙ ap (placed blank s) g)
+
+  pub reads-found : (next ≡ nowhere → ⊥) → (at ≤ length s) × (next ≤ length s) × (p (drop at s) ≡ some (v, drop next s))
+  unfolding placed
+  reads-found n =
+      either at (length s)
+      (λ k. let w = ap (λ (o : Option (List ℕ)). bind o p) (here-yes s at k) in
+      either next (length s)
+      (λ m. (k, m, sym w ∙ got l h r .is ∙ rw (here-yes s next m)))
+      (λ m. let g : bind (here s at) p ≡ none = got l h r .is ∙ rw (here-no s next m) in
+      absurd (n (ap (λ (z : A × ℕ). z .1) (r .is ∙ ap (placed blank s) g)))))
+      (λ k. absurd (n (ap (λ (z : A × ℕ). z .1) (r .is ∙ ap (λ (o : Option (List ℕ)). placed blank s (bind o p)) (here-no s at k)))))
 
 -- ---- readers one after another
 
@@ -176,6 +217,9 @@ module _ (t : ℕ) {A : Type 0} (x : Fmt A) (s : List ℕ) where
 
 -- ---- a value under a tag
 
+pub part-length : {s : List ℕ} {at t a e : ℕ} → PartIs s at t a e → length (take (e - a) (drop a s)) ≡ e - a
+part-length {s} {at} {t} {a} {e} p = length-take-le (e - a) (drop a s) (rw (length-drop a s) (omega (arith, p .order, p .inside)))
+
 module _ (t : ℕ) {A : Type 0} (x : Fmt A) where
   pub first-leaves : Leaves (first t x)
   unfolding first
@@ -214,6 +258,50 @@ module _ (t : ℕ) {A : Type 0} (x : Fmt A) (s : List ℕ) (at : ℕ) where
     pub inner-bad : {blank : A} → Rest (x .dec) (take (e - a) (drop a s)) 0 none → Reads blank (first t x) s at blank nowhere
     inner-bad r = first-bad (rest-whole r)
 
+-- x, read as y where a test passes
+module _ (t : ℕ) {A B : Type 0} (x : Fmt A) (y : Fmt B) (ok : A → Bool) (f : A → B) (d : (c : List ℕ) → y .dec c ≡ bind (x .dec c) (λ a. guard (ok a) (f a))) where
+  first-test : (z : List ℕ) → first t y z ≡ bind (first t x z) (λ q. guard (ok (q .0)) (f (q .0), q .1))
+  unfolding first
+  first-test z = go (tlvDec t z)
+    where
+      stop : (b : Bool) (v : B) (r : List ℕ) → bind {B = B × List ℕ} (guard b v) (λ w. some (w, r)) ≡ guard b (v, r)
+      stop true v r = refl
+      stop false v r = refl
+
+      step : (o : Option A) (r : List ℕ)
+          → bind {B = B × List ℕ} (bind o (λ a. guard (ok a) (f a))) (λ w. some (w, r)) ≡ bind {A = A × List ℕ} {B = B × List ℕ} (bind o (λ a. some (a, r))) (λ q. guard (ok (q .0)) (f (q .0), q .1))
+      step none r = refl
+      step (some a) r = stop (ok a) (f a) r
+
+      go : (o : Option (List ℕ × List ℕ))
+          → bind {B = B × List ℕ} o (λ p. bind (y .dec (p .0)) (λ b. some (b, p .1)))
+          ≡ bind {A = A × List ℕ} {B = B × List ℕ} (bind o (λ p. bind (x .dec (p .0)) (λ a. some (a, p .1)))) (λ q. guard (ok (q .0)) (f (q .0), q .1))
+      go none = refl
+      go (some p) = ap (λ (o : Option B). bind {B = B × List ℕ} o (λ b. some (b, p .1))) (d (p .0)) ∙ step (x .dec (p .0)) (p .1)
+
+  module _ {blank : A} {s : List ℕ} {at next : ℕ} {v : A} (h : length s < nowhere) (r : Reads blank (first t x) s at v next) where
+    pub test-no : ok v ≡ false → Reads (f blank) (first t y) s at (f blank) nowhere
+    test-no n = by-place next
+        (λ e. reads-none (λ k. first-test (drop at s) ∙ rw (reads-lost (first-leaves t x) h r e k)))
+        (λ e. reads-none (λ k. first-test (drop at s) ∙ rw (reads-found (first-leaves t x) h r e .2, n)))
+
+    pub test-yes : ok v ≡ true → Reads (f blank) (first t y) s at (f v) next
+    test-yes n = by-place next
+        (λ e. rw (reads-blank (first-leaves t x) h r e, e)
+        (reads-none (λ k. first-test (drop at s) ∙ rw (reads-lost (first-leaves t x) h r e k))))
+        (λ e. let (k, m, g) = reads-found (first-leaves t x) h r e in reads-some k m (first-test (drop at s) ∙ rw (g, n)))
+
+-- one value that is alone in the contents of another
+module _ (t u : ℕ) {A : Type 0} (x : Fmt A) (s : List ℕ) (at : ℕ) {a e : ℕ} (p : PartIs s at t a e) (h : length s < nowhere) {blank v : A} {n : ℕ} (r : Reads blank (first u x) (take (e - a) (drop a s)) 0 v n) where
+  inner : Got (first u x) (take (e - a) (drop a s)) 0 v n
+  inner = got (first-leaves u x) (omega (arith, part-length p, p .order, p .inside)) r
+
+  pub alone-there : {b : A} → n ≡ e - a → Reads b (first t (alone u x)) s at v e
+  alone-there q = inner-there t (alone u x) s at p (rest-mapped (λ v. v .0) (λ a. (a, tt)) (field u x end) (rest-field inner (end-yes (take (e - a) (drop a s)) n (q ∙ sym (part-length p)))))
+
+  pub alone-bad : {b : A} → (n ≡ e - a → ⊥) → Reads b (first t (alone u x)) s at b nowhere
+  alone-bad q = inner-bad t (alone u x) s at p (rest-mapped (λ v. v .0) (λ a. (a, tt)) (field u x end) (rest-field inner (end-no (take (e - a) (drop a s)) n (λ w. q (w ∙ part-length p)))))
+
 -- ---- a value that may be missing
 
 module _ (t : ℕ) {A : Type 0} (x : Fmt A) where
@@ -237,6 +325,24 @@ module _ (t : ℕ) {A : Type 0} (x : Fmt A) where
     pub maybe-past : {blank : Option A} → length s < at → Reads blank (maybe t x) s at blank nowhere
     maybe-past h = reads-none (λ k. absurd (omega arith))
 
+    -- it is missing, at a place that may be one
+    pub maybe-none : starts t (drop at s) ≡ false → Reads none (maybe t x) s at none (stay at (length s))
+    unfolding maybe stay
+    maybe-none n =
+        either at (length s)
+        (λ k. rw (le-leb at (length s) k) (reads-some k k (rw n)))
+        (λ k. rw (lt-leb at (length s) k) (reads-none (λ m. absurd (omega arith))))
+
+    -- the tag is there: what a reader of a value that must be there answered
+    module _ (g : starts t (drop at s) ≡ true) (h : length s < nowhere) {blank v : A} {next : ℕ} (r : Reads blank (first t x) s at v next) where
+      pub maybe-lost : next ≡ nowhere → Reads none (maybe t x) s at none nowhere
+      unfolding maybe
+      maybe-lost e = reads-none (λ k. rw (g, reads-lost (first-leaves t x) h r e k))
+
+      pub maybe-found : (next ≡ nowhere → ⊥) → Reads none (maybe t x) s at (some v) next
+      unfolding maybe
+      maybe-found e = let (k, m, q) = reads-found (first-leaves t x) h r e in reads-some k m (rw (g, q))
+
     module _ (h : at < length s) where
       pub maybe-other : {blank : Option A} → (getD s at 0 ≡ t → ⊥) → Reads blank (maybe t x) s at none at
       unfolding maybe
@@ -254,7 +360,30 @@ module _ (t : ℕ) {A : Type 0} (x : Fmt A) where
       unfolding maybe
       maybe-bad g q = reads-none (λ k. rw (starts-here g, q))
 
+-- ---- a flag
+
+module _ (t : ℕ) (c : List ℕ) where
+  pub flagged-leaves : Leaves (flagged t c)
+  unfolding flagged
+  flagged-leaves = record {
+    before = λ z q e.
+        let (p, d, f) = bind-some (maybe t (exactly c) z) (λ p. some (isThere (p .0), p .1)) q e in
+        let (y, w) = maybe-leaves t (exactly c) .before z p d in
+        let u : p .1 ≡ q .1 = ap {B = List ℕ} (λ v. v .1) (Option·some-injective (isThere (p .0), p .1) q f) in
+        (y, w ∙ ap (λ (r : List ℕ). y ++ r) u);
+  }
+
+  pub flag-reads : {s : List ℕ} {at next : ℕ} {o : Option (Unit {0})} → Reads none (maybe t (exactly c)) s at o next → Reads false (flagged t c) s at (isThere o) next
+  unfolding flagged
+  flag-reads r = reads-map isThere r
+
 -- ---- an octet
+
+-- one octet that is v
+pub exactly-dec : (v : ℕ) (c : List ℕ) → exactly (v ∷ []) .dec c ≡ bind (one (λ x. true) c) (λ x. guard (eqb x v) tt)
+exactly-dec v [] = refl
+exactly-dec v (x ∷ []) = by (eqb x v) (λ a. rw a) (λ a. rw a)
+exactly-dec v (x ∷ y ∷ l) = by (eqb x v) (λ a. rw a) (λ a. rw a)
 
 one-not : (ok : ℕ → Bool) (l : List ℕ) → (length l ≡ 1 → ⊥) → one ok l ≡ none
 one-not ok [] h = refl
@@ -262,16 +391,18 @@ one-not ok (x ∷ []) h = absurd (h refl)
 one-not ok (x ∷ y ∷ l) h = refl
 
 module _ {s : List ℕ} {at t a e : ℕ} (p : PartIs s at t a e) where
-  pub part-length : length (take (e - a) (drop a s)) ≡ e - a
-  part-length = length-take-le (e - a) (drop a s) (rw (length-drop a s) (omega (arith, p .order, p .inside)))
-
   pub octet-not : (ok : ℕ → Bool) → (e - a ≡ 1 → ⊥) → one ok (take (e - a) (drop a s)) ≡ none
-  octet-not ok h = one-not ok (take (e - a) (drop a s)) (λ q. h (sym part-length ∙ q))
+  octet-not ok h = one-not ok (take (e - a) (drop a s)) (λ q. h (sym (part-length p) ∙ q))
 
   pub octet-is : e - a ≡ 1 → take (e - a) (drop a s) ≡ getD s a 0 ∷ []
   octet-is h = rw (h, drop-cons s a 0 (omega (arith, p .order, p .inside)))
 
 -- ---- a number
+
+-- a number that says that it is there
+pub unless-zero : (n : ℕ) → (n ≡ 0 → ⊥) → unless0 n ≡ some n
+unless-zero zero h = absurd (h refl)
+unless-zero (suc n) h = refl
 
 pub number-none : (o : Option ℕ) → N.NoNumber ≡ numberOf o → o ≡ none
 number-none none h = refl

@@ -9,7 +9,7 @@ use lib.Seq.{take-length, take-all, length-take-le, take-at, drop-at, drop-drop}
 use borrow.Author.Tests.{le-leb, lt-leb}
 use borrow.Rule.Slice.PartMut.{midOf, postOf, putMid}
 use Rattle.format.proofs.Tests.{either}
-use Rattle.ber.specs.Read.{nowhere}
+use Rattle.ber.specs.Read.{nowhere, stay}
 use Rattle.ber.specs.Write.{put, Puts, zeros, Holds}
 
 -- What a writer of x does where it has room: it is handed a buffer b and a place, leaves b′, and answers the place r after x.
@@ -54,6 +54,10 @@ put-then {x} {y} {b} {b₁} {b₂} {at} {m} {r} p q =
 pub put-is : {x y b b′ : List ℕ} {at r : ℕ} → x ≡ y → Put x b b′ at r → Put y b b′ at r
 put-is {b = b} {b′ = b′} {at = at} {r = r} e p = subst (λ (z : List ℕ). Put z b b′ at r) e p
 
+-- no octets
+put-nothing : {b : List ℕ} {at : ℕ} → at ≤ length b → Put [] b b at at
+put-nothing {b} {at} h = put-of (omega arith) h (sym (take-append-drop at b) ∙ rw append-nil)
+
 -- a writer that was lent the part from a on, and wrote at the part's front, wrote at a
 pub put-part : (b : List ℕ) (a : ℕ) {x ys : List ℕ} {n : ℕ} → a ≤ length b → Put x (midOf a (length b - a) b) ys 0 n
     → Put x b (putMid a (length b - a) b ys) a (a + n)
@@ -94,6 +98,12 @@ pub puts-none : {b : List ℕ} {at : ℕ} → Puts none b b at nowhere
 unfolding put
 puts-none = record { is = refl }
 
+-- no octets, at a place that may be one
+pub puts-nothing : {b : List ℕ} {at : ℕ} → Puts (some []) b b at (stay at (length b))
+unfolding stay
+puts-nothing {b} {at} =
+    either at (length b) (λ h. rw (le-leb at (length b) h) (puts (put-nothing h))) (λ h. rw (lt-leb at (length b) h) (puts-full (omega arith)))
+
 -- the same octets under another name
 pub puts-is : {x y : Option (List ℕ)} {b b′ : List ℕ} {at r : ℕ} → x ≡ y → Puts x b b′ at r → Puts y b b′ at r
 puts-is {b = b} {b′ = b′} {at = at} {r = r} e p = subst (λ (z : Option (List ℕ)). Puts z b b′ at r) e p
@@ -109,6 +119,12 @@ puts-room {x} {b} {b′} {at} {r} h p =
 -- x was put, and with room for both a writer of y went on from there
 pub puts-then : {x y b b₁ b₂ : List ℕ} {at m r : ℕ} → at + length x + length y ≤ length b → Put x b b₁ at m → Puts (some y) b₁ b₂ m r → Put (x ++ y) b b₂ at r
 puts-then h p q = put-then p (puts-room (omega (arith, p .end, p .same)) q)
+
+-- x filled the buffer
+pub puts-whole : {x b b′ : List ℕ} {r : ℕ} → length x ≡ length b → Puts (some x) b b′ 0 r → b′ ≡ x
+puts-whole {x} {b} {b′} {r} h p =
+    let q = puts-room (omega arith) p in
+    q .buf ∙ ap (λ (z : List ℕ). x ++ z) (drop-of-length-le b {i = r} (omega (arith, q .end))) ∙ append-nil x
 
 -- a writer leaves the buffer as long as it was
 pub puts-same : (x : Option (List ℕ)) {b b′ : List ℕ} {at r : ℕ} → Puts x b b′ at r → length b′ ≡ length b
@@ -138,7 +154,7 @@ wrote-then {x} {y} p q = record {
 }
 
 pub wrote-none : {b : List ℕ} {at : ℕ} → Wrote [] b b at at
-wrote-none {b} {at} = record { room = λ h. put-of (omega arith) (omega arith) (sym (take-append-drop at b) ∙ rw append-nil); same = refl }
+wrote-none {b} {at} = record { room = λ h. put-nothing (omega arith); same = refl }
 
 pub wrote-is : {x y b b′ : List ℕ} {at r : ℕ} → x ≡ y → Wrote x b b′ at r → Wrote y b b′ at r
 wrote-is {b = b} {b′ = b′} {at = at} {r = r} e p = subst (λ (z : List ℕ). Wrote z b b′ at r) e p

@@ -8,7 +8,7 @@ ghost use mathlib.Core.Path.{_≡_};
 ghost use mathlib.Core.Bool.{true};
 ghost use mathlib.Core.Option.{some};
 ghost use mathlib.Core.List.{_∷_, []};
-ghost use Rattle.format.specs.Format.{octet};
+ghost use Rattle.format.specs.Format.{octet, exactly};
 ghost use Rattle.ber.specs.Int.{int, intEnc};
 ghost use Rattle.ber.specs.Tlv.{tlvEnc};
 ghost use Rattle.ber.specs.Field.{first};
@@ -43,6 +43,17 @@ pub fn octet_at(s: &[u8], at: usize, tag: u8) -> OctetAt
         };
     }
     OctetAt { v: s[a], next: e }
+}
+
+// The octet v, and no other, under the tag at a place of s: the place after it.
+pub fn const_at(s: &[u8], at: usize, tag: u8, v: u8) -> usize
+    ensures { λ r. ⌜ Reads tt (first tag (exactly (v ∷ []))) (now (s .entry)) at tt r ⌝ }
+{
+    let x = octet_at(s, at, tag);
+    if x.v != v {
+        return NOWHERE;
+    }
+    x.next
 }
 
 // The number under the tag at a place of s.

@@ -4,8 +4,7 @@ ghost use mathlib.Core.Path.{_≡_};
 ghost use Prim.Native.Nat.{_≤_};
 ghost use mathlib.Core.List.{_++_};
 ghost use lib.ListN.{length, drop};
-ghost use lib.Dec.{T};
-ghost use Rattle.ber.specs.Int.{int, intEnc, shortest, spelt, allOctets, intWidth, lowest};
+ghost use Rattle.ber.specs.Int.{int, intEnc, shortest, intWidth, lowest};
 ghost use Rattle.ber.specs.Read.{numberOf};
 ghost use Rattle.ber.specs.Write.{Holds};
 
@@ -27,11 +26,11 @@ pub fn int_value(s: &[u8]) -> Number
 {
     if is_shortest(s) {
         if s.len() <= 8 {
-            return Number::Value(spelt(s));
+            return Number::Value(octet::spelt(s));
         }
         if s.len() == 9 {
             if s[0] == 0 {
-                return Number::Value(spelt(&s[1..9]));
+                return Number::Value(octet::spelt(&s[1..9]));
             }
         }
     }
@@ -65,20 +64,6 @@ fn is_shortest(s: &[u8]) -> bool
         return true;
     }
     128 <= s[1]
-}
-
-// The number that s spells.
-fn spelt(s: &[u8]) -> u64
-    requires { ⌜ length (now s) ≤ 8 ⌝ }
-    ensures { λ r. ⌜ (r ≡ spelt 0 (now (s .entry))) × (T (allOctets (now (s .entry)))) ⌝ }
-{
-    let mut v: u64 = 0;
-    let mut i = 0;
-    while i < s.len() {
-        v = v * 256 + octet::wide(s[i]);
-        i += 1;
-    }
-    v
 }
 
 // How many octets v takes.
