@@ -9,10 +9,19 @@ use lib.Dec.{T, leb, ltb, eqb, leb→le, ltb→lt, eqb→eq}
 use lib.ListN.{length, take, drop, getD, drop-of-length-le, take-append-drop, length-append}
 use lib.Seq.{drop-cons, length-take-le, take-at}
 use borrow.Author.Tests.{lt-ltb, le-ltb, le-leb, lt-leb, eq-eqb, ne-eqb, ltb-true, ltb-false}
-use Rattle.format.specs.Format.{Law}
-use Rattle.format.proofs.Tests.{by, and-l, and-r, T-true}
-use Rattle.format.proofs.Formats.{checked-law}
+use Rattle.format.specs.Maybe.{bind, guard}
+use Rattle.format.specs.Format.{Law, eqs}
+use Rattle.format.proofs.Tests.{by, and-l, and-r, T-true, true-T}
+use Rattle.format.proofs.Formats.{checked-law, eqs-eq, eqs-refl}
+use Rattle.ber.specs.Tlv.{tlvEnc, tlvForm}
+use Rattle.ber.specs.Field.{first, between}
+use Rattle.ber.specs.Read.{nowhere, Reads}
+use Rattle.ber.specs.Write.{zeros}
+use Rattle.ber.specs.Text.{Copies}
 use Rattle.ber.specs.Imsi.{packed, allDigits, halves, leading, allF, imsiOk, imsiSize, imsiEnc, fill, imsiVal, imsi, imsiRoom, imsiDigits}
+use Rattle.ber.proofs.Tlvs.{tlv-yes}
+use Rattle.ber.proofs.Readers.{first-leaves, test-no, test-there}
+use Rattle.ber.proofs.Texts.{copies-reads, copies-count, copies-buffer, copies-lost}
 
 -- ---- halves
 
@@ -218,3 +227,94 @@ module _ (s : List ℕ) where
       pub room-rest : imsiDigits s ≤ 15 → {b : Bool} → b ≡ allF (drop (imsiDigits s) (halves s)) → cond b (imsiSize s) 0 ≡ imsiRoom s
       unfolding imsiRoom imsiOk
       room-rest k e = rw (eq-eqb (length s) 8 l, le-leb 6 (imsiDigits s) h, le-leb (imsiDigits s) 15 k, ← e)
+
+-- ---- a record's octets, as the code reads and writes them
+
+-- are these a record's octets of an IMSI
+recorded : List ℕ → Bool
+recorded x = imsiOk (imsiVal x) && eqs (imsiEnc (imsiVal x)) x
+
+module _ (s : List ℕ) where
+  room-yes : T (imsiOk s) → imsiRoom s ≡ imsiSize s
+  unfolding imsiRoom
+  room-yes g = rw (T-true (imsiOk s) g)
+
+  pub room-none : imsiRoom s ≡ 0 → imsiOk s ≡ false
+  room-none e = by (imsiOk s) (λ a. let i = imsi-rules s (true-T (imsiOk s) a) in absurd (omega (arith, room-yes (true-T (imsiOk s) a), i .least))) (λ a. a)
+
+  pub room-some : (imsiRoom s ≡ 0 → ⊥) → T (imsiOk s)
+  unfolding imsiRoom
+  room-some n = by (imsiOk s) (λ a. true-T (imsiOk s) a) (λ a. absurd (n (rw a)))
+
+  pub room-le : imsiRoom s ≤ length s
+  unfolding imsiRoom
+  room-le = by (imsiOk s) (λ a. let i = imsi-rules s (true-T (imsiOk s) a) in rw a (omega (arith, i .eight, i .most))) (λ a. rw a (omega arith))
+
+  pub room-form : (t : ℕ) {n : ℕ} → n ≡ imsiRoom s → (n ≡ 0 → ⊥) → tlvForm t (take n s) ≡ guard (imsiOk s) (tlvEnc t (imsiEnc s))
+  unfolding imsiEnc
+  room-form t {n} e z =
+      let g = room-some (λ q. z (e ∙ q)) in
+      let f = imsi-fits s g in
+      rw (T-true (imsiOk s) g, e, room-yes g) (tlv-yes t (imsiEnc s) (omega arith))
+
+module _ (x : List ℕ) where
+  recorded-only : T (recorded x) → (imsiRoom (imsiVal x) ≡ length x) × (3 ≤ length x) × (length x ≤ 8)
+  unfolding recorded imsiEnc
+  recorded-only g =
+      let v = imsiVal x in
+      let o = and-l (imsiOk (imsiVal x)) (eqs (imsiEnc (imsiVal x)) x) g in
+      let i = imsi-rules (imsiVal x) o in
+      let r = room-yes (imsiVal x) o in
+      let l : length x ≡ imsiSize (imsiVal x) =
+      sym (ap length (eqs-eq (imsiEnc (imsiVal x)) x (and-r (imsiOk (imsiVal x)) (eqs (imsiEnc (imsiVal x)) x) g)))
+      ∙ length-take-le (imsiSize (imsiVal x)) (imsiVal x) (omega (arith, i .eight, i .most)) in
+      (omega arith, omega (arith, i .least), omega (arith, i .most))
+
+  recorded-yes : imsiRoom (imsiVal x) ≡ length x → (length x ≡ 0 → ⊥) → recorded x ≡ true
+  unfolding recorded imsiEnc imsiVal
+  recorded-yes e n =
+      let g = room-some (imsiVal x) (λ z. n (sym e ∙ z)) in
+      let q : imsiSize (imsiVal x) ≡ length x = sym (room-yes (imsiVal x) g) ∙ e in
+      rw (T-true (imsiOk (imsiVal x)) g, q, take-at x (fill (8 - length x)) (length x) refl, T-true (eqs x x) (eqs-refl x))
+
+  recorded-no : (T (recorded x) → ⊥) → recorded x ≡ false
+  recorded-no n = by (recorded x) (λ a. absurd (n (true-T (recorded x) a))) (λ a. a)
+
+  -- an IMSI is three to eight octets that pass
+  imsi-dec : imsi .dec x ≡ bind (between 3 8 .dec x) (λ c. guard (recorded c) (imsiVal c))
+  unfolding recorded
+  imsi-dec = by (leb (length x) 8 && leb 3 (length x)) (λ a. rw a) (λ a. rw (
+    a,
+    recorded-no (λ g.
+        let (r, l, m) = recorded-only g in
+        let z : _≡_ {A = Bool} true false = sym (ap₂ _&&_ (le-leb (length x) 8 m) (le-leb 3 (length x) l)) ∙ a in
+        subst T z tt),
+  ))
+
+drop-fill : (n m : ℕ) → drop n (fill m) ≡ fill (m - n)
+unfolding fill
+drop-fill zero m = let e : m ≡ m - 0 = omega arith in ap fill e
+drop-fill (suc n) zero = let e : 0 ≡ 0 - suc n = omega arith in ap fill e
+drop-fill (suc n) (suc m) = let e : m - n ≡ suc m - suc n = omega arith in drop-fill n m ∙ ap fill e
+
+-- what three to eight octets that were copied to eight times FF are
+module _ (t : ℕ) {s : List ℕ} {at : ℕ} {v : List ℕ} {n next : ℕ} (h : length s < nowhere) (k : Copies (first t (between 3 8)) s at (fill 8) v n next) where
+  filled-up : v ≡ imsiVal (take n v)
+  unfolding imsiVal
+  filled-up = copies-buffer k ∙ ap (λ (z : List ℕ). take n v ++ z) (drop-fill n 8 ∙ rw (copies-count k))
+
+  not-imsi : (T (recorded (take n v)) → ⊥) → Reads (zeros 8) (first t imsi) s at (zeros 8) nowhere
+  not-imsi g = test-no t (between 3 8) imsi recorded imsiVal imsi-dec h (copies-reads k .0) (recorded-no (take n v) g)
+
+  pub imsi-none : n ≡ 0 → Reads (zeros 8) (first t imsi) s at (zeros 8) nowhere
+  imsi-none e = not-imsi (λ g. let (r, l, m) = recorded-only (take n v) g in omega (arith, copies-count k))
+
+  pub imsi-other : (imsiRoom v ≡ n → ⊥) → Reads (zeros 8) (first t imsi) s at (zeros 8) nowhere
+  imsi-other e = not-imsi (λ g. e (ap imsiRoom filled-up ∙ recorded-only (take n v) g .0 ∙ copies-count k))
+
+  pub imsi-there : (n ≡ 0 → ⊥) → imsiRoom v ≡ n → Reads (zeros 8) (first t imsi) s at v next
+  imsi-there m e =
+      subst (λ (z : List ℕ). Reads (zeros 8) (first t imsi) s at z next) (sym filled-up)
+      (test-there t (between 3 8) imsi recorded imsiVal imsi-dec h (copies-reads k .0)
+      (λ w. m (copies-lost (first-leaves t (between 3 8)) h k w .0))
+      (recorded-yes (take n v) (sym (ap imsiRoom filled-up) ∙ e ∙ sym (copies-count k)) (λ z. m (sym (copies-count k) ∙ z))))

@@ -280,16 +280,19 @@ module _ (t : ℕ) {A B : Type 0} (x : Fmt A) (y : Fmt B) (ok : A → Bool) (f :
       go (some p) = ap (λ (o : Option B). bind {B = B × List ℕ} o (λ b. some (b, p .1))) (d (p .0)) ∙ step (x .dec (p .0)) (p .1)
 
   module _ {blank : A} {s : List ℕ} {at next : ℕ} {v : A} (h : length s < nowhere) (r : Reads blank (first t x) s at v next) where
-    pub test-no : ok v ≡ false → Reads (f blank) (first t y) s at (f blank) nowhere
+    pub test-no : {b : B} → ok v ≡ false → Reads b (first t y) s at b nowhere
     test-no n = by-place next
         (λ e. reads-none (λ k. first-test (drop at s) ∙ rw (reads-lost (first-leaves t x) h r e k)))
         (λ e. reads-none (λ k. first-test (drop at s) ∙ rw (reads-found (first-leaves t x) h r e .2, n)))
+
+    pub test-there : {b : B} → (next ≡ nowhere → ⊥) → ok v ≡ true → Reads b (first t y) s at (f v) next
+    test-there e n = let (k, m, g) = reads-found (first-leaves t x) h r e in reads-some k m (first-test (drop at s) ∙ rw (g, n))
 
     pub test-yes : ok v ≡ true → Reads (f blank) (first t y) s at (f v) next
     test-yes n = by-place next
         (λ e. rw (reads-blank (first-leaves t x) h r e, e)
         (reads-none (λ k. first-test (drop at s) ∙ rw (reads-lost (first-leaves t x) h r e k))))
-        (λ e. let (k, m, g) = reads-found (first-leaves t x) h r e in reads-some k m (first-test (drop at s) ∙ rw (g, n)))
+        (λ e. test-there e n)
 
 -- one value that is alone in the contents of another
 module _ (t u : ℕ) {A : Type 0} (x : Fmt A) (s : List ℕ) (at : ℕ) {a e : ℕ} (p : PartIs s at t a e) (h : length s < nowhere) {blank v : A} {n : ℕ} (r : Reads blank (first u x) (take (e - a) (drop a s)) 0 v n) where
