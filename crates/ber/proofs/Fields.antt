@@ -1,16 +1,16 @@
 -- The laws of fields: a field, the end, an optional field, a flag, a run of values. Assumes nothing.
 use mathlib.Core.Path.{_≡_, refl, sym, ap, subst, _∙_}
-use mathlib.Core.Bool.{Bool, true, false, cond}
+use mathlib.Core.Bool.{Bool, true, false}
 use mathlib.Core.Option.{Option, none, some, Option·none-ne-some, Option·some-injective}
 use mathlib.Core.List.{List, [], _∷_, _++_}
-use Prim.Native.Nat.{ℕ, zero, suc, _+_, _*_, _≤_, _<_, suc-le-suc}
+use Prim.Native.Nat.{ℕ, zero, suc, _+_, _*_, _≤_, suc-le-suc}
 use native.Mathlib.Omega.{arith}
 use native.Mathlib.Nat.{not-suc-le-zero, le-of-suc-le-suc, mul-le-mul-left}
 use lib.Dec.{T, leb, ltb, eqb, leb→le, ltb→lt, eqb-refl}
 use lib.ListN.{length, length-append}
 use borrow.Author.Tests.{le-leb}
 use Rattle.format.specs.Maybe.{bind, guard}
-use Rattle.format.specs.Format.{Fmt, Law, exactly, mapped}
+use Rattle.format.specs.Format.{Fmt, Law, exactly}
 use Rattle.format.proofs.Tests.{by, T-true}
 use Rattle.format.proofs.Maybe.{bind-some, guard-some}
 use Rattle.format.proofs.Formats.{exactly-law, mapped-law}

@@ -1,19 +1,19 @@
 -- Laws of octets that are copied, looked for and written: what the promises of such functions say of `Reads` and of forms, and a law
 -- for each of their answers. Assumes nothing.
 use mathlib.Core.Path.{_≡_, refl, sym, ap, subst, _∙_}
-use mathlib.Core.Bool.{Bool, true, false, _&&_}
+use mathlib.Core.Bool.{true, false, _&&_}
 use mathlib.Core.Option.{Option, none, some, Option·some-injective}
 use mathlib.Core.List.{List, [], _∷_, _++_}
 use Prim.Native.Nat.{ℕ, zero, suc, _+_, _-_, _≤_, _<_}
 use native.Mathlib.Omega.{arith}
-use lib.Dec.{T, leb, eqb, leb→le}
+use lib.Dec.{leb, leb→le}
 use lib.ListN.{length, take, drop, take-append-drop}
 use lib.Seq.{take-at, drop-at, take-length, length-take-le}
 use borrow.Author.Tests.{le-leb, lt-leb, leb-true, leb-false, ne-eqb}
-use Rattle.format.specs.Maybe.{bind, guard}
+use Rattle.format.specs.Maybe.{bind}
 use Rattle.format.specs.Format.{Fmt}
 use Rattle.format.proofs.Tests.{by, either, and-l, and-r}
-use Rattle.format.proofs.Maybe.{bind-some, bind-bind, guard-some}
+use Rattle.format.proofs.Maybe.{bind-some, guard-some}
 use Rattle.ber.specs.Tlv.{tlvEnc, tlvDec, tlvForm}
 use Rattle.ber.specs.Field.{first, maybe, starts, between, optEnc, unlessNone}
 use Rattle.ber.specs.Read.{nowhere, here, placed, Reads, stay, partAt}

@@ -1,15 +1,14 @@
 -- Values: what is written reads back, and what reads is what is written. Assumes nothing.
-use mathlib.Core.Path.{_≡_, refl, sym, ap, ap₂, subst, _∙_}
-use mathlib.Core.Bool.{Bool, true, false, cond}
+use mathlib.Core.Path.{_≡_, sym, ap, ap₂, subst, _∙_}
+use mathlib.Core.Bool.{true, false}
 use mathlib.Core.Option.{Option, none, some, Option·none-ne-some}
 use mathlib.Core.List.{List, [], _∷_, _++_, append-assoc}
 use Prim.Native.Nat.{ℕ, suc, _+_, _≤_, _<_}
 use native.Mathlib.Omega.{arith}
-use lib.Dec.{T, leb, ltb, eqb, leb→le, eqb-refl}
+use lib.Dec.{leb, ltb, eqb, leb→le, eqb-refl}
 use lib.ListN.{length, take, drop, length-append, take-append-drop}
 use lib.Seq.{take-append-seam, drop-append-seam, length-take-le}
 use borrow.Author.Tests.{lt-ltb, le-ltb, le-leb, ltb-false, ltb-true, eqb-true}
-use Rattle.format.specs.Maybe.{bind, guard}
 use Rattle.format.proofs.Tests.{by, either, T-true}
 use Rattle.format.proofs.Maybe.{bind-some, guard-some}
 use Rattle.ber.specs.Length.{lenEnc, lenOctets, lenDec}

@@ -4,7 +4,6 @@ use crate::int;
 use crate::int::Number;
 use crate::tlv;
 use crate::tlv::Part;
-ghost use mathlib.Core.Path.{_≡_};
 ghost use mathlib.Core.Bool.{true};
 ghost use mathlib.Core.Option.{some};
 ghost use mathlib.Core.List.{_∷_, []};

@@ -1,12 +1,9 @@
 -- `ber::field::put_int` meets its contract: the number's octets under the tag. Assumes nothing.
 use mathlib.Core.Path.{_∙_, ap, sym}
-use mathlib.Core.Option.{Option, some}
-use mathlib.Core.List.{List}
-use Prim.Native.Nat.{ℕ}
 use native.Mathlib.Omega.{arith}
 use lib.ListN.{length}
 use borrow.Author.Needs.{needs}
-use Rattle.ber.specs.Int.{int, intEnc}
+use Rattle.ber.specs.Int.{intEnc}
 use Rattle.ber.specs.Tlv.{tlvForm}
 use Rattle.ber.proofs.Ints.{int-law, int-good}
 use Rattle.ber.proofs.Tlvs.{tlv-yes}

@@ -1,9 +1,9 @@
 -- `ber::tlv::put_tlv` meets its contract: with room for the whole, tag, length and contents are put one after another. Assumes nothing.
-use mathlib.Core.Path.{_≡_, sym, ap}
-use mathlib.Core.List.{List, [], _∷_, _++_}
-use Prim.Native.Nat.{ℕ, _+_, _≤_}
+use mathlib.Core.Path.{sym, ap}
+use mathlib.Core.List.{List, _∷_, _++_}
+use Prim.Native.Nat.{ℕ, _+_}
 use native.Mathlib.Omega.{arith}
-use lib.ListN.{length, take, length-append}
+use lib.ListN.{length}
 use borrow.Author.Needs.{needs}
 use Rattle.ber.specs.Tlv.{tlvEnc}
 use Rattle.ber.proofs.Tlvs.{tlv-yes, tlv-no, tlv-length, len-most, len-none, len-heads}
