@@ -104,6 +104,10 @@ module _ {p : List ℕ → Option (List ℕ × List ℕ)} {s : List ℕ} {at : �
       let z : n ≡ 0 = sym (copies-count k) ∙ ap length w in
       (z, copies-buffer k ∙ ap (λ (x : List ℕ). x ++ drop n b) w ∙ ap (λ (m : ℕ). drop m b) z)
 
+-- no more octets are copied than the field may have
+pub octets-fit : (t lo hi : ℕ) {s : List ℕ} {at : ℕ} {b b′ : List ℕ} {n next : ℕ} → Copies (first t (between lo hi)) s at b b′ n next → n ≤ hi
+octets-fit t lo hi = copies-most hi (λ z q e. octets-only t lo hi z q e .1)
+
 -- ---- the answers of `octets_at`
 
 module _ (lo : ℕ) {s : List ℕ} {at t a e : ℕ} (b : List ℕ) (p : PartIs s at t a e) where
@@ -166,6 +170,9 @@ module _ (t m : ℕ) where
   text-most z q e =
       let (p, d, f) = bind-some (maybe t (between 1 m) z) (λ p. some (orNone (p .0), p .1)) q e in
       subst (λ (w : List ℕ × List ℕ). length (w .0) ≤ m) (Option·some-injective (orNone (p .0), p .1) q f) (text-is z p d .1)
+
+  pub text-fit : {s : List ℕ} {at : ℕ} {b b′ : List ℕ} {n next : ℕ} → Copies (text t m) s at b b′ n next → n ≤ m
+  text-fit = copies-most m text-most
 
   pub text-leaves : Leaves (text t m)
   unfolding text
