@@ -41,6 +41,10 @@ ContainerCodec = Where (As ContainerLayout toContainer ofContainer (λ w g. refl
 unfoldable pub container : Fmt Container
 container = ContainerCodec .fmt
 
+-- no time
+abbrev pub noStamp : Stamp
+noStamp = record { seconds = 0; zone = 0 }
+
 -- nothing counted: what an unused place holds
 abbrev pub noContainer : Container
-noContainer = record { qos = noQos; uplink = 0; downlink = 0; condition = 0; time = record { seconds = 0; zone = 0 } }
+noContainer = record { qos = noQos; uplink = 0; downlink = 0; condition = 0; time = noStamp }

@@ -2,6 +2,9 @@
 // has. The S-CDR of the SGSN and the G-CDR of the gateway share them.
 //
 // No public function has a `requires`: each answers for every input.
+pub mod profile;
+pub mod single;
+pub mod stamp;
 
 // The QoS profile of a context: five numbers, each in its range.
 #[repr(C)]

@@ -1,0 +1,158 @@
+-- A profile and a container read field by field, and what is written put together. Assumes nothing.
+use mathlib.Core.Path.{_≡_, refl, sym, ap, subst, _∙_}
+use mathlib.Core.Bool.{Bool, true, false}
+use mathlib.Core.Option.{Option, none, some}
+use mathlib.Core.List.{List, [], _∷_, _++_}
+use Prim.Native.Nat.{ℕ, _-_, _≤_, _<_}
+use native.Mathlib.Omega.{arith}
+use lib.Dec.{T}
+use lib.ListN.{length, take, drop}
+use Rattle.format.specs.Maybe.{guard}
+use Rattle.format.specs.Format.{Fmt, octet, mapped}
+use Rattle.format.proofs.Maybe.{guard-yes}
+use Rattle.ber.specs.Int.{int, intEnc}
+use Rattle.ber.specs.Tlv.{tlvEnc, tlvForm}
+use Rattle.ber.specs.Field.{first}
+use Rattle.ber.specs.Read.{nowhere, Reads}
+use Rattle.ber.specs.Write.{Puts}
+use Rattle.ber.proofs.Tlvs.{tlv-yes}
+use Rattle.ber.proofs.Places.{PartIs}
+use Rattle.ber.proofs.Readers.{part-length, Rest, got, first-leaves, rest-field, rest-mapped, rest-refined, end-yes, end-no}
+use Rattle.ber.proofs.Writers.{puts-is, puts-none, Wrote, wrote, wrote-then, wrote-none, filled}
+use Rattle.calendar.specs.declared.Stamp.{Stamp}
+use Rattle.calendar.specs.declared.StampRead.the-variants.{Time, NoTime}
+use Rattle.calendar.specs.Stamp.{stamp, stampRead, stampOk, stampEnc}
+use Rattle.container.specs.declared.Qos.{Qos}
+use Rattle.container.specs.declared.Container.{Container}
+use Rattle.container.specs.Qos.{qosOk, qos, noQos, QosLayout, toQos, ofQos}
+use Rattle.container.specs.Container.{containerOk, container, ContainerLayout, toContainer, ofContainer, noStamp}
+use Rattle.container.proofs.Goods.{qos-law, qos-good, container-law, container-good, within}
+
+-- ---- answers of readers
+
+-- the value under another name
+pub reads-as : {A : Type 0} {blank v w : A} {p : List ℕ → Option (A × List ℕ)} {s : List ℕ} {at next : ℕ} → v ≡ w → Reads blank p s at w next → Reads blank p s at v next
+reads-as {blank = blank} {p = p} {s = s} {at = at} {next = next} e r = subst (λ v. Reads blank p s at v next) (sym e) r
+
+-- the contents of a value in s end before nowhere, as s does
+pub part-short : {s : List ℕ} {at t a e : ℕ} → PartIs s at t a e → length s < nowhere → length (take (e - a) (drop a s)) < nowhere
+part-short p h = omega (arith, part-length p, p .inside)
+
+-- what a reader of times answered
+
+pub time-none : (o : Option Stamp) → NoTime ≡ stampRead o → o ≡ none
+time-none none h = refl
+time-none (some t) h = cc
+
+pub time-some : (o : Option Stamp) (t : Stamp) → Time t ≡ stampRead o → o ≡ some t
+time-some none t h = cc
+time-some (some u) t h = cc
+
+-- ---- a profile, of octets s that are all its contents
+
+module _ {s : List ℕ} {a b c d e f g h i j : ℕ} (l : length s < nowhere)
+    (r₁ : Reads 0 (first 0x80 (octet (λ x. true))) s 0 f a) (r₂ : Reads 0 (first 0x81 (octet (λ x. true))) s a g b)
+    (r₃ : Reads 0 (first 0x82 (octet (λ x. true))) s b h c) (r₄ : Reads 0 (first 0x83 (octet (λ x. true))) s c i d)
+    (r₅ : Reads 0 (first 0x84 (octet (λ x. true))) s d j e) where
+  abbrev profile : Qos
+  profile = record { reliability = f; delay = g; precedence = h; peak = i; mean = j }
+
+  -- octets are left after the fields, or a field was not there
+  pub qos-cut : (e ≡ length s → ⊥) → Rest (qos .dec) s 0 none
+  unfolding qos
+  qos-cut n =
+      rest-refined qosOk (mapped toQos ofQos (QosLayout .fmt)) (rest-mapped toQos ofQos (QosLayout .fmt)
+      (rest-field (got (first-leaves 0x80 _) l r₁) (rest-field (got (first-leaves 0x81 _) l r₂) (rest-field (got (first-leaves 0x82 _) l r₃)
+      (rest-field (got (first-leaves 0x83 _) l r₄) (rest-field (got (first-leaves 0x84 _) l r₅) (end-no s e n)))))))
+
+  module _ (q : e ≡ length s) where
+    fields : Rest (qos .dec) s 0 (guard (qosOk profile) profile)
+    unfolding qos
+    fields =
+        rest-refined qosOk (mapped toQos ofQos (QosLayout .fmt)) (rest-mapped toQos ofQos (QosLayout .fmt)
+        (rest-field (got (first-leaves 0x80 _) l r₁) (rest-field (got (first-leaves 0x81 _) l r₂) (rest-field (got (first-leaves 0x82 _) l r₃)
+        (rest-field (got (first-leaves 0x83 _) l r₄) (rest-field (got (first-leaves 0x84 _) l r₅) (end-yes s e q)))))))
+
+    -- the fields are there, but not in range
+    pub qos-out : qosOk profile ≡ false → Rest (qos .dec) s 0 none
+    qos-out t = record { is = fields .is ∙ rw t }
+
+    pub qos-there : qosOk profile ≡ true → Rest (qos .dec) s 0 (some profile)
+    qos-there t = record { is = fields .is ∙ rw t }
+
+-- ---- a container, of octets s that are all its contents
+
+module _ {s : List ℕ} {a b c d e up down why : ℕ} {p : Qos} {t : Stamp} (l : length s < nowhere)
+    (r₁ : Reads noQos (first 0xA2 qos) s 0 p a) (r₂ : Reads 0 (first 0x83 int) s a up b) (r₃ : Reads 0 (first 0x84 int) s b down c)
+    (r₄ : Reads 0 (first 0x85 (octet (λ x. true))) s c why d) (r₅ : Reads noStamp (first 0x86 stamp) s d t e) where
+  abbrev held : Container
+  held = record { qos = p; uplink = up; downlink = down; condition = why; time = t }
+
+  pub container-cut : (e ≡ length s → ⊥) → Rest (container .dec) s 0 none
+  unfolding container qos
+  container-cut n =
+      rest-refined containerOk (mapped toContainer ofContainer (ContainerLayout .fmt)) (rest-mapped toContainer ofContainer (ContainerLayout .fmt)
+      (rest-field (got (first-leaves 0xA2 _) l r₁) (rest-field (got (first-leaves 0x83 _) l r₂) (rest-field (got (first-leaves 0x84 _) l r₃)
+      (rest-field (got (first-leaves 0x85 _) l r₄) (rest-field (got (first-leaves 0x86 _) l r₅) (end-no s e n)))))))
+
+  module _ (q : e ≡ length s) where
+    parts : Rest (container .dec) s 0 (guard (containerOk held) held)
+    unfolding container qos
+    parts =
+        rest-refined containerOk (mapped toContainer ofContainer (ContainerLayout .fmt)) (rest-mapped toContainer ofContainer (ContainerLayout .fmt)
+        (rest-field (got (first-leaves 0xA2 _) l r₁) (rest-field (got (first-leaves 0x83 _) l r₂) (rest-field (got (first-leaves 0x84 _) l r₃)
+        (rest-field (got (first-leaves 0x85 _) l r₄) (rest-field (got (first-leaves 0x86 _) l r₅) (end-yes s e q)))))))
+
+    pub container-out : containerOk held ≡ false → Rest (container .dec) s 0 none
+    container-out k = record { is = parts .is ∙ rw k }
+
+    pub container-there : containerOk held ≡ true → Rest (container .dec) s 0 (some held)
+    container-there k = record { is = parts .is ∙ rw k }
+
+-- ---- written
+
+-- what does not pass its test is not written
+pub puts-not : (t : Bool) (x : List ℕ) {b : List ℕ} {at : ℕ} → t ≡ false → Puts (guard t x) b b at nowhere
+puts-not t x h = puts-is (rw h) puts-none
+
+-- the test passed, and the contents x were made ready as y
+pub ready : (t : Bool) (tag : ℕ) {x y : List ℕ} → t ≡ true → y ≡ x → length x < 65536 → tlvForm tag y ≡ guard t (tlvEnc tag x)
+ready t tag {x} {y} h e l = ap (tlvForm tag) e ∙ tlv-yes tag x l ∙ rw h
+
+-- the front of an array that holds x, at most m octets
+pub record Filled (x : List ℕ) (m : ℕ) (b : List ℕ) (r : ℕ) : Type 0 where
+  pub front : take r b ≡ x
+  pub size : r ≡ length x
+  pub most : length x ≤ m
+  pub inside : r ≤ length b
+
+filled-of : {x b b′ : List ℕ} {m r : ℕ} → length b ≡ m → Wrote x b b′ 0 r → length x ≤ m → Filled x m b′ r
+filled-of e w h = let q = filled w (omega arith) in record { front = q .0; size = q .1; most = h; inside = q .2 }
+
+-- the count of the octets that are lent is theirs
+pub filled-count : {x b : List ℕ} {m r : ℕ} → Filled x m b r → r ≡ length (take r b)
+filled-count f = f .size ∙ ap length (sym (f .front))
+
+-- five fields, one after another, in an array
+module _ (q : Qos) {b b₁ b₂ b₃ b₄ b₅ : List ℕ} {f g h i j : ℕ} (room : length b ≡ 15)
+    (p₁ : Puts (some (tlvEnc 0x80 (q .reliability ∷ []))) b b₁ 0 f) (p₂ : Puts (some (tlvEnc 0x81 (q .delay ∷ []))) b₁ b₂ f g)
+    (p₃ : Puts (some (tlvEnc 0x82 (q .precedence ∷ []))) b₂ b₃ g h) (p₄ : Puts (some (tlvEnc 0x83 (q .peak ∷ []))) b₃ b₄ h i)
+    (p₅ : Puts (some (tlvEnc 0x84 (q .mean ∷ []))) b₄ b₅ i j) (ok : T (qosOk q)) where
+  pub qos-filled : Filled (qos .enc q) 15 b₅ j
+  unfolding qos
+  qos-filled =
+      filled-of room (wrote-then (wrote refl p₁) (wrote-then (wrote refl p₂) (wrote-then (wrote refl p₃) (wrote-then (wrote refl p₄) (wrote-then (wrote refl p₅) wrote-none)))))
+      (qos-law .fits q (qos-good q ok))
+
+module _ (c : Container) {b b₁ b₂ b₃ b₄ b₅ : List ℕ} {f g h i j : ℕ} (room : length b ≡ 53)
+    (p₁ : Puts (guard (qosOk (c .qos)) (tlvEnc 0xA2 (qos .enc (c .qos)))) b b₁ 0 f) (p₂ : Puts (some (tlvEnc 0x83 (intEnc 9 (c .uplink)))) b₁ b₂ f g)
+    (p₃ : Puts (some (tlvEnc 0x84 (intEnc 9 (c .downlink)))) b₂ b₃ g h) (p₄ : Puts (some (tlvEnc 0x85 (c .condition ∷ []))) b₃ b₄ h i)
+    (p₅ : Puts (guard (stampOk (c .time)) (tlvEnc 0x86 (stampEnc (c .time)))) b₄ b₅ i j) (ok : T (containerOk c)) where
+  pub container-filled : Filled (container .enc c) 53 b₅ j
+  unfolding container qos
+  container-filled =
+      let w = within c ok in
+      filled-of room
+      (wrote-then (wrote (guard-yes (qosOk (c .qos)) _ (w .qos)) p₁) (wrote-then (wrote refl p₂) (wrote-then (wrote refl p₃) (wrote-then (wrote refl p₄)
+      (wrote-then (wrote (guard-yes (stampOk (c .time)) _ (w .time)) p₅) wrote-none)))))
+      (container-law .fits c (container-good c ok))

@@ -1,0 +1,134 @@
+-- Which values have a form: those that the tests of specs/ take, and no others. The laws of the three formats, and how long their
+-- forms get. Assumes nothing.
+use mathlib.Core.Path.{_≡_, refl, sym, subst}
+use mathlib.Core.Bool.{Bool, true, _&&_}
+use mathlib.Core.List.{List, [], _∷_}
+use Prim.Native.Nat.{ℕ, _^_, _≤_, _<_}
+use native.Mathlib.Omega.{arith}
+use lib.Dec.{T, leb, ltb, eqb, ltb→lt, eqb→eq, eqb-refl}
+use lib.ListN.{length}
+use Rattle.format.specs.Format.{Fmt, Law}
+use Rattle.format.proofs.Tests.{T-true, true-T, and-l, and-r, and-i}
+use Rattle.ber.specs.Field.{runGood}
+use Rattle.ber.proofs.Ints.{int-good}
+use Rattle.calendar.specs.Stamp.{stampOk}
+use Rattle.container.specs.declared.Qos.{Qos}
+use Rattle.container.specs.declared.Container.{Container}
+use Rattle.container.specs.Qos.{qosOk, sameQos, qos, QosCodec}
+use Rattle.container.specs.Container.{containerOk, container, ContainerCodec}
+use Rattle.container.specs.List.{eachOk, containers, ListCodec}
+
+-- five tests that all pass
+five : (a b c d e : Bool) → T (a && b && c && d && e) → T a × T b × T c × T d × T e
+five a b c d e t =
+    let s = and-l (a && b && c && d) e t in
+    let r = and-l (a && b && c) d s in
+    let q = and-l (a && b) c r in
+    (and-l a b q, and-r a b q, and-r (a && b) c r, and-r (a && b && c) d s, and-r (a && b && c && d) e t)
+
+-- ---- the formats are lawful
+
+pub qos-law : Law qos
+unfolding qos
+qos-law = QosCodec .law
+
+pub container-law : Law container
+unfolding container
+container-law = ContainerCodec .law
+
+pub containers-law : Law containers
+unfolding containers
+containers-law = ListCodec .law
+
+-- ---- the octets of the longest forms
+
+pub qos-most : qos .most ≡ 15
+unfolding qos
+qos-most = refl
+
+pub container-most : container .most ≡ 53
+unfolding container
+container-most = refl
+
+pub containers-most : containers .most ≡ 825
+unfolding containers
+containers-most = refl
+
+-- ---- a profile
+
+pub qos-good : (q : Qos) → T (qosOk q) → qos .good q
+unfolding qos
+qos-good q t = ((tt, (tt, (tt, (tt, (tt, tt))))), t)
+
+pub good-qos : (q : Qos) → qos .good q → T (qosOk q)
+unfolding qos
+good-qos q g = g .1
+
+-- two profiles of which each number is the same are one
+pub same-qos : (a b : Qos) → sameQos a b ≡ true → a ≡ b
+unfolding sameQos
+same-qos a b h =
+    let (r, d, p, k, m) =
+    five (eqb (a .reliability) (b .reliability)) (eqb (a .delay) (b .delay)) (eqb (a .precedence) (b .precedence)) (eqb (a .peak) (b .peak)) (eqb (a .mean) (b .mean))
+    (true-T (sameQos a b) h) in
+    let e₁ = eqb→eq (a .reliability) (b .reliability) r in
+    let e₂ = eqb→eq (a .delay) (b .delay) d in
+    let e₃ = eqb→eq (a .precedence) (b .precedence) p in
+    let e₄ = eqb→eq (a .peak) (b .peak) k in
+    let e₅ = eqb→eq (a .mean) (b .mean) m in
+    λ i. record { reliability = e₁ i; delay = e₂ i; precedence = e₃ i; peak = e₄ i; mean = e₅ i }
+
+pub qos-same : (a b : Qos) → a ≡ b → sameQos a b ≡ true
+unfolding sameQos
+qos-same a b e =
+    subst (λ (q : Qos). sameQos a q ≡ true) e
+    (rw (refl-true (a .reliability), refl-true (a .delay), refl-true (a .precedence), refl-true (a .peak), refl-true (a .mean)))
+  where
+    refl-true : (n : ℕ) → eqb n n ≡ true
+    refl-true n = T-true (eqb n n) (eqb-refl n)
+
+-- ---- a container
+
+-- what the test of a container says of each of its values
+pub record Within (c : Container) : Type 0 where
+  pub qos : T (qosOk (c .qos))
+  pub uplink : c .uplink < 2 ^ 40
+  pub downlink : c .downlink < 2 ^ 40
+  pub condition : T (leb (c .condition) 2)
+  pub time : T (stampOk (c .time))
+
+pub within : (c : Container) → T (containerOk c) → Within c
+unfolding containerOk
+within c t =
+    let (q, u, d, w, s) = five (qosOk (c .qos)) (ltb (c .uplink) (2 ^ 40)) (ltb (c .downlink) (2 ^ 40)) (leb (c .condition) 2) (stampOk (c .time)) t in
+    record { qos = q; uplink = ltb→lt (c .uplink) (2 ^ 40) u; downlink = ltb→lt (c .downlink) (2 ^ 40) d; condition = w; time = s }
+
+pub container-good : (c : Container) → T (containerOk c) → container .good c
+unfolding container qos
+container-good c t =
+    let w = within c t in
+    ((qos-good (c .qos) (w .qos), (int-good (c .uplink) (omega (arith, w .uplink)), (int-good (c .downlink) (omega (arith, w .downlink)), (tt, (w .time, tt))))), t)
+
+pub good-container : (c : Container) → container .good c → T (containerOk c)
+unfolding container
+good-container c g = g .1
+
+-- ---- a list
+
+run-good : (cs : List Container) → T (eachOk cs) → runGood 0x30 container cs
+unfolding eachOk
+run-good [] t = tt
+run-good (c ∷ cs) t = (container-good c (and-l (containerOk c) (eachOk cs) t), run-good cs (and-r (containerOk c) (eachOk cs) t))
+
+good-run : (cs : List Container) → runGood 0x30 container cs → T (eachOk cs)
+unfolding eachOk
+good-run [] g = tt
+good-run (c ∷ cs) g = and-i (containerOk c) (eachOk cs) (good-container c (g .0)) (good-run cs (g .1))
+
+pub each-good : (cs : List Container) → T (eachOk cs) → 1 ≤ length cs → length cs ≤ 15 → containers .good cs
+unfolding containers container
+each-good cs t l h = (run-good cs t, l, h)
+
+pub good-each : (cs : List Container) → containers .good cs → T (eachOk cs) × (1 ≤ length cs) × (length cs ≤ 15)
+unfolding containers container
+good-each cs g = (good-run cs (g .0), g .1, g .2)

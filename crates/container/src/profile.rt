@@ -1,0 +1,104 @@
+// The QoS profile: its test, its octets read and written.
+use crate::Qos;
+use ber::field;
+use ber::tlv;
+use ber::tlv::Part;
+ghost use mathlib.Core.Path.{_≡_};
+ghost use Rattle.format.specs.Maybe.{guard};
+ghost use Rattle.ber.specs.Tlv.{tlvEnc};
+ghost use Rattle.ber.specs.Field.{first};
+ghost use Rattle.ber.specs.Read.{Reads};
+ghost use Rattle.ber.specs.Write.{Puts};
+ghost use Rattle.container.specs.Qos.{qosOk, sameQos, qos, noQos};
+
+// Is each of the five numbers in its range?
+pub fn qos_ok(q: Qos) -> bool
+    ensures { λ r. ⌜ r ≡ qosOk q ⌝ }
+{
+    (q.reliability <= 5) & (q.delay <= 3) & (q.precedence <= 3) & (q.peak <= 9) & (q.mean <= 18)
+}
+
+// Are two profiles the same?
+pub fn same_qos(a: Qos, b: Qos) -> bool
+    ensures { λ r. ⌜ r ≡ sameQos a b ⌝ }
+{
+    (a.reliability == b.reliability)
+        & (a.delay == b.delay)
+        & (a.precedence == b.precedence)
+        & (a.peak == b.peak)
+        & (a.mean == b.mean)
+}
+
+// What was read, and the place after it: zeros and NOWHERE where it is not there.
+pub struct QosAt {
+    pub v: Qos,
+    pub next: usize,
+}
+
+// The profile that says nothing.
+fn no_qos() -> Qos
+    ensures { λ r. ⌜ r ≡ noQos ⌝ }
+{
+    Qos {
+        reliability: 0,
+        delay: 0,
+        precedence: 0,
+        peak: 0,
+        mean: 0,
+    }
+}
+
+// The profile under the tag at a place of s.
+pub fn qos_at(s: &[u8], at: usize, tag: u8) -> QosAt
+    ensures { λ r. ⌜ Reads noQos (first tag qos) (now (s .entry)) at (r .v) (r .next) ⌝ }
+{
+    let none = no_qos();
+    let Part::Found(a, e) = tlv::part_at(s, at, tag) else {
+        return QosAt {
+            v: none,
+            next: ber::NOWHERE,
+        };
+    };
+    let t = &s[a..e];
+    let f = field::octet_at(t, 0, 0x80);
+    let g = field::octet_at(t, f.next, 0x81);
+    let h = field::octet_at(t, g.next, 0x82);
+    let i = field::octet_at(t, h.next, 0x83);
+    let j = field::octet_at(t, i.next, 0x84);
+    let q = Qos {
+        reliability: f.v,
+        delay: g.v,
+        precedence: h.v,
+        peak: i.v,
+        mean: j.v,
+    };
+    if j.next != t.len() {
+        return QosAt {
+            v: none,
+            next: ber::NOWHERE,
+        };
+    }
+    if !qos_ok(q) {
+        return QosAt {
+            v: none,
+            next: ber::NOWHERE,
+        };
+    }
+    QosAt { v: q, next: e }
+}
+
+// A profile under the tag, at a place of out. One out of range is not written.
+pub fn put_qos(out: &mut [u8], at: usize, tag: u8, q: Qos) -> usize
+    ensures { λ r. ⌜ Puts (guard (qosOk q) (tlvEnc tag (qos .enc q))) (now (out .entry)) (now (out .exit)) at r ⌝ }
+{
+    if !qos_ok(q) {
+        return ber::NOWHERE;
+    }
+    let mut b = [0u8; 15];
+    let f = field::put_octet(&mut b, 0, 0x80, q.reliability);
+    let g = field::put_octet(&mut b, f, 0x81, q.delay);
+    let h = field::put_octet(&mut b, g, 0x82, q.precedence);
+    let i = field::put_octet(&mut b, h, 0x83, q.peak);
+    let j = field::put_octet(&mut b, i, 0x84, q.mean);
+    tlv::put_tlv(out, at, tag, &b[..j])
+}

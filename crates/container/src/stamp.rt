@@ -1,0 +1,54 @@
+// A time stamp under a tag, read at a place of s and written at a place of out.
+use ber::tlv;
+use ber::tlv::Part;
+use calendar::Stamp;
+use calendar::StampRead;
+ghost use mathlib.Core.Path.{_≡_};
+ghost use Rattle.format.specs.Maybe.{guard};
+ghost use Rattle.ber.specs.Tlv.{tlvEnc};
+ghost use Rattle.ber.specs.Field.{first};
+ghost use Rattle.ber.specs.Read.{Reads};
+ghost use Rattle.ber.specs.Write.{Puts};
+ghost use Rattle.calendar.specs.Stamp.{stamp, stampOk, stampEnc};
+ghost use Rattle.container.specs.Container.{noStamp};
+
+// What was read, and the place after it: zeros and NOWHERE where it is not there.
+pub struct StampAt {
+    pub v: Stamp,
+    pub next: usize,
+}
+
+// The time under the tag at a place of s.
+pub fn stamp_at(s: &[u8], at: usize, tag: u8) -> StampAt
+    ensures { λ r. ⌜ Reads noStamp (first tag stamp) (now (s .entry)) at (r .v) (r .next) ⌝ }
+{
+    let none = Stamp {
+        seconds: 0,
+        zone: 0,
+    };
+    let Part::Found(a, e) = tlv::part_at(s, at, tag) else {
+        return StampAt {
+            v: none,
+            next: ber::NOWHERE,
+        };
+    };
+    let StampRead::Time(v) = calendar::stamp_of(&s[a..e]) else {
+        return StampAt {
+            v: none,
+            next: ber::NOWHERE,
+        };
+    };
+    StampAt { v, next: e }
+}
+
+// The time t under the tag, at a place of out. One out of range is not written.
+pub fn put_stamp(out: &mut [u8], at: usize, tag: u8, t: Stamp) -> usize
+    ensures { λ r. ⌜ Puts (guard (stampOk t) (tlvEnc tag (stampEnc t))) (now (out .entry)) (now (out .exit)) at r ⌝ }
+{
+    let x = calendar::stamp_octets(t);
+    if !x.ok {
+        return ber::NOWHERE;
+    }
+    let octets = x.octets;
+    tlv::put_tlv(out, at, tag, &octets)
+}
