@@ -1,7 +1,9 @@
 -- The list of containers that a record has: 1 to 15 of them, and the rules between them. Assumes nothing.
+use mathlib.Core.Path.{_≡_}
 use mathlib.Core.Bool.{Bool, true, false, not, _&&_, Bool·beq}
-use mathlib.Core.List.{List, [], _∷_}
-use Prim.Native.Nat.{ℕ}
+use mathlib.Core.Option.{Option, none, some}
+use mathlib.Core.List.{List, [], _∷_, _++_}
+use Prim.Native.Nat.{ℕ, zero, suc, _-_}
 use lib.Dec.{leb, ltb, eqb}
 use lib.ListN.{length}
 use Rattle.format.specs.Format.{Fmt}
@@ -10,7 +12,7 @@ use Rattle.calendar.specs.declared.Stamp.{Stamp}
 use Rattle.container.specs.declared.Qos.{Qos}
 use Rattle.container.specs.declared.Container.{Container}
 use Rattle.container.specs.Qos.{sameQos}
-use Rattle.container.specs.Container.{containerOk, ContainerCodec}
+use Rattle.container.specs.Container.{containerOk, ContainerCodec, noContainer}
 
 -- every container's values are as they must be
 unfoldable pub eachOk : List Container → Bool
@@ -56,3 +58,29 @@ ListCodec = Many 0x30 ContainerCodec tt 1 15
 
 unfoldable pub containers : Fmt (List Container)
 containers = ListCodec .fmt
+
+-- ---- a list in an array of 15
+
+-- n containers with nothing counted
+unfoldable pub noContainers : ℕ → List Container
+noContainers zero = []
+noContainers (suc n) = noContainer ∷ noContainers n
+
+-- a list filled up to 15
+abbrev pub padded : List Container → List Container
+padded cs = cs ++ noContainers (15 - length cs)
+
+-- is something there; and the list, none where there is none
+abbrev pub isThere : Option (List Container) → Bool
+isThere none = false
+isThere (some cs) = true
+
+abbrev pub listed : Option (List Container) → List Container
+listed none = []
+listed (some cs) = cs
+
+-- What the reader of lists answers, where the octets are the list o: whether there is one, how many it has, and they.
+pub record Listed (o : Option (List Container)) (ok : Bool) (n : ℕ) (v : List Container) : Type 0 where
+  pub found : ok ≡ isThere o
+  pub count : n ≡ length (listed o)
+  pub values : v ≡ padded (listed o)

@@ -2,6 +2,7 @@
 // has. The S-CDR of the SGSN and the G-CDR of the gateway share them.
 //
 // No public function has a `requires`: each answers for every input.
+pub mod list;
 pub mod profile;
 pub mod single;
 pub mod stamp;

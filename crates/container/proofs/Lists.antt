@@ -1,0 +1,243 @@
+-- The list of containers, read and written in a loop. Assumes nothing.
+use mathlib.Core.Path.{_≡_, refl, sym, ap, subst, _∙_}
+use mathlib.Core.Bool.{Bool, true, false, _&&_}
+use mathlib.Core.Option.{Option, none, some}
+use mathlib.Core.List.{List, [], _∷_, _++_, append-assoc, append-nil}
+use Prim.Native.Nat.{ℕ, zero, suc, _+_, _-_, _*_, _≤_, _<_}
+use native.Mathlib.Numerals.{add-one}
+use native.Mathlib.Nat.{le-of-suc-le-suc, not-suc-le-zero}
+use native.Mathlib.Omega.{arith}
+use lib.Dec.{T, leb, ltb}
+use lib.ListN.{length, take, drop, getD, set, length-set, take-append-drop, length-append}
+use lib.Seq.{take-suc, take-suc-set, getD-take, length-take-le, drop-set-lt, drop-drop, take-at}
+use borrow.Author.Tests.{lt-ltb, ltb-true, ltb-false, le-leb, lt-leb}
+use borrow.Rule.Slice.PartMut.{midOf, putMid}
+use Rattle.format.specs.Maybe.{bind, guard}
+use Rattle.format.specs.Format.{Fmt}
+use Rattle.format.proofs.Tests.{by, either, T-true, true-T, and-l, and-r, and-i}
+use Rattle.format.proofs.Maybe.{bind-bind, bind-same, guard-yes}
+use Rattle.ber.specs.Tlv.{tlvEnc}
+use Rattle.ber.specs.Field.{first, runDec, runEnc}
+use Rattle.ber.specs.Read.{nowhere}
+use Rattle.ber.specs.Write.{put, Puts}
+use Rattle.ber.proofs.Tlvs.{tlv-fits}
+use Rattle.ber.proofs.Readers.{Got, Rest, rest-whole, run-end, run-past, run-full, run-more}
+use Rattle.ber.proofs.Writers.{Put, put-then, put-is, put-part, part-room, puts-is, puts-room, wrote-none}
+use Rattle.container.specs.declared.Container.{Container}
+use Rattle.container.specs.Container.{containerOk, container, noContainer}
+use Rattle.container.specs.List.{eachOk, containers, noContainers, padded, Listed}
+use Rattle.container.proofs.Goods.{container-law, container-good, container-most, containers-law, containers-most, each-good}
+use Rattle.container.proofs.Fields.{Filled}
+
+-- ---- tests of a front
+
+-- both tests of a loop, as it goes on and as it stops
+pub both : (a b : Bool) → (a && b) ≡ true → (a ≡ true) × (b ≡ true)
+both true b h = (refl, h)
+both false b h = absurd (subst T (sym h) tt)
+
+pub not-both : (a b : Bool) → (a && b) ≡ false → a ≡ true → b ≡ false
+not-both true b h e = h
+not-both false b h e = absurd (subst T (sym e) tt)
+
+-- ---- reading
+
+module _ (s : List ℕ) where
+  -- n were read into v, up to a place: what stands there, after them, is what stands at the front; the rest of v is blank
+  pub record SoFar (v : List Container) (n at : ℕ) : Type 0 where
+    pub most : n ≤ 15
+    pub size : length v ≡ 15
+    pub blank : drop n v ≡ noContainers (15 - n)
+    pub rest : (o : Option (List Container)) → Rest (runDec 0x30 container (15 - n)) s at o → Rest (runDec 0x30 container 15) s 0 (bind o (λ vs. some (take n v ++ vs)))
+
+  bind-id : (o : Option (List Container)) → bind o (λ vs. some vs) ≡ o
+  bind-id none = refl
+  bind-id (some vs) = refl
+
+  pub sofar-none : (v : List Container) → length v ≡ 15 → v ≡ noContainers 15 → SoFar v 0 0
+  sofar-none v l e = record { most = omega arith; size = l; blank = e; rest = λ o r. rw (bind-id o) r }
+
+  one-less : (k : ℕ) → drop 1 (noContainers (suc k)) ≡ noContainers k
+  unfolding noContainers
+  one-less k = refl
+
+  pub sofar-more : {v : List Container} {n at m : ℕ} {c : Container} → SoFar v n at → at < length s → n < 15 → Got (first 0x30 container) s at c m → SoFar (set v n c) (n + 1) m
+  sofar-more {v} {n} {at} {m} {c} f h k g =
+      let e : suc (15 - (n + 1)) ≡ 15 - n = omega arith in
+      record {
+        most = omega arith;
+        size = length-set v n c ∙ f .size;
+        blank = drop-set-lt (n + 1) v n c (omega arith) ∙ sym (drop-drop 1 n v) ∙ ap (drop 1) (f .blank ∙ ap noContainers (sym e)) ∙ one-less (15 - (n + 1));
+        rest = λ o r.
+            let q = subst (λ (j : ℕ). Rest (runDec 0x30 container j) s at (bind o (λ vs. some (c ∷ vs)))) e (run-more 0x30 container s (15 - (n + 1)) at h g r) in
+            let w : take (n + 1) (set v n c) ≡ take n v ++ (c ∷ []) = rw (add-one, take-suc-set v n c (omega (arith, f .size))) in
+            subst (λ (z : Option (List Container)). Rest (runDec 0x30 container 15) s 0 z)
+            (bind-bind o (λ vs. some (c ∷ vs)) (λ vs. some (take n v ++ vs))
+            ∙ bind-same o _ (λ vs. some (take (n + 1) (set v n c) ++ vs))
+            (λ vs. ap {B = Option (List Container)} some (sym (append-assoc (take n v) (c ∷ []) vs) ∙ ap (λ (z : List Container). z ++ vs) (sym w))))
+            (f .rest (bind o (λ vs. some (c ∷ vs))) q);
+      }
+
+  module _ {v : List Container} {n at : ℕ} (f : SoFar v n at) where
+    -- all of s was read
+    whole : at ≡ length s → runDec 0x30 container 15 s ≡ some (take n v)
+    whole e =
+        rest-whole (subst (λ (z : List Container). Rest (runDec 0x30 container 15) s 0 (some z)) (append-nil (take n v)) (f .rest (some []) (run-end 0x30 container s (15 - n) at e)))
+
+    count : length (take n v) ≡ n
+    count = length-take-le n v (omega (arith, f .most, f .size))
+
+    -- a container was not there, or 15 were and more octets are
+    pub list-cut : (at ≡ length s → ⊥) → (at < length s → 15 ≤ n) → containers .dec s ≡ none
+    unfolding containers container
+    list-cut e h =
+        rw (rest-whole
+        (either (length s) at
+        (λ g. f .rest none (run-past 0x30 container s (15 - n) at (either at (length s) (λ u. absurd (e (omega arith))) (λ u. u))))
+        (λ g. let z : 0 ≡ 15 - n = omega (arith, h g, f .most) in
+        f .rest none (subst (λ (j : ℕ). Rest (runDec 0x30 container j) s at none) z (run-full 0x30 container s at g)))))
+
+    -- none is too few
+    pub list-empty : at ≡ length s → n < 1 → containers .dec s ≡ none
+    unfolding containers container
+    list-empty e h = rw (whole e, lt-leb 1 (length (take n v)) (omega (arith, count)))
+
+    list-some : at ≡ length s → 1 ≤ n → containers .dec s ≡ some (take n v)
+    unfolding containers container
+    list-some e h = rw (whole e, le-leb 1 (length (take n v)) (omega (arith, count)))
+
+    pub list-there : at ≡ length s → 1 ≤ n → Listed (containers .dec s) true n v
+    list-there e h =
+        let d : containers .dec s ≡ some (take n v) = list-some e h in
+        record {
+          found = rw d;
+          count = rw d (sym count);
+          values = rw (d, count) (sym (take-append-drop n v) ∙ ap (λ (z : List Container). take n v ++ z) (f .blank));
+        }
+
+  pub listed-none : {ok : Bool} {n : ℕ} {v : List Container} → containers .dec s ≡ none → (ok ≡ false) × (n ≡ 0) × (v ≡ noContainers 15) → Listed (containers .dec s) ok n v
+  listed-none d h = record { found = rw d (h .0); count = rw d (h .1); values = rw d (h .2) }
+
+-- ---- writing
+
+run-append : (a b : List Container) → runEnc 0x30 container (a ++ b) ≡ runEnc 0x30 container a ++ runEnc 0x30 container b
+run-append [] b = refl
+run-append (c ∷ a) b =
+    ap (λ (l : List ℕ). tlvEnc 0x30 (container .enc c) ++ l) (run-append a b)
+    ∙ sym (append-assoc (tlvEnc 0x30 (container .enc c)) (runEnc 0x30 container a) (runEnc 0x30 container b))
+
+each-snoc : (cs : List Container) (c : Container) → T (eachOk cs) → T (containerOk c) → T (eachOk (cs ++ c ∷ []))
+unfolding eachOk
+each-snoc [] c t u = and-i (containerOk c) true u tt
+each-snoc (d ∷ cs) c t u =
+    and-i (containerOk d) (eachOk (cs ++ c ∷ [])) (and-l (containerOk d) (eachOk cs) t) (each-snoc cs c (and-r (containerOk d) (eachOk cs) t) u)
+
+pub each-at : (cs : List Container) (i : ℕ) (d : Container) → T (eachOk cs) → i < length cs → T (containerOk (getD cs i d))
+unfolding eachOk
+each-at [] i d t h = absurd (not-suc-le-zero h)
+each-at (c ∷ cs) zero d t h = and-l (containerOk c) (eachOk cs) t
+each-at (c ∷ cs) (suc i) d t h = each-at cs i d (and-r (containerOk c) (eachOk cs) t) (le-of-suc-le-suc h)
+
+-- a container with tag and length takes 55 octets at most
+pub container-fits : (c : Container) → T (containerOk c) → length (tlvEnc 0x30 (container .enc c)) ≤ 55
+container-fits c t =
+    let h = container-law .fits c (container-good c t) in
+    tlv-fits 0x30 (container .enc c) 53 (omega (arith, container-most))
+
+-- A writer of x, where a test passes, that was lent the part of b from a on.
+module _ (t : Bool) (x b : List ℕ) (a m : ℕ) {ys : List ℕ} {k : ℕ} (e : length b ≡ m) (p : Puts (guard t x) (midOf a (m - a) b) ys 0 k) where
+  -- it answered another place than nowhere: the test passed
+  pub part-yes : (k ≡ nowhere → ⊥) → t ≡ true
+  unfolding put
+  part-yes n = by t (λ y. y) (λ y. absurd (n (ap (λ (z : List ℕ × ℕ). z .1) (puts-is {y = none} (rw y) p .is))))
+
+  -- the test passed, and there was room: x was put
+  pub part-put : t ≡ true → a + length x ≤ m → Put x b (putMid a (m - a) b ys) a (a + k)
+  part-put y r =
+      subst (λ (m : ℕ). Puts (guard t x) (midOf a (m - a) b) ys 0 k → Put x b (putMid a (m - a) b ys) a (a + k)) e
+      (λ p. put-part b a (omega arith) (puts-room (omega (arith, part-room b a (length x) (omega arith))) (puts-is (rw y) p))) p
+
+  -- there was room, and it answered nowhere: the test failed
+  pub part-not : (t ≡ true → a + length x ≤ m) → m < nowhere → k ≡ nowhere → t ≡ false
+  part-not r n h = by t (λ y. absurd (omega (arith, part-put y (r y) .end, r y))) (λ y. y)
+
+-- the first i containers of v are as they must be, and stand at the front of an array that was z
+pub record Filling (v : List Container) (i : ℕ) (z b : List ℕ) (end : ℕ) : Type 0 where
+  pub good : T (eachOk (take i v))
+  pub room : length b ≡ 825
+  pub short : end ≤ 55 * i
+  pub front : Put (runEnc 0x30 container (take i v)) z b 0 end
+
+pub filling-none : (v : List Container) (z : List ℕ) → length z ≡ 825 → Filling v 0 z z 0
+unfolding eachOk
+filling-none v z e = record { good = tt; room = e; short = omega arith; front = wrote-none .room (omega arith) }
+
+module _ {v : List Container} {i : ℕ} {z b ys : List ℕ} {end k : ℕ} (f : Filling v i z b end) (d : Container) (h : i < length v) (h′ : i < 15)
+    (p : Puts (guard (containerOk (getD v i d)) (tlvEnc 0x30 (container .enc (getD v i d)))) (midOf end (825 - end) b) ys 0 k) where
+  abbrev next : List ℕ
+  next = tlvEnc 0x30 (container .enc (getD v i d))
+
+  fits : containerOk (getD v i d) ≡ true → end + length next ≤ 825
+  fits y = omega (arith, container-fits (getD v i d) (true-T _ y), f .short)
+
+  -- one more
+  module _ (n : k ≡ nowhere → ⊥) where
+    ok : containerOk (getD v i d) ≡ true
+    ok = part-yes (containerOk (getD v i d)) next b end 825 (f .room) p n
+
+    put-next : Put next b (putMid end (825 - end) b ys) end (end + k)
+    put-next = part-put (containerOk (getD v i d)) next b end 825 (f .room) p ok (fits ok)
+
+    pub filling-room : end + k ≤ 825
+    filling-room = omega (arith, put-next .fits, f .room)
+
+    pub filling-more : Filling v (i + 1) z (putMid end (825 - end) b ys) (end + k)
+    filling-more =
+        let q = put-next in
+        let w : take (i + 1) v ≡ take i v ++ (getD v i d ∷ []) = rw (add-one, take-suc v i d h) in
+        let x : runEnc 0x30 container (take (i + 1) v) ≡ runEnc 0x30 container (take i v) ++ next =
+        ap (runEnc 0x30 container) w ∙ run-append (take i v) (getD v i d ∷ []) ∙ ap (λ (l : List ℕ). runEnc 0x30 container (take i v) ++ l) (append-nil next) in
+        record {
+          good = rw w (each-snoc (take i v) (getD v i d) (f .good) (true-T _ ok));
+          room = q .same ∙ f .room;
+          short = omega (arith, q .end, container-fits (getD v i d) (true-T _ ok), f .short);
+          front = put-is (sym x) (put-then (f .front) q);
+        }
+
+  -- one is not as it must be, so that the first n are not
+  pub filling-bad : (n : ℕ) → i < n → n ≤ length v → k ≡ nowhere → eachOk (take n v) ≡ false
+  filling-bad n l m q =
+      let o = part-not (containerOk (getD v i d)) next b end 825 (f .room) p fits (omega arith) q in
+      by (eachOk (take n v))
+      (λ y. absurd (subst T (ap containerOk (getD-take n v i d l) ∙ o) (each-at (take n v) i d (true-T _ y) (omega (arith, length-take-le n v m)))))
+      (λ y. y)
+
+-- all n are there
+module _ {v : List Container} {i : ℕ} {z b : List ℕ} {end : ℕ} (f : Filling v i z b end) (n : ℕ) (e : i ≡ n) where
+  pub filling-ok : eachOk (take n v) ≡ true
+  filling-ok = rw e at (T-true (eachOk (take i v)) (f .good))
+
+  pub filling-all : 1 ≤ n → n ≤ 15 → n ≤ length v → Filled (containers .enc (take n v)) 825 b end
+  unfolding containers container
+  filling-all l h r =
+      let c = length-take-le n v r in
+      let p : Put (runEnc 0x30 container (take n v)) z b 0 end = rw e at (f .front) in
+      let m = containers-law .fits (take n v) (each-good (take n v) (true-T _ filling-ok) (omega arith) (omega arith)) in
+      record {
+        front = ap (take end) (p .buf) ∙ take-at (runEnc 0x30 container (take n v)) (drop end z) end (omega (arith, p .end));
+        size = omega (arith, p .end);
+        most = omega (arith, containers-most);
+        inside = omega (arith, p .fits, p .same);
+      }
+
+-- ---- how many there may be
+
+module _ (n : ℕ) (t : Bool) where
+  pub few : n < 1 → (leb 1 n && leb n 15 && t) ≡ false
+  few h = rw (lt-leb 1 n h)
+
+  pub many : 1 ≤ n → 15 < n → (leb 1 n && leb n 15 && t) ≡ false
+  many g h = rw (le-leb 1 n g, lt-leb n 15 h)
+
+  pub right : 1 ≤ n → n ≤ 15 → (leb 1 n && leb n 15 && t) ≡ t
+  right g h = rw (le-leb 1 n g, le-leb n 15 h)

@@ -1,0 +1,77 @@
+// The list of containers, read and written.
+use crate::Container;
+use crate::single;
+use ber::tlv;
+ghost use mathlib.Core.Path.{_≡_};
+ghost use mathlib.Core.Bool.{false, _&&_};
+ghost use lib.Dec.{leb};
+ghost use lib.ListN.{take};
+ghost use Rattle.format.specs.Maybe.{guard};
+ghost use Rattle.ber.specs.Tlv.{tlvEnc};
+ghost use Rattle.ber.specs.Write.{Puts};
+ghost use Rattle.container.specs.List.{eachOk, containers, Listed, noContainers};
+
+// What octets are the list of: n containers at the start of v, and blank ones after. None of them (n = 0) where ok is false.
+pub struct ListOf {
+    pub ok: bool,
+    pub n: usize,
+    pub v: [Container; 15],
+}
+
+// The list whose octets s is, all of s.
+pub fn list_of(s: &[u8]) -> ListOf
+    ensures { λ r. ⌜ Listed (containers .dec (now (s .entry))) (r .ok) (r .n) (r .v) ⌝ }
+{
+    let blank = single::no_container();
+    let mut v = [blank; 15];
+    let mut n: usize = 0;
+    let mut at: usize = 0;
+    while (at < s.len()) & (n < 15) {
+        let c = single::container_at(s, at);
+        let x = c.v;
+        v[n] = x;
+        n += 1;
+        at = c.next;
+    }
+    if at != s.len() {
+        return no_list();
+    }
+    if n < 1 {
+        return no_list();
+    }
+    ListOf { ok: true, n, v }
+}
+
+// The answer to octets that are no list.
+fn no_list() -> ListOf
+    ensures { λ r. ⌜ (r .ok ≡ false) × (r .n ≡ 0) × (r .v ≡ noContainers 15) ⌝ }
+{
+    let blank = single::no_container();
+    let v = [blank; 15];
+    ListOf { ok: false, n: 0, v }
+}
+
+// The first n containers of v, one after another under the tag, at a place of out. Not written where n is not 1 to 15, or one of
+// them is not as it must be.
+pub fn put_list(out: &mut [u8], at: usize, tag: u8, v: [Container; 15], n: usize) -> usize
+    ensures { λ r. ⌜ Puts (guard (leb 1 n && leb n 15 && eachOk (take n v)) (tlvEnc tag (containers .enc (take n v)))) (now (out .entry)) (now (out .exit)) at r ⌝ }
+{
+    if n < 1 {
+        return ber::NOWHERE;
+    }
+    if 15 < n {
+        return ber::NOWHERE;
+    }
+    let mut list = [0u8; 825];
+    let mut i: usize = 0;
+    let mut end: usize = 0;
+    while i < n {
+        let k = single::put_container(&mut list[end..], v[i]);
+        if k == ber::NOWHERE {
+            return ber::NOWHERE;
+        }
+        end += k;
+        i += 1;
+    }
+    tlv::put_tlv(out, at, tag, &list[..end])
+}
