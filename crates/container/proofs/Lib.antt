@@ -1,3 +1,4 @@
 pub mod Goods
 pub mod Fields
 pub mod Lists
+pub mod Turns

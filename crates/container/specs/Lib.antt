@@ -1,3 +1,4 @@
 pub mod Qos
 pub mod Container
 pub mod List
+pub mod Turns

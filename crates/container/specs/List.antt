@@ -11,7 +11,7 @@ use Rattle.ber.proofs.Codec.{Codec, Many}
 use Rattle.calendar.specs.declared.Stamp.{Stamp}
 use Rattle.container.specs.declared.Qos.{Qos}
 use Rattle.container.specs.declared.Container.{Container}
-use Rattle.container.specs.Qos.{sameQos}
+use Rattle.container.specs.Qos.{sameQos, noQos}
 use Rattle.container.specs.Container.{containerOk, ContainerCodec, noContainer}
 
 -- every container's values are as they must be
@@ -84,3 +84,14 @@ pub record Listed (o : Option (List Container)) (ok : Bool) (n : ℕ) (v : List 
   pub found : ok ≡ isThere o
   pub count : n ≡ length (listed o)
   pub values : v ≡ padded (listed o)
+
+-- a container of which every field is zero
+unfoldable pub isBlank : Container → Bool
+isBlank c =
+    sameQos (c .qos) noQos && eqb (c .uplink) 0 && eqb (c .downlink) 0 && eqb (c .condition) 0
+    && eqb (c .time .seconds) 0 && eqb (c .time .zone) 0
+
+-- each is such a one
+unfoldable pub blanks : List Container → Bool
+blanks [] = true
+blanks (c ∷ cs) = isBlank c && blanks cs

@@ -4,8 +4,10 @@
 // No public function has a `requires`: each answers for every input.
 pub mod list;
 pub mod profile;
+pub mod rules;
 pub mod single;
 pub mod stamp;
+pub mod unused;
 
 // The QoS profile of a context: five numbers, each in its range.
 #[repr(C)]

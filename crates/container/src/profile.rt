@@ -36,7 +36,7 @@ pub struct QosAt {
 }
 
 // The profile that says nothing.
-fn no_qos() -> Qos
+pub fn no_qos() -> Qos
     ensures { λ r. ⌜ r ≡ noQos ⌝ }
 {
     Qos {

@@ -1,0 +1,20 @@
+-- `container::rules::stands` meets its contract: the code is the test. Assumes nothing.
+use mathlib.Core.Path.{ap}
+use mathlib.Core.Bool.{Bool, _&&_}
+use lib.Dec.{leb, eqb}
+use borrow.Author.Needs.{needs}
+use Rattle.container.specs.Turns.{stands}
+use Rattle.container.proofs.rules.stands.Statement.{statement}
+use Rattle.container.proofs.rules.stands.Tie as tie
+
+container-ok-requires : tie.Need-container-ok-requires
+container-ok-requires c κs = search needs
+
+returns : tie.Need-returns
+unfolding stands
+returns c =
+    let a = c .before .before .before .before .args in
+    ap (λ (x : Bool). x && eqb (a .c .time .zone) (a .zone) && leb (a .from) (a .c .time .seconds)) (c .before .before .container-ok .ensures)
+
+pub stands-spec : {M : Type 1} → statement M
+stands-spec = tie.close (tie.spec container-ok-requires returns)
