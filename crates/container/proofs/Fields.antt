@@ -2,13 +2,13 @@
 use mathlib.Core.Path.{_≡_, refl, sym, ap, subst, _∙_}
 use mathlib.Core.Bool.{Bool, true, false}
 use mathlib.Core.Option.{Option, none, some}
-use mathlib.Core.List.{List, [], _∷_, _++_}
+use mathlib.Core.List.{List, [], _∷_}
 use Prim.Native.Nat.{ℕ, _-_, _≤_, _<_}
 use native.Mathlib.Omega.{arith}
 use lib.Dec.{T}
 use lib.ListN.{length, take, drop}
 use Rattle.format.specs.Maybe.{guard}
-use Rattle.format.specs.Format.{Fmt, octet, mapped}
+use Rattle.format.specs.Format.{octet, mapped}
 use Rattle.format.proofs.Maybe.{guard-yes}
 use Rattle.ber.specs.Int.{int, intEnc}
 use Rattle.ber.specs.Tlv.{tlvEnc, tlvForm}

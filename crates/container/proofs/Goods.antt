@@ -1,13 +1,13 @@
 -- Which values have a form: those that the tests of specs/ take, and no others. The laws of the three formats, and how long their
 -- forms get. Assumes nothing.
-use mathlib.Core.Path.{_≡_, refl, sym, subst}
+use mathlib.Core.Path.{_≡_, refl, subst}
 use mathlib.Core.Bool.{Bool, true, _&&_}
 use mathlib.Core.List.{List, [], _∷_}
 use Prim.Native.Nat.{ℕ, _^_, _≤_, _<_}
 use native.Mathlib.Omega.{arith}
 use lib.Dec.{T, leb, ltb, eqb, ltb→lt, eqb→eq, eqb-refl}
 use lib.ListN.{length}
-use Rattle.format.specs.Format.{Fmt, Law}
+use Rattle.format.specs.Format.{Law}
 use Rattle.format.proofs.Tests.{T-true, true-T, and-l, and-r, and-i}
 use Rattle.ber.specs.Field.{runGood}
 use Rattle.ber.proofs.Ints.{int-good}

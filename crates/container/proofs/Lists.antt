@@ -7,15 +7,14 @@ use Prim.Native.Nat.{ℕ, zero, suc, _+_, _-_, _*_, _≤_, _<_}
 use native.Mathlib.Numerals.{add-one}
 use native.Mathlib.Nat.{le-of-suc-le-suc, not-suc-le-zero}
 use native.Mathlib.Omega.{arith}
-use lib.Dec.{T, leb, ltb}
-use lib.ListN.{length, take, drop, getD, set, length-set, take-append-drop, length-append}
+use lib.Dec.{T, leb}
+use lib.ListN.{length, take, drop, getD, set, length-set, take-append-drop}
 use lib.Seq.{take-suc, take-suc-set, getD-take, length-take-le, drop-set-lt, drop-drop, take-at}
-use borrow.Author.Tests.{lt-ltb, ltb-true, ltb-false, le-leb, lt-leb}
+use borrow.Author.Tests.{le-leb, lt-leb}
 use borrow.Rule.Slice.PartMut.{midOf, putMid}
 use Rattle.format.specs.Maybe.{bind, guard}
-use Rattle.format.specs.Format.{Fmt}
-use Rattle.format.proofs.Tests.{by, either, T-true, true-T, and-l, and-r, and-i}
-use Rattle.format.proofs.Maybe.{bind-bind, bind-same, guard-yes}
+use Rattle.format.proofs.Tests.{by, T-true, true-T, and-l, and-r, and-i}
+use Rattle.format.proofs.Maybe.{bind-bind, bind-same}
 use Rattle.ber.specs.Tlv.{tlvEnc}
 use Rattle.ber.specs.Field.{first, runDec, runEnc}
 use Rattle.ber.specs.Read.{nowhere}
@@ -24,21 +23,10 @@ use Rattle.ber.proofs.Tlvs.{tlv-fits}
 use Rattle.ber.proofs.Readers.{Got, Rest, rest-whole, run-end, run-past, run-full, run-more}
 use Rattle.ber.proofs.Writers.{Put, put-then, put-is, put-part, part-room, puts-is, puts-room, wrote-none}
 use Rattle.container.specs.declared.Container.{Container}
-use Rattle.container.specs.Container.{containerOk, container, noContainer}
-use Rattle.container.specs.List.{eachOk, containers, noContainers, padded, Listed}
+use Rattle.container.specs.Container.{containerOk, container}
+use Rattle.container.specs.List.{eachOk, containers, noContainers, Listed}
 use Rattle.container.proofs.Goods.{container-law, container-good, container-most, containers-law, containers-most, each-good}
 use Rattle.container.proofs.Fields.{Filled}
-
--- ---- tests of a front
-
--- both tests of a loop, as it goes on and as it stops
-pub both : (a b : Bool) → (a && b) ≡ true → (a ≡ true) × (b ≡ true)
-both true b h = (refl, h)
-both false b h = absurd (subst T (sym h) tt)
-
-pub not-both : (a b : Bool) → (a && b) ≡ false → a ≡ true → b ≡ false
-not-both true b h e = h
-not-both false b h e = absurd (subst T (sym e) tt)
 
 -- ---- reading
 
@@ -87,15 +75,17 @@ module _ (s : List ℕ) where
     count : length (take n v) ≡ n
     count = length-take-le n v (omega (arith, f .most, f .size))
 
-    -- a container was not there, or 15 were and more octets are
-    pub list-cut : (at ≡ length s → ⊥) → (at < length s → 15 ≤ n) → containers .dec s ≡ none
+    -- a container was not there
+    pub list-cut : length s < at → containers .dec s ≡ none
     unfolding containers container
-    list-cut e h =
-        rw (rest-whole
-        (either (length s) at
-        (λ g. f .rest none (run-past 0x30 container s (15 - n) at (either at (length s) (λ u. absurd (e (omega arith))) (λ u. u))))
-        (λ g. let z : 0 ≡ 15 - n = omega (arith, h g, f .most) in
-        f .rest none (subst (λ (j : ℕ). Rest (runDec 0x30 container j) s at none) z (run-full 0x30 container s at g)))))
+    list-cut h = rw (rest-whole (f .rest none (run-past 0x30 container s (15 - n) at h)))
+
+    -- 15 are, and more octets
+    pub list-long : at < length s → 15 ≤ n → containers .dec s ≡ none
+    unfolding containers container
+    list-long h k =
+        let z : 0 ≡ 15 - n = omega (arith, f .most) in
+        rw (rest-whole (f .rest none (subst (λ (j : ℕ). Rest (runDec 0x30 container j) s at none) z (run-full 0x30 container s at h))))
 
     -- none is too few
     pub list-empty : at ≡ length s → n < 1 → containers .dec s ≡ none

@@ -1,24 +1,23 @@
 -- The rules of a list, tested one container after another: what the loops find, and that it is the rules of specs/List.antt; and
 -- the places that are not used. Assumes nothing.
-use mathlib.Core.Path.{_≡_, refl, sym, ap, ap₂, subst, _∙_}
+use mathlib.Core.Path.{_≡_, refl, sym, ap, ap₂, _∙_}
 use mathlib.Core.Bool.{Bool, true, false, not, _&&_, Bool·beq}
 use mathlib.Core.List.{List, [], _∷_}
 use Prim.Native.Nat.{ℕ, zero, suc, _+_, _≤_, _<_}
 use native.Mathlib.Numerals.{add-one}
 use native.Mathlib.Omega.{arith}
-use lib.Dec.{T, leb, ltb, eqb, eqb→eq}
+use lib.Dec.{leb, ltb, eqb, eqb→eq}
 use lib.ListN.{length, take, drop, getD, drop-of-length-le, length-drop}
 use lib.Seq.{drop-cons, getD-take, length-take-le}
 use borrow.Author.Tests.{le-leb, lt-leb}
 use Rattle.format.proofs.Tests.{T-true, true-T, and-l, and-r}
 use Rattle.calendar.specs.declared.Stamp.{Stamp}
-use Rattle.container.specs.declared.Qos.{Qos}
 use Rattle.container.specs.declared.Container.{Container}
 use Rattle.container.specs.Qos.{sameQos, noQos}
 use Rattle.container.specs.Container.{containerOk, noContainer}
 use Rattle.container.specs.List.{eachOk, lastAlone, oneOffset, inOrder, changes, qosRule, listOk, isBlank, blanks, noContainers}
 use Rattle.container.specs.Turns.{stands, allStand, follows, allFollow, lastEnds}
-use Rattle.container.proofs.Goods.{same-qos, qos-same}
+use Rattle.container.proofs.Goods.{same-qos}
 
 -- ---- the loops: one container more
 

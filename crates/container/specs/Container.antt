@@ -1,5 +1,5 @@
 -- A container (12.15's ChangeOfCharCondition): values and octets. Every container carries its QoS. Assumes nothing.
-use mathlib.Core.Path.{_≡_, refl}
+use mathlib.Core.Path.{refl}
 use mathlib.Core.Bool.{Bool, _&&_}
 use Prim.Native.Nat.{ℕ, _^_}
 use lib.Dec.{leb, ltb}

@@ -1,9 +1,9 @@
 -- The QoS profile (12.15's QoSInformation): values and octets. Assumes nothing.
-use mathlib.Core.Path.{_≡_, refl}
+use mathlib.Core.Path.{refl}
 use mathlib.Core.Bool.{Bool, _&&_}
 use Prim.Native.Nat.{ℕ}
 use lib.Dec.{leb, eqb}
-use Rattle.format.specs.Format.{Fmt, refined, mapped}
+use Rattle.format.specs.Format.{Fmt}
 use Rattle.ber.proofs.Codec.{Codec, Octet, End, Field, As, Where}
 use Rattle.container.specs.declared.Qos.{Qos}
 

@@ -26,7 +26,10 @@ pub fn list_of(s: &[u8]) -> ListOf
     let mut v = [blank; 15];
     let mut n: usize = 0;
     let mut at: usize = 0;
-    while (at < s.len()) & (n < 15) {
+    while at < s.len() {
+        if 15 <= n {
+            return no_list();
+        }
         let c = single::container_at(s, at);
         let x = c.v;
         v[n] = x;

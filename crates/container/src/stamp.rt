@@ -3,7 +3,6 @@ use ber::tlv;
 use ber::tlv::Part;
 use calendar::Stamp;
 use calendar::StampRead;
-ghost use mathlib.Core.Path.{_≡_};
 ghost use Rattle.format.specs.Maybe.{guard};
 ghost use Rattle.ber.specs.Tlv.{tlvEnc};
 ghost use Rattle.ber.specs.Field.{first};

@@ -1,17 +1,13 @@
--- `container::list::list_of` meets its contract: a law for each answer. The loop's invariant: what was read so far, and what is left, are
--- the whole. Assumes nothing.
-use mathlib.Core.Path.{_≡_, refl}
-use mathlib.Core.List.{List}
-use Prim.Native.Nat.{ℕ, _-_}
+-- `container::list::list_of` meets its contract: a law for each answer. The loop's invariant: what was read so far and what is left
+-- are the whole. Assumes nothing.
+use mathlib.Core.Path.{refl}
+use Prim.Native.Nat.{_-_}
 use native.Mathlib.Omega.{arith}
-use lib.Dec.{ltb}
-use lib.ListN.{length}
 use borrow.Author.Needs.{needs}
-use borrow.Author.Tests.{ltb-true, ltb-false, lt-ltb}
 use Rattle.ber.proofs.Readers.{got, first-leaves}
 use Rattle.container.specs.Container.{container}
 use Rattle.container.specs.List.{noContainers}
-use Rattle.container.proofs.Lists.{both, not-both, SoFar, sofar-none, sofar-more, list-cut, list-empty, list-there, listed-none}
+use Rattle.container.proofs.Lists.{SoFar, sofar-none, sofar-more, list-cut, list-long, list-empty, list-there, listed-none}
 use Rattle.container.proofs.list.list_of.Statement.{statement}
 use Rattle.container.proofs.list.list_of.Tie as tie
 
@@ -28,51 +24,55 @@ loop-holds : tie.Need-loop-holds Inv-loop μ-loop
 unfolding noContainers
 loop-holds c = sofar-none (c .before .before .args .s .now) _ refl (rw (c .no-container .ensures))
 
-container-at-requires : tie.Need-container-at-requires Inv-loop μ-loop
-container-at-requires c κs = search needs
-
-mul-v : tie.Need-mul-v Inv-loop μ-loop
-mul-v c = let t = both (ltb (c .before .before .before .loop .at) (length (c .before .before .before .before .before .before .args .s .now))) (ltb (c .before .before .before .loop .n) 15) (c .before .before .loop-test .taken) in search needs
-
-array-set-from-v : tie.Need-array-set-from-v Inv-loop μ-loop
-array-set-from-v c = let t = both (ltb (c .before .before .before .loop .at) (length (c .before .before .before .before .before .before .args .s .now))) (ltb (c .before .before .before .loop .n) 15) (c .before .before .loop-test .taken) in search needs
-
-add-n : tie.Need-add-n Inv-loop μ-loop
-add-n c = let t = both (ltb (c .before .before .before .loop .at) (length (c .before .before .before .before .before .before .args .s .now))) (ltb (c .before .before .before .loop .n) 15) (c .before .before .loop-test .taken) in omega (arith, ltb-true)
-
-loop-less : tie.Need-loop-less Inv-loop μ-loop
-loop-less c = let t = both (ltb (c .before .before .before .loop .at) (length (c .before .before .before .before .before .before .args .s .now))) (ltb (c .before .before .before .loop .n) 15) (c .before .before .loop-test .taken) in omega (arith, ltb-true)
-
-loop-again : tie.Need-loop-again Inv-loop μ-loop
-loop-again c =
-    let s = c .before .before .before .before .before .before .args .s .now in
-    let l = c .before .before .before .loop in
-    let t = both (ltb (l .at) (length s)) (ltb (l .n) 15) (c .before .before .loop-test .taken) in
-    sofar-more s (l .inv) (ltb-true (l .at) (length s) (t .0)) (ltb-true (l .n) 15 (t .1)) (got (first-leaves 0x30 container) (omega (arith, c .before .before .before .before .before .before .good .0 .1)) (c .before .container-at .ensures))
-
 no-list-requires : tie.Need-no-list-requires Inv-loop μ-loop
 no-list-requires c κs = search needs
 
 returns : tie.Need-returns Inv-loop μ-loop
 returns c =
     let s = c .before .before .before .before .before .before .args .s .now in
-    let l = c .before .before .before .loop in
-    listed-none s (list-cut s (l .inv) (c .before .if1 .taken) (λ g. ltb-false (l .n) 15 (not-both (ltb (l .at) (length s)) (ltb (l .n) 15) (c .before .before .loop-test .left) (lt-ltb (l .at) (length s) g)))) (c .no-list .ensures)
+    listed-none s (list-long s (c .before .before .before .loop .inv) (c .before .before .loop-test .taken) (c .before .if1 .taken)) (c .no-list .ensures)
+
+container-at-requires : tie.Need-container-at-requires Inv-loop μ-loop
+container-at-requires c κs = search needs
+
+mul-v : tie.Need-mul-v Inv-loop μ-loop
+mul-v c = search needs
+
+array-set-from-v : tie.Need-array-set-from-v Inv-loop μ-loop
+array-set-from-v c = search needs
+
+add-n : tie.Need-add-n Inv-loop μ-loop
+add-n c = search needs
+
+loop-less : tie.Need-loop-less Inv-loop μ-loop
+loop-less c = search needs
+
+loop-again : tie.Need-loop-again Inv-loop μ-loop
+loop-again c =
+    let s = c .before .before .before .before .before .before .before .args .s .now in
+    let l = c .before .before .before .before .loop in
+    sofar-more s (l .inv) (c .before .before .before .loop-test .taken) (c .before .before .if1 .left) (got (first-leaves 0x30 container) (omega (arith, c .before .before .before .before .before .before .before .good .0 .1)) (c .before .container-at .ensures))
 
 no-list-requires-2 : tie.Need-no-list-requires-2 Inv-loop μ-loop
 no-list-requires-2 c κs = search needs
 
 returns-2 : tie.Need-returns-2 Inv-loop μ-loop
 returns-2 c =
-    let s = c .before .before .before .before .before .before .before .args .s .now in
-    let l = c .before .before .before .before .loop in
-    listed-none s (list-empty s (l .inv) (c .before .before .if1 .left) (c .before .if2 .taken)) (c .no-list2 .ensures)
+    let s = c .before .before .before .before .before .before .args .s .now in
+    listed-none s (list-cut s (c .before .before .before .loop .inv) (omega (arith, c .before .before .loop-test .left, c .before .if2 .taken))) (c .no-list2 .ensures)
+
+no-list-requires-3 : tie.Need-no-list-requires-3 Inv-loop μ-loop
+no-list-requires-3 c κs = search needs
 
 returns-3 : tie.Need-returns-3 Inv-loop μ-loop
 returns-3 c =
+    let s = c .before .before .before .before .before .before .before .args .s .now in
+    listed-none s (list-empty s (c .before .before .before .before .loop .inv) (c .before .before .if2 .left) (c .before .if3 .taken)) (c .no-list3 .ensures)
+
+returns-4 : tie.Need-returns-4 Inv-loop μ-loop
+returns-4 c =
     let s = c .before .before .before .before .before .before .args .s .now in
-    let l = c .before .before .before .loop in
-    list-there s (l .inv) (c .before .if1 .left) (omega (arith, c .if2 .left))
+    list-there s (c .before .before .before .loop .inv) (c .before .if2 .left) (c .if3 .left)
 
 pub list-of-spec : {M : Type 1} → statement M
 list-of-spec =
@@ -82,14 +82,16 @@ list-of-spec =
     μ-loop
     no-container-requires
     loop-holds
+    no-list-requires
+    returns
     container-at-requires
     mul-v
     array-set-from-v
     add-n
     loop-less
     loop-again
-    no-list-requires
-    returns
     no-list-requires-2
     returns-2
-    returns-3)
+    no-list-requires-3
+    returns-3
+    returns-4)

@@ -1,14 +1,12 @@
 -- `container::list::put_list` meets its contract. The loop's invariant: the first i containers are as they must be, and stand at the front
 -- of the array; each is written into the part after them. Assumes nothing.
-use mathlib.Core.Path.{_≡_, refl, sym, subst, _∙_}
+use mathlib.Core.Path.{_≡_, refl, _∙_}
 use mathlib.Core.Bool.{_&&_}
-use mathlib.Core.List.{List}
-use Prim.Native.Nat.{ℕ, _-_, _≤_}
+use Prim.Native.Nat.{_-_, _≤_}
 use native.Mathlib.Omega.{arith}
 use lib.Dec.{leb}
 use lib.ListN.{length, take}
 use borrow.Author.Needs.{needs}
-use Rattle.format.proofs.Tests.{T-true}
 use Rattle.ber.proofs.Writers.{puts-is}
 use Rattle.container.specs.List.{eachOk}
 use Rattle.container.proofs.Fields.{puts-not, ready, filled-count}

@@ -1,7 +1,7 @@
 -- `container::rules::list_ok` meets its contract: what the two loops find, and the last container's condition, are the rules. Assumes
 -- nothing.
 use mathlib.Core.Path.{_≡_}
-use Prim.Native.Nat.{ℕ, _-_}
+use Prim.Native.Nat.{_-_}
 use native.Mathlib.Omega.{arith}
 use lib.ListN.{length}
 use borrow.Author.Needs.{needs}
