@@ -5,18 +5,19 @@ use mathlib.Core.Bool.{Bool, true, _&&_}
 use mathlib.Core.List.{List, [], _∷_}
 use Prim.Native.Nat.{ℕ, _^_, _≤_, _<_}
 use native.Mathlib.Omega.{arith}
-use lib.Dec.{T, leb, ltb, eqb, ltb→lt, eqb→eq, eqb-refl}
+use lib.Dec.{T, leb, ltb, eqb, leb→le, ltb→lt, eqb→eq, eqb-refl}
 use lib.ListN.{length}
 use Rattle.format.specs.Format.{Law}
 use Rattle.format.proofs.Tests.{T-true, true-T, and-l, and-r, and-i}
 use Rattle.ber.specs.Field.{runGood}
 use Rattle.ber.proofs.Ints.{int-good}
+use Rattle.calendar.specs.declared.Stamp.{Stamp}
 use Rattle.calendar.specs.Stamp.{stampOk}
 use Rattle.container.specs.declared.Qos.{Qos}
 use Rattle.container.specs.declared.Container.{Container}
 use Rattle.container.specs.Qos.{qosOk, sameQos, qos, QosCodec}
 use Rattle.container.specs.Container.{containerOk, container, ContainerCodec}
-use Rattle.container.specs.List.{eachOk, containers, ListCodec}
+use Rattle.container.specs.List.{eachOk, lastAlone, oneOffset, inOrder, qosRule, listOk, containers, ListCodec}
 
 -- five tests that all pass
 five : (a b c d e : Bool) → T (a && b && c && d && e) → T a × T b × T c × T d × T e
@@ -132,3 +133,16 @@ each-good cs t l h = (run-good cs t, l, h)
 pub good-each : (cs : List Container) → containers .good cs → T (eachOk cs) × (1 ≤ length cs) × (length cs ≤ 15)
 unfolding containers container
 good-each cs g = (good-run cs (g .0), g .1, g .2)
+
+-- what keeps the rules has a form
+pub list-good : (opening : Stamp) (cs : List Container) → T (listOk opening cs) → containers .good cs
+unfolding listOk
+list-good opening cs t =
+    let n = leb 1 (length cs) && leb (length cs) 15 in
+    let a = and-l (n && eachOk cs && lastAlone cs && oneOffset (opening .zone) cs && inOrder (opening .seconds) cs) (qosRule cs) t in
+    let b = and-l (n && eachOk cs && lastAlone cs && oneOffset (opening .zone) cs) (inOrder (opening .seconds) cs) a in
+    let c = and-l (n && eachOk cs && lastAlone cs) (oneOffset (opening .zone) cs) b in
+    let d = and-l (n && eachOk cs) (lastAlone cs) c in
+    let m = and-l n (eachOk cs) d in
+    each-good cs (and-r n (eachOk cs) d)
+    (leb→le 1 (length cs) (and-l (leb 1 (length cs)) (leb (length cs) 15) m)) (leb→le (length cs) 15 (and-r (leb 1 (length cs)) (leb (length cs) 15) m))

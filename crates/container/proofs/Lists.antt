@@ -9,7 +9,7 @@ use native.Mathlib.Nat.{le-of-suc-le-suc, not-suc-le-zero}
 use native.Mathlib.Omega.{arith}
 use lib.Dec.{T, leb}
 use lib.ListN.{length, take, drop, getD, set, length-set, take-append-drop}
-use lib.Seq.{take-suc, take-suc-set, getD-take, length-take-le, drop-set-lt, drop-drop, take-at}
+use lib.Seq.{take-suc, take-suc-set, getD-take, length-take-le, drop-set-lt, drop-drop, take-at, drop-at}
 use borrow.Author.Tests.{le-leb, lt-leb}
 use borrow.Rule.Slice.PartMut.{midOf, putMid}
 use Rattle.format.specs.Maybe.{bind, guard}
@@ -24,7 +24,7 @@ use Rattle.ber.proofs.Readers.{Got, Rest, rest-whole, run-end, run-past, run-fu
 use Rattle.ber.proofs.Writers.{Put, put-then, put-is, put-part, part-room, puts-is, puts-room, wrote-none}
 use Rattle.container.specs.declared.Container.{Container}
 use Rattle.container.specs.Container.{containerOk, container}
-use Rattle.container.specs.List.{eachOk, containers, noContainers, Listed}
+use Rattle.container.specs.List.{eachOk, containers, noContainers, listed, Listed}
 use Rattle.container.proofs.Goods.{container-law, container-good, container-most, containers-law, containers-most, each-good}
 use Rattle.container.proofs.Fields.{Filled}
 
@@ -107,6 +107,26 @@ module _ (s : List ℕ) where
 
   pub listed-none : {ok : Bool} {n : ℕ} {v : List Container} → containers .dec s ≡ none → (ok ≡ false) × (n ≡ 0) × (v ≡ noContainers 15) → Listed (containers .dec s) ok n v
   listed-none d h = record { found = rw d (h .0); count = rw d (h .1); values = rw d (h .2) }
+
+-- what who called the reader of lists knows
+pub listed-some : {o : Option (List Container)} {n : ℕ} {v : List Container} → Listed o true n v → o ≡ some (take n v)
+listed-some {o} {n} {v} r = go o r
+  where
+    go : (o : Option (List Container)) → Listed o true n v → o ≡ some (take n v)
+    go none r = absurd (subst T (r .found) tt)
+    go (some cs) r = ap {B = Option (List Container)} some (sym (ap (take n) (r .values) ∙ take-at cs (noContainers (15 - length cs)) n (sym (r .count))))
+
+pub listed-not : {o : Option (List Container)} {n : ℕ} {v : List Container} → Listed o false n v → o ≡ none
+listed-not {o} {n} {v} r = go o r
+  where
+    go : (o : Option (List Container)) → Listed o false n v → o ≡ none
+    go none r = refl
+    go (some cs) r = absurd (subst T (sym (r .found)) tt)
+
+-- the places after the list are blank
+pub listed-rest : {o : Option (List Container)} {ok : Bool} {n : ℕ} {v : List Container} → Listed o ok n v → drop n v ≡ noContainers (15 - n)
+listed-rest {o} {ok} {n} {v} r =
+    ap (drop n) (r .values) ∙ drop-at (listed o) (noContainers (15 - length (listed o))) n (sym (r .count)) ∙ ap (λ (k : ℕ). noContainers (15 - k)) (sym (r .count))
 
 -- ---- writing
 

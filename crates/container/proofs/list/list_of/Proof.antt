@@ -30,7 +30,7 @@ no-list-requires c κs = search needs
 returns : tie.Need-returns Inv-loop μ-loop
 returns c =
     let s = c .before .before .before .before .before .before .args .s .now in
-    listed-none s (list-long s (c .before .before .before .loop .inv) (c .before .before .loop-test .taken) (c .before .if1 .taken)) (c .no-list .ensures)
+    listed-none s (list-long s (c .before .before .before .loop .inv) (c .before .before .loop-test .taken) (omega (arith, c .before .if1 .taken))) (c .no-list .ensures)
 
 container-at-requires : tie.Need-container-at-requires Inv-loop μ-loop
 container-at-requires c κs = search needs
