@@ -1,0 +1,159 @@
+-- What the reader of a record finds: all of the octets under A0, the fields, the duration, the rules. Assumes nothing.
+use mathlib.Core.Path.{_≡_, refl, sym, ap, _∙_}
+use mathlib.Core.Bool.{Bool, true, false, _&&_}
+use mathlib.Core.Option.{Option, none, some}
+use mathlib.Core.List.{List, [], _∷_}
+use Prim.Native.Nat.{ℕ, zero, suc, _+_, _-_, _^_, _≤_, _<_}
+use native.Mathlib.Nat.{le-of-suc-le-suc}
+use native.Mathlib.Omega.{arith}
+use lib.Dec.{eqb, ltb→lt}
+use lib.ListN.{length, take, drop, getD, drop-of-length-le}
+use lib.Seq.{drop-cons, drop-drop}
+use Rattle.format.specs.Maybe.{bind, guard}
+use Rattle.format.specs.Format.{Law}
+use Rattle.format.proofs.Tests.{either}
+use Rattle.ber.specs.Tlv.{tlvDec}
+use Rattle.ber.specs.Field.{first, end, optGood, between}
+use Rattle.ber.proofs.Places.{PartIs}
+use Rattle.ber.proofs.Readers.{part-length}
+use Rattle.scdr.specs.declared.Record.{Record}
+use Rattle.scdr.specs.declared.fields.Wire.{Wire}
+use Rattle.scdr.specs.Rules.{shaped, within, duration}
+use Rattle.ber.specs.Text.{orNone}
+use Rattle.scdr.specs.Layout.{Layout, Fields, body, fieldsOf, toRecord, durationRight, inside, scdr}
+use Rattle.scdr.specs.Pieces.{Wired}
+use Rattle.scdr.specs.Answers.{readOf, apnOf, ReadsRecord, Taken, NotTaken}
+use Rattle.scdr.proofs.Tails.{fill-length, padded-length}
+use Rattle.scdr.proofs.Answering.{shaped-is}
+
+-- ---- the value under A0
+
+-- what was read before z counts where z is nothing
+abbrev closed : Option Record → List ℕ → Option Record
+closed o z = bind {A = Record × Unit {0}} (bind {A = Record × List ℕ} (bind o (λ r. some (r, z))) (λ q. bind (end .dec (q .1)) (λ b. some (q .0, b)))) (λ v. some (v .0))
+
+closed-end : (o : Option Record) → closed o [] ≡ o
+closed-end none = refl
+closed-end (some r) = refl
+
+closed-more : (o : Option Record) (x : ℕ) (z : List ℕ) → closed o (x ∷ z) ≡ none
+closed-more none x z = refl
+closed-more (some r) x z = refl
+
+below : (x y : ℕ) → x ≤ y → (x ≡ y → ⊥) → x < y
+below x y h n = either y x (λ j. absurd (n (omega arith))) (λ j. j)
+
+module _ (s : List ℕ) where
+  pub scdr-absent : tlvDec 0xA0 (drop 0 s) ≡ none → scdr .dec s ≡ none
+  unfolding scdr first
+  scdr-absent n = rw n
+
+  module _ {a e : ℕ} (p : PartIs s 0 0xA0 a e) where
+    split : scdr .dec s ≡ closed (inside .dec (take (e - a) (drop a s))) (drop e s)
+    unfolding scdr first
+    split = rw (p .is)
+
+    pub scdr-whole : e ≡ length s → scdr .dec s ≡ inside .dec (take (e - a) (drop a s))
+    scdr-whole k = split ∙ rw (drop-of-length-le s {i = e} (omega arith)) (closed-end (inside .dec (take (e - a) (drop a s))))
+
+    pub scdr-after : (e ≡ length s → ⊥) → scdr .dec s ≡ none
+    scdr-after k = split ∙ rw (drop-cons s e 0 (below e (length s) (p .inside) k)) (closed-more (inside .dec (take (e - a) (drop a s))) (getD s e 0) (drop (suc e) s))
+
+-- ---- what was read has the shape of a record
+
+node-most : (o : Option (List ℕ)) → optGood 0x96 (between 1 20) o → length (orNone o) ≤ 20
+node-most none g = omega arith
+node-most (some x) g = g .0
+
+good-shaped : (w : Fields) → body .good w → shaped (toRecord w) ≡ true
+unfolding body toRecord
+good-shaped w g =
+    let g5 = g .1 .1 .1 .1 in
+    let gl = g5 .1 .1 .1 .1 .1 in
+    let last = gl .1 .1 .1 .1 .1 in
+    shaped-is (toRecord w) (fill-length 63 0 (w .1 .1 .1 .1 .1 .1 .0) (g5 .1 .1 .0 .0)) (padded-length (w .1 .1 .1 .1 .1 .1 .1 .1 .1 .0) (gl .0 .2))
+    (fill-length 20 0 (orNone (w .1 .1 .1 .1 .1 .1 .1 .1 .1 .1 .1 .1 .1 .1 .1 .0)) (node-most (w .1 .1 .1 .1 .1 .1 .1 .1 .1 .1 .1 .1 .1 .1 .1 .0) (last .1 .0)))
+    (ltb→lt (w .1 .1 .1 .0) (256 ^ 4) (g .1 .1 .1 .0 .0)) (ltb→lt (w .1 .1 .1 .1 .0) (2 ^ 32) (g5 .0 .1))
+    (ltb→lt (w .1 .1 .1 .1 .1 .0) (256 ^ 4) (g5 .1 .0 .0)) (ltb→lt (w .1 .1 .1 .1 .1 .1 .1 .0) (256 ^ 2) (g5 .1 .1 .1 .0))
+    (ltb→lt (w .1 .1 .1 .1 .1 .1 .1 .1 .0) (256 ^ 4) (g5 .1 .1 .1 .1 .0 .0 .0))
+
+body-law : Law body
+unfolding body
+body-law = Layout .law
+
+-- ---- the fields, the duration and the rules
+
+module _ (s : List ℕ) {w : Wire} (v : Wired s w) where
+  pub wire-lost : w .ok ≡ false → inside .dec s ≡ none
+  unfolding inside
+  wire-lost e = rw (v .no e)
+
+  wire-read : w .ok ≡ true → inside .dec s ≡ guard (eqb (w .lasts) (duration (w .cdr)) && within (w .cdr)) (w .cdr)
+  unfolding inside durationRight fieldsOf duration
+  wire-read e =
+      let d = v .yes e in
+      let h : shaped (w .cdr) ≡ true = ap shaped (sym (v .back)) ∙ good-shaped (fieldsOf (w .cdr) (w .lasts)) (body-law .sound s (fieldsOf (w .cdr) (w .lasts)) d .0) in
+      rw (d, v .back, h)
+
+  pub wire-yes : w .ok ≡ true → (eqb (w .lasts) (duration (w .cdr)) && within (w .cdr)) ≡ true → inside .dec s ≡ some (w .cdr)
+  wire-yes e t = wire-read e ∙ rw t
+
+  pub wire-no : w .ok ≡ true → (eqb (w .lasts) (duration (w .cdr)) && within (w .cdr)) ≡ false → inside .dec s ≡ none
+  wire-no e t = wire-read e ∙ rw t
+
+-- ---- the answers
+
+reads-record : (s : List ℕ) {r : Record} → scdr .dec s ≡ some r → ReadsRecord s 0 r
+unfolding readOf
+reads-record s e = record { is = rw e }
+
+-- a part of a part of s, which stands at a
+take-less : (j n : ℕ) (l : List ℕ) → j ≤ n → take j (take n l) ≡ take j l
+take-less zero n l h = refl
+take-less (suc j) zero l h = absurd (omega arith)
+take-less (suc j) (suc n) [] h = refl
+take-less (suc j) (suc n) (x ∷ l) h = ap {B = List ℕ} (λ r. x ∷ r) (take-less j n l (le-of-suc-le-suc h))
+
+take-inside : (x y n : ℕ) (l : List ℕ) → x ≤ y → y ≤ n → take (y - x) (drop x (take n l)) ≡ take (y - x) (drop x l)
+take-inside zero y n l h k = take-less (y - 0) n l (omega arith)
+take-inside (suc x) zero n l h k = absurd (omega arith)
+take-inside (suc x) (suc y) zero l h k = absurd (omega arith)
+take-inside (suc x) (suc y) (suc n) [] h k = refl
+take-inside (suc x) (suc y) (suc n) (c ∷ l) h k =
+    let e : suc y - suc x ≡ y - x = omega arith in
+    rw e (take-inside x y n l (le-of-suc-le-suc h) (le-of-suc-le-suc k))
+
+part-of-part : (s : List ℕ) (a n x y : ℕ) → x ≤ y → y ≤ n → take (a + y - (a + x)) (drop (a + x) s) ≡ take (y - x) (drop x (take n (drop a s)))
+part-of-part s a n x y h k =
+    let e : a + y - (a + x) ≡ y - x = omega arith in
+    rw (e, ← drop-drop x a s) (sym (take-inside x y n (drop a s) h k))
+
+pub taken-record : (s : List ℕ) {a e : ℕ} (p : PartIs s 0 0xA0 a e) {w : Wire} (v : Wired (take (e - a) (drop a s)) w) → scdr .dec s ≡ some (w .cdr)
+    → Taken s 0 (w .cdr) (a + w .from) (a + w .to)
+unfolding apnOf
+taken-record s {a} {e} p {w} v d =
+    let l = part-length p in
+    record {
+      reads = reads-record s d;
+      order = omega (arith, v .order);
+      inside = omega (arith, v .inside, l, p .order, p .inside);
+      name = part-of-part s a (e - a) (w .from) (w .to) (v .order) (omega (arith, v .inside, l)) ∙ v .apn ∙ rw d;
+    }
+
+pub taken-nothing : (s : List ℕ) {n : ℕ} {r : Record} {from to : ℕ} → scdr .dec s ≡ none → NotTaken n r from to → Taken s n r from to
+unfolding readOf apnOf
+taken-nothing s d n = record {
+  reads = record { is = rw d (λ i. (n .number i, n .blank i)) };
+  order = omega (arith, n .start, n .end);
+  inside = omega (arith, n .end);
+  name = rw (n .start, n .end, d);
+}
+
+-- the test of the rules first, then of the duration
+pub and-no : (a : Bool) {b : Bool} → b ≡ false → false ≡ (a && b)
+and-no true e = sym e
+and-no false e = refl
+
+pub and-yes : (a : Bool) {b : Bool} → b ≡ true → a ≡ (a && b)
+and-yes true e = sym e
+and-yes false e = refl

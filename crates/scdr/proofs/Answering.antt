@@ -1,0 +1,97 @@
+-- The answers of the test of the rules, of the writer and of the reader. Assumes nothing.
+use mathlib.Core.Path.{_≡_, sym, ap, _∙_}
+use mathlib.Core.Bool.{Bool, true, false, not, _&&_}
+use mathlib.Core.Option.{Option, some}
+use mathlib.Core.List.{List, _++_, append-nil}
+use Prim.Native.Nat.{ℕ, _+_, _^_, _≤_, _<_}
+use native.Mathlib.Omega.{arith}
+use lib.Dec.{T, leb, eqb}
+use lib.ListN.{length, take, drop}
+use borrow.Author.Tests.{le-leb, lt-leb, lt-ltb, eq-eqb, ne-eqb}
+use Rattle.format.proofs.Tests.{by, either, true-T}
+use Rattle.ber.specs.Imsi.{imsiOk, imsiRoom, imsiSize}
+use Rattle.ber.specs.Tlv.{tlvEnc, tlvForm}
+use Rattle.ber.specs.Read.{nowhere}
+use Rattle.ber.specs.Write.{put, Puts}
+use Rattle.ber.proofs.Imsis.{imsi-rules}
+use Rattle.ber.proofs.Tlvs.{tlv-yes, tlv-length}
+use Rattle.calendar.specs.Stamp.{stampOk}
+use Rattle.container.specs.List.{listOk, blanks}
+use Rattle.scdr.specs.declared.Record.{Record}
+use Rattle.scdr.specs.Rules.{apnOk, nodeOk, listRule, causeOk, numberOk, changeOk, shaped, within}
+use Rattle.scdr.specs.Layout.{body, ofRecord, rules, inside, scdr}
+use Rattle.scdr.specs.Answers.{writeOf, Writes}
+use Rattle.scdr.proofs.Theorems.{at-most-1024}
+
+-- ---- the rules
+
+-- an IMSI is what has room in a record
+pub imsi-room : (s : List ℕ) → not (eqb (imsiRoom s) 0) ≡ imsiOk s
+unfolding imsiRoom
+imsi-room s =
+    by (imsiOk s)
+    (λ a. let i = imsi-rules s (true-T (imsiOk s) a) in rw (a, ne-eqb (imsiSize s) 0 (λ e. omega (arith, i .least))))
+    (λ a. rw a)
+
+pub within-is : (r : Record) {a b c d e f g h k : Bool} → a ≡ imsiOk (r .imsi) → b ≡ apnOk (r .apn) (r .apnlen) → c ≡ stampOk (r .opening)
+    → d ≡ (leb (r .count) 15 && listOk (r .opening) (take (r .count) (r .containers))) → k ≡ blanks (drop (r .count) (r .containers))
+    → e ≡ causeOk (r .cause) → f ≡ numberOk (r .cause) (r .number) → g ≡ changeOk (r .change) (r .number) → h ≡ nodeOk (r .nodeid) (r .nodelen)
+    → (a && b && c && (d && k) && e && f && g && h) ≡ within r
+unfolding within listRule
+within-is r p q s t u v w x y = rw (p, q, s, t, u, v, w, x, y)
+
+-- what the code knows of any record that it holds
+pub shaped-is : (r : Record) → length (r .apn) ≡ 63 → length (r .containers) ≡ 15 → length (r .nodeid) ≡ 20 → r .sgsn < 2 ^ 32 → r .charging < 2 ^ 32
+    → r .ggsn < 2 ^ 32 → r .pdptype < 2 ^ 16 → r .address < 2 ^ 32 → shaped r ≡ true
+unfolding shaped
+shaped-is r a b c d e f g h =
+    rw (
+      eq-eqb (length (r .apn)) 63 a,
+      eq-eqb (length (r .containers)) 15 b,
+      eq-eqb (length (r .nodeid)) 20 c,
+      lt-ltb (r .sgsn) (2 ^ 32) d,
+      lt-ltb (r .charging) (2 ^ 32) e,
+      lt-ltb (r .ggsn) (2 ^ 32) f,
+      lt-ltb (r .pdptype) (2 ^ 16) g,
+      lt-ltb (r .address) (2 ^ 32) h,
+    )
+
+-- ---- the writer
+
+pub writes-outside : (r : Record) (b : List ℕ) → within r ≡ false → Writes r b b 24 0
+unfolding writeOf
+writes-outside r b e = record { is = rw e }
+
+pub octets-are : (r : Record) → tlvEnc 0xA0 (body .enc (ofRecord r)) ≡ scdr .enc r
+unfolding scdr inside
+octets-are r = sym (append-nil (tlvEnc 0xA0 (body .enc (ofRecord r))))
+
+module _ (r : Record) (t : T (rules r)) where
+  pub body-short : length (body .enc (ofRecord r)) ≤ 1024
+  body-short = omega (arith, at-most-1024 r t, ap length (octets-are r), tlv-length 0xA0 (body .enc (ofRecord r)))
+
+  pub octets-form : {x : List ℕ} → x ≡ body .enc (ofRecord r) → tlvForm 0xA0 x ≡ some (scdr .enc r)
+  octets-form e = ap (tlvForm 0xA0) e ∙ tlv-yes 0xA0 (body .enc (ofRecord r)) (omega (arith, body-short)) ∙ ap {B = Option (List ℕ)} some (octets-are r)
+
+  module _ (w : within r ≡ true) {b b′ : List ℕ} {n : ℕ} (p : Puts (some (scdr .enc r)) b b′ 0 n) where
+    pub writes-full : n ≡ nowhere → Writes r b b′ 11 0
+    unfolding writeOf put
+    writes-full e =
+        either (length (scdr .enc r)) (length b)
+        (λ k. absurd (let q = ap (λ (z : List ℕ × ℕ). z .1) (rw (le-leb (0 + length (scdr .enc r)) (length b) (omega arith)) at (p .is)) in omega (arith, at-most-1024 r t)))
+        (λ k. record {
+          is = rw (w, lt-leb (length (scdr .enc r)) (length b) k)
+              (λ i. (11, (0, rw (lt-leb (0 + length (scdr .enc r)) (length b) (omega arith)) at (p .is) i .0)));
+        })
+
+    pub writes-done : (n ≡ nowhere → ⊥) → Writes r b b′ 0 n
+    unfolding writeOf put
+    writes-done e =
+        either (length (scdr .enc r)) (length b)
+        (λ k.
+        let q = rw (le-leb (0 + length (scdr .enc r)) (length b) (omega arith)) at (p .is) in
+        let z : 0 + length (scdr .enc r) ≡ length (scdr .enc r) = omega arith in
+        let m : n ≡ length (scdr .enc r) = ap (λ (y : List ℕ × ℕ). y .1) q ∙ z in
+        let l : b′ ≡ scdr .enc r ++ drop (length (scdr .enc r)) b = ap (λ (y : List ℕ × ℕ). y .0) q ∙ ap (λ (j : ℕ). scdr .enc r ++ drop j b) z in
+        record { is = rw (w, le-leb (length (scdr .enc r)) (length b) k) (λ i. (0, (m i, l i))) })
+        (λ k. absurd (e (ap (λ (y : List ℕ × ℕ). y .1) (rw (lt-leb (0 + length (scdr .enc r)) (length b) (omega arith)) at (p .is)))))

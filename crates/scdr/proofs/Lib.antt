@@ -1,0 +1,11 @@
+pub mod Tails
+pub mod Views
+pub mod Theorems
+pub mod Printed
+pub mod Bodies
+pub mod Answering
+pub mod Pieced
+pub mod Reading
+pub mod Accepting
+pub mod Chars
+pub mod Namings

@@ -1,0 +1,29 @@
+-- The record that 01 prints is within the rules, and its octets are those printed: computed by the definitions. Assumes nothing.
+use lib.Dec.{T}
+use mathlib.Core.Path.{_≡_}
+use mathlib.Core.Option.{some}
+use Rattle.format.proofs.Formats.{eqs-eq}
+use Rattle.ber.specs.Int.{intEnc, lowest}
+use Rattle.ber.specs.Length.{lenEnc}
+use Rattle.ber.specs.Tlv.{tlvEnc}
+use Rattle.ber.specs.Imsi.{halves, leading, allF, imsiOk, imsiEnc}
+use Rattle.calendar.specs.Month.{monthLen, seek, monthDay}
+use Rattle.calendar.specs.Stamp.{stampOk, stampEnc}
+use Rattle.container.specs.Qos.{qosOk, sameQos}
+use Rattle.container.specs.Container.{containerOk}
+use Rattle.container.specs.List.{eachOk, lastAlone, oneOffset, inOrder, qosRule, listOk, noContainers, isBlank, blanks}
+use Rattle.scdr.specs.Rules.{allOf, apnChar, nodeChar, apnOk, nodeOk, listRule, release, causeOk, numberOk, changeOk, shaped, within, lastTime, duration}
+use Rattle.scdr.specs.Layout.{body, fillTo, ofRecord, fieldsOf, rules, inside, scdr}
+use Rattle.scdr.specs.Sample.{only, sample, printed}
+use Rattle.scdr.proofs.Theorems.{round-trip}
+
+pub sample-within : T (rules sample)
+unfolding sample only fillTo noContainers sameQos shaped within imsiOk halves leading allF apnOk allOf apnChar stampOk listRule listOk eachOk containerOk qosOk lastAlone oneOffset inOrder qosRule blanks isBlank causeOk release numberOk changeOk nodeOk nodeChar
+sample-within = tt
+
+pub sample-octets : scdr .enc sample ≡ printed
+unfolding sample only printed fillTo noContainers scdr inside body ofRecord fieldsOf duration lastTime tlvEnc lenEnc intEnc lowest imsiEnc halves leading stampEnc monthDay seek monthLen
+sample-octets = eqs-eq (scdr .enc sample) printed tt
+
+pub sample-read : scdr .dec printed ≡ some sample
+sample-read = rw (← sample-octets) (round-trip sample sample-within)

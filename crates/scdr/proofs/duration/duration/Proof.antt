@@ -1,0 +1,36 @@
+-- `scdr::duration::duration` meets its contract. Assumes nothing.
+use mathlib.Core.Path.{_≡_}
+use native.Mathlib.Omega.{arith}
+use lib.ListN.{length}
+use borrow.Author.Needs.{needs}
+use Rattle.container.specs.Container.{noContainer}
+use Rattle.scdr.proofs.Namings.{duration-none, duration-past, duration-is}
+use Rattle.scdr.proofs.duration.duration.Statement.{statement}
+use Rattle.scdr.proofs.duration.duration.Tie as tie
+
+returns : tie.Need-returns
+returns c = duration-none _ (c .before .args .t1) (c .before .args .n) (c .if1 .taken)
+
+sub-c : tie.Need-sub-c
+sub-c c = search needs
+
+mul-c : tie.Need-mul-c
+mul-c c = search needs
+
+array-copy-out-c : tie.Need-array-copy-out-c
+array-copy-out-c c = search needs
+
+returns-2 : tie.Need-returns-2
+returns-2 c =
+    let a = c .before .before .before .before .before .before .args in
+    let l : length (a .t1) ≡ 15 = search needs in
+    duration-past (a .opening .seconds) (a .t1) (a .n) noContainer (omega arith) (omega (arith, c .before .before .before .before .before .before .pre)) (c .if2 .taken)
+
+returns-3 : tie.Need-returns-3
+returns-3 c =
+    let a = c .before .before .before .before .before .before .before .before .args in
+    let l : length (a .t1) ≡ 15 = search needs in
+    duration-is (a .opening .seconds) (a .t1) (a .n) noContainer (omega arith) (omega (arith, c .before .before .before .before .before .before .before .before .pre))
+
+pub duration-spec : {M : Type 1} → statement M
+duration-spec = tie.close (tie.spec returns sub-c mul-c array-copy-out-c returns-2 returns-3)

@@ -1,0 +1,17 @@
+-- `scdr::read::no_record` meets its contract. Assumes nothing.
+use mathlib.Core.Path.{refl}
+use borrow.Author.Needs.{needs}
+use Rattle.container.specs.List.{noContainers}
+use Rattle.scdr.specs.Layout.{fillTo}
+use Rattle.scdr.proofs.read.no_record.Statement.{statement}
+use Rattle.scdr.proofs.read.no_record.Tie as tie
+
+no-container-requires : tie.Need-no-container-requires
+no-container-requires c κs = search needs
+
+returns : tie.Need-returns
+unfolding fillTo noContainers
+returns c = record { number = refl; blank = rw (c .no-container .ensures); start = refl; end = refl }
+
+pub no-record-spec : {M : Type 1} → statement M
+no-record-spec = tie.close (tie.spec no-container-requires returns)

@@ -1,0 +1,60 @@
+-- `scdr::rules::within` meets its contract: each rule as its function finds it. Assumes nothing.
+use mathlib.Core.Path.{ap, _∙_}
+use mathlib.Core.Bool.{not}
+use Prim.Native.Nat.{ℕ}
+use lib.Dec.{eqb}
+use borrow.Author.Needs.{needs}
+use Rattle.scdr.proofs.Answering.{imsi-room, within-is}
+use Rattle.scdr.proofs.rules.within.Statement.{statement}
+use Rattle.scdr.proofs.rules.within.Tie as tie
+
+slice-aggregate-imsi-size : tie.Need-slice-aggregate-imsi-size
+slice-aggregate-imsi-size c = search needs
+
+imsi-size-requires : tie.Need-imsi-size-requires
+imsi-size-requires c κs = search needs
+
+apn-ok-requires : tie.Need-apn-ok-requires
+apn-ok-requires c κs = search needs
+
+stamp-within-requires : tie.Need-stamp-within-requires
+stamp-within-requires c κs = search needs
+
+list-ok-requires : tie.Need-list-ok-requires
+list-ok-requires c κs = search needs
+
+unused-blank-requires : tie.Need-unused-blank-requires
+unused-blank-requires c κs = search needs
+
+cause-ok-requires : tie.Need-cause-ok-requires
+cause-ok-requires c κs = search needs
+
+number-ok-requires : tie.Need-number-ok-requires
+number-ok-requires c κs = search needs
+
+change-ok-requires : tie.Need-change-ok-requires
+change-ok-requires c κs = search needs
+
+node-ok-requires : tie.Need-node-ok-requires
+node-ok-requires c κs = search needs
+
+returns : tie.Need-returns
+returns c =
+    within-is (c .before .before .before .before .before .before .before .before .before .before .before .before .before .before .before .args .r) (ap (λ (n : ℕ). not (eqb n 0)) (c .before .before .before .before .before .before .before .before .imsi-size .ensures) ∙ imsi-room (c .before .before .before .before .before .before .before .before .before .before .before .before .before .before .before .args .r .imsi)) (c .before .before .before .before .before .before .before .apn-ok .ensures) (c .before .before .before .before .before .before .stamp-within .ensures)
+    (c .before .before .before .before .before .list-ok .ensures) (c .before .before .before .before .unused-blank .ensures) (c .before .before .before .cause-ok .ensures) (c .before .before .number-ok .ensures) (c .before .change-ok .ensures) (c .node-ok .ensures)
+
+pub within-spec : {M : Type 1} → statement M
+within-spec =
+    tie.close
+    (tie.spec
+    slice-aggregate-imsi-size
+    imsi-size-requires
+    apn-ok-requires
+    stamp-within-requires
+    list-ok-requires
+    unused-blank-requires
+    cause-ok-requires
+    number-ok-requires
+    change-ok-requires
+    node-ok-requires
+    returns)

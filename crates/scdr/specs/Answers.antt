@@ -1,0 +1,93 @@
+-- What the writer and the reader of a record answer, with the numbers of 01's refusal table. Assumes nothing.
+use mathlib.Core.Path.{_≡_}
+use mathlib.Core.Bool.{cond, false}
+use mathlib.Core.Option.{Option, none, some}
+use mathlib.Core.List.{List, [], _++_}
+use Prim.Native.Nat.{ℕ, _≤_, _-_}
+use lib.Dec.{leb}
+use lib.ListN.{length, take, drop}
+use Rattle.container.specs.List.{padded}
+use Rattle.scdr.specs.declared.Record.{Record}
+use Rattle.scdr.specs.Rules.{within}
+use Rattle.scdr.specs.Layout.{scdr, fillTo}
+
+-- 11: the record is longer than the output buffer
+abbrev pub noRoom : ℕ
+noRoom = 11
+
+-- 20: not an image of any record within the rules
+abbrev pub noRecord : ℕ
+noRecord = 20
+
+-- 24: a record outside the rules
+abbrev pub outside : ℕ
+outside = 24
+
+-- ---- the lone writer: 24, then 11, else 0 and the record's octets from the buffer's start, every later octet as before
+
+-- the answer, the written length and the buffer
+unfoldable pub writeOf : Record → List ℕ → ℕ × (ℕ × List ℕ)
+writeOf r b =
+    cond (within r)
+    (cond (leb (length (scdr .enc r)) (length b)) (0, (length (scdr .enc r), scdr .enc r ++ drop (length (scdr .enc r)) b)) (noRoom, (0, b)))
+    (outside, (0, b))
+
+pub record Writes (r : Record) (b b′ : List ℕ) (answer n : ℕ) : Type 0 where
+  pub is : _≡_ {A = ℕ × (ℕ × List ℕ)} (answer, (n, b′)) (writeOf r b)
+
+-- ---- the reader: the record, or 20 and a record that is all zero
+
+abbrev pub blankRecord : Record
+blankRecord = record {
+  network = false;
+  imsi = fillTo 8 0 [];
+  sgsn = 0;
+  charging = 0;
+  ggsn = 0;
+  apn = fillTo 63 0 [];
+  apnlen = 0;
+  pdptype = 0;
+  address = 0;
+  containers = padded [];
+  count = 0;
+  opening = record { seconds = 0; zone = 0 };
+  change = false;
+  cause = 0;
+  number = 0;
+  nodeid = fillTo 20 0 [];
+  nodelen = 0;
+}
+
+unfoldable pub readOf : Option Record → ℕ × Record
+readOf none = (noRecord, blankRecord)
+readOf (some r) = (0, r)
+
+pub record ReadsRecord (s : List ℕ) (answer : ℕ) (r : Record) : Type 0 where
+  pub is : _≡_ {A = ℕ × Record} (answer, r) (readOf (scdr .dec s))
+
+-- the access point name of what was read
+unfoldable pub apnOf : Option Record → List ℕ
+apnOf none = []
+apnOf (some r) = take (r .apnlen) (r .apn)
+
+-- The access point name as the very part of s where it lies, from a to e: empty where s is no record.
+pub record ShowsApn (s p : List ℕ) : Type 0 where
+  pub from : ℕ
+  pub to : ℕ
+  pub order : from ≤ to
+  pub inside : to ≤ length s
+  pub part : p ≡ take (to - from) (drop from s)
+  pub name : p ≡ apnOf (scdr .dec s)
+
+-- both at once: the answer, the record, and where its access point name lies
+pub record Taken (s : List ℕ) (answer : ℕ) (r : Record) (from to : ℕ) : Type 0 where
+  pub reads : ReadsRecord s answer r
+  pub order : from ≤ to
+  pub inside : to ≤ length s
+  pub name : take (to - from) (drop from s) ≡ apnOf (scdr .dec s)
+
+pub record NotTaken (answer : ℕ) (r : Record) (from to : ℕ) : Type 0 where
+  pub number : answer ≡ noRecord
+  pub blank : r ≡ blankRecord
+  pub start : from ≡ 0
+  pub end : to ≡ 0

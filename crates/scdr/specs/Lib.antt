@@ -1,0 +1,6 @@
+pub mod Rules
+pub mod Layout
+pub mod Sample
+pub mod Answers
+pub mod Parts
+pub mod Pieces

@@ -1,0 +1,28 @@
+// All fields of a record, one after another: what stands under A0.
+use crate::Record;
+use crate::duration;
+use crate::parts;
+use ber::text;
+use container::list;
+ghost use lib.Dec.{T};
+ghost use Rattle.ber.proofs.Writers.{Wrote};
+ghost use Rattle.scdr.specs.Rules.{within};
+ghost use Rattle.scdr.specs.Layout.{body, ofRecord};
+
+// All fields of a record within the rules, from the start of out.
+pub fn put_body(out: &mut [u8], r: Record) -> usize
+    requires { ⌜ T (within r) ⌝ }
+    ensures { λ z. ⌜ Wrote (body .enc (ofRecord r)) (now (out .entry)) (now (out .exit)) 0 z ⌝ }
+{
+    let imsi = r.imsi;
+    let apn = r.apn;
+    let v = r.containers;
+    let opening = r.opening;
+    let nodeid = r.nodeid;
+    let lasts = duration::duration(v, r.count, opening);
+    let a = parts::put_front(out, 0, r.network, imsi, r.sgsn, r.charging);
+    let b = parts::put_pdp(out, a, r.ggsn, apn, r.apnlen, r.pdptype, r.address);
+    let c = list::put_list(out, b, 0xAF, v, r.count);
+    let d = parts::put_end(out, c, opening, lasts, r.change, r.cause, r.number);
+    text::put_opt_text(out, d, 0x96, &nodeid, r.nodelen)
+}
