@@ -1,0 +1,252 @@
+"""Records within the rules: the boundaries of every field, then seeded ones."""
+
+from datetime import datetime
+
+from plain import Container, Record, copy, filled, places
+from rules import LAST, LETTERS, NUMBERS, RELEASES
+
+APN_LETTERS = bytes(sorted(LETTERS))
+PRINTED = bytes(range(0x20, 0x7F))
+TOPS = (5, 3, 3, 9, 18)  # the highest value of each QoS field
+CLOSINGS = (16, 17, 19, 20)
+CHARGING_IDS = [0, 1, 127, 128, 255, 256, 32767, 32768, 65535, 65536, 2**23 - 1, 2**23, 2**24 - 1,
+                2**24, 2**31 - 1, 2**31, 2**32 - 1]
+VOLUMES = sorted({0, 1, 2**40 - 1} | {v for k in range(1, 6) for n in (8 * k - 1, 8 * k)
+                                      for v in (2**n - 1, 2**n) if v < 2**40})
+RECORD_NUMBERS = sorted({1, 2, 3, NUMBERS - 1, NUMBERS} | {
+    v for k in range(1, 7) for n in (8 * k - 1, 8 * k) for v in (2**n - 1, 2**n)
+    if 2 <= v <= NUMBERS})
+DURATIONS = [0, 1, 127, 128, 255, 256, 32767, 32768, 65535, 65536, 2**23 - 1, 2**23, 2**24 - 1,
+             2**24, 2**31 - 1, 2**31, LAST - 1, LAST]
+ZONES = [0, 1, 59, 60, 61, 719, 720, 721, 779, 780, 1559, 1560]
+ADDRESSES = [bytes(4), b"\xff" * 4, b"\x80\x04\x00\x00", b"\x0a\x00\x00\x01", b"\x7f\xff\xff\xff"]
+
+
+def seconds(*date):
+    return int((datetime(*date) - datetime(2000, 1, 1)).total_seconds())
+
+
+MOMENTS = [0, 1, 59, 60, 3599, 3600, 86399, 86400, LAST - 1, LAST] + [
+    seconds(year, *rest) + more
+    for year in (2000, 2001, 2003, 2004, 2096, 2097, 2099)
+    for rest in ((2, 28), (3, 1), (12, 31)) for more in (0, 86399, 86400) if
+    seconds(year, *rest) + more <= LAST]
+MONTHS = [seconds(year, month, 1) for year in range(2000, 2100) for month in range(1, 13)]
+
+
+def number_of_bits(rng, most):
+    """Any size is as likely as another."""
+    return rng.getrandbits(rng.randrange(1, most + 1))
+
+
+def imsi(rng, digits=None):
+    digits = digits or rng.randrange(6, 16)
+    halves = [rng.randrange(10) for _ in range(digits)] + [15] * (16 - digits)
+    return bytes(halves[i] | halves[i + 1] << 4 for i in range(0, 16, 2))
+
+
+def profile(rng, before=None, same=False):
+    """A QoS profile: the one before, or one that differs, often in one value only."""
+    if same:
+        return before
+    while True:
+        qos = [rng.randint(0, top) for top in TOPS]
+        if before and rng.random() < 0.5:
+            place = rng.randrange(5)
+            qos = list(before[:place]) + [qos[place]] + list(before[place + 1 :])
+        if tuple(qos) != before:
+            return tuple(qos)
+
+
+def moments(rng, opening, count, duration):
+    if opening is None and duration is None:
+        opening = rng.choice((rng.randint(0, LAST), rng.choice(MOMENTS), rng.choice(MONTHS)))
+    elif opening is None:
+        opening = rng.randint(0, LAST - duration)
+    if duration is None:
+        duration = rng.choice((0, rng.randrange(0, 400), number_of_bits(rng, 32), LAST - opening))
+        duration = min(duration, LAST - opening)
+    return opening, sorted(rng.randint(opening, opening + duration) for _ in range(count - 1)) + [
+        opening + duration]
+
+
+def of_octets(rng, size):
+    """A volume that takes so many octets as a shortest integer, 1 to 6."""
+    return rng.randrange(2 ** (8 * size - 9) if size > 1 else 0, min(2 ** (8 * size - 1), 2**40))
+
+
+def spread(rng, containers, octets):
+    """Gives the volumes of all containers together so many octets."""
+    sizes = [1] * (2 * len(containers))
+    for _ in range(octets - len(sizes)):
+        sizes[rng.choice([i for i, size in enumerate(sizes) if size < 6])] += 1
+    for c in containers:
+        c.uplink, c.downlink = of_octets(rng, sizes.pop()), of_octets(rng, sizes.pop())
+
+
+def record(rng, *, containers=None, opening=None, duration=None, times=None, zone=None, cause=None,
+           number=None, change=None, apn_length=None, node_id_length=None, imsi_digits=None,
+           uplink=None, downlink=None, volume_octets=None, qos=None, **others):
+    count = containers or (len(times) if times else rng.choice((1, 1, 1, 1, 2, 2, 3, 3, 4, 5, 7, 15)))
+    if times:
+        opening = times[0] if opening is None else opening
+    else:
+        opening, times = moments(rng, opening, count, duration)
+    zone = rng.choice((rng.choice(ZONES), 720, rng.randint(0, 1560))) if zone is None else zone
+
+    held = []
+    for i in range(count):
+        condition = rng.randrange(2) if i < count - 1 else 2
+        before = held[-1] if held else None
+        held.append(Container(
+            qos=profile(rng, before.qos, before.condition == 1) if before else qos or profile(rng),
+            uplink=number_of_bits(rng, 40) if rng.random() < 0.9 else 0,
+            downlink=number_of_bits(rng, 40) if rng.random() < 0.9 else 0,
+            condition=condition, time=times[i], zone=zone))
+    if volume_octets:
+        spread(rng, held, volume_octets)
+    marked = rng.choice(held)
+    marked.uplink = marked.uplink if uplink is None else uplink
+    marked.downlink = marked.downlink if downlink is None else downlink
+
+    if cause is None:
+        cause = rng.choice(CLOSINGS if number == 1 else RELEASES if number == 0 else RELEASES + CLOSINGS)
+    if number is None:
+        any_number = min(NUMBERS, max(2, number_of_bits(rng, 50)))
+        number = rng.choice((0, 0, 2, any_number) if cause in RELEASES else (1, 1, 2, any_number))
+    if change is None:
+        change = rng.randrange(2) if number <= 1 else 0
+
+    apn_length = apn_length or rng.choice((1, rng.randrange(1, 20), rng.randrange(1, 64)))
+    if node_id_length is None:
+        node_id_length = rng.choice((0, rng.randrange(21)))
+    fields = dict(
+        network=rng.randrange(2), imsi=imsi(rng, imsi_digits), sgsn=rng.randbytes(4),
+        charging_id=number_of_bits(rng, 32), ggsn=rng.randbytes(4), apn_length=apn_length,
+        apn=filled(bytes(rng.choices(APN_LETTERS, k=apn_length)), 63), pdp_type=rng.randbytes(2),
+        address=rng.randbytes(4), opening=opening, zone=zone, change=change, cause=cause,
+        number=number, node_id_length=node_id_length,
+        node_id=filled(bytes(rng.choices(PRINTED, k=node_id_length)), 20), count=count,
+        places=places(held))
+    return Record(**{**fields, **others})
+
+
+def sample():
+    """Document 01, "One session, whole", and its octets."""
+    octets = bytes.fromhex("""
+        A0 6D 80 01 12 83 08 00 01 01 21 43 65 87 F9
+        A5 06 80 04 0A 00 00 01 8A 01 01 AB 06 80 04 0A 00 00 02
+        8C 01 61 8D 02 F1 21 AE 08 A0 06 80 04 0A 00 00 03
+        AF 29 30 27 A2 0F 80 01 01 81 01 03 82 01 02 83 01 04
+        84 01 00 83 02 01 90 84 02 02 57 85 01 02
+        86 09 00 01 01 00 00 06 2B 00 00
+        90 09 00 01 01 00 00 00 2B 00 00 91 01 06 93 01 00""")
+    return Record(
+        imsi=bytes.fromhex("00010121436587F9"), sgsn=bytes([10, 0, 0, 1]), charging_id=1,
+        ggsn=bytes([10, 0, 0, 2]), apn_length=1, apn=filled(b"a", 63), pdp_type=b"\xf1\x21",
+        address=bytes([10, 0, 0, 3]), zone=720, count=1,
+        places=places([Container((1, 3, 2, 4, 0), 400, 599, 2, 6, 720)])), octets
+
+
+def boundaries():
+    """What to hold fast in a record, one boundary each."""
+    yield from ({"charging_id": x} for x in CHARGING_IDS)
+    for x in VOLUMES:
+        yield from ({name: x, "containers": n} for name in ("uplink", "downlink") for n in (1, 3))
+    for x in RECORD_NUMBERS:
+        yield from ({"number": x, "cause": c} for c in RELEASES + CLOSINGS
+                    if x > 1 or c in CLOSINGS)
+    for c in RELEASES + CLOSINGS:
+        for change in (0, 1):
+            yield {"cause": c, "number": 0 if c in RELEASES else 1, "change": change, "network": 1 - change}
+            yield {"cause": c, "number": 0 if c in RELEASES else 1, "change": change, "network": change}
+    for x in DURATIONS:
+        yield from ({"duration": x, "containers": n} for n in (1, 2, 15))
+    yield from ({"opening": x, "containers": n} for x in MOMENTS for n in (1, 4))
+    yield from ({"opening": 0, "times": [0] * n} for n in range(1, 16))
+    yield from ({"opening": LAST, "times": [LAST] * n} for n in range(1, 16))
+    yield from ({"zone": x} for x in ZONES)
+    yield from ({"zone": x, "containers": 1, "apn_length": 1} for x in range(1561))
+    yield from ({"imsi_digits": n} for n in range(6, 16) for _ in range(8))
+    yield from ({"node_id_length": n} for n in range(21))
+    for letter in APN_LETTERS:
+        yield {"apn_length": 2, "apn": filled(bytes([letter, 0x2E]), 63), "containers": 1}
+    for letter in PRINTED:
+        yield {"node_id_length": 2, "node_id": filled(bytes([letter, 0x20]), 20), "containers": 1}
+    for name in ("sgsn", "ggsn", "address"):
+        yield from ({name: x} for x in ADDRESSES)
+    yield from ({"pdp_type": bytes.fromhex(x)} for x in ("0000", "FFFF", "F121", "80FF"))
+    for place, top in enumerate(TOPS):
+        for x in range(top + 1):
+            yield {"qos": tuple(x if i == place else 0 for i in range(5)), "containers": 1}
+            yield {"qos": tuple(x if i == place else t for i, t in enumerate(TOPS))}
+    # Lengths in one, two and three octets. A container is 37 octets and its volumes.
+    for n, lengths in ((3, range(125, 131)), (6, range(253, 259))):
+        yield from ({"containers": n, "volume_octets": x - 37 * n} for x in lengths for _ in range(5))
+    yield {"containers": 15, "volume_octets": 180, "apn_length": 63, "node_id_length": 20, "imsi_digits": 15,
+           "charging_id": 2**32 - 1, "number": NUMBERS, "network": 1, "opening": 0, "duration": LAST}
+    yield {"containers": 1, "volume_octets": 2, "apn_length": 1, "node_id_length": 0, "imsi_digits": 6,
+           "charging_id": 0, "number": 0, "network": 0, "change": 0, "duration": 0}
+    yield from ({"containers": n, "apn_length": a} for n in range(1, 16) for a in range(1, 64, 1 if n < 6 else 7))
+    # Each of the 1,200 months: its first second, and the one before.
+    for first in MONTHS:
+        before = max(0, first - 1)
+        yield {"opening": before, "times": [before, first]}
+
+
+def stretched(rng):
+    """Records that grow by an octet, past 127/128 and past 255/256 octets inside."""
+    for n in (1, 4):
+        base = record(rng, containers=n, volume_octets=3 * n, node_id_length=0, duration=0)
+        for size in range(1, 64):
+            yield copy(base, apn_length=size, apn=filled(bytes(rng.choices(APN_LETTERS, k=size)), 63))
+
+
+def records(rng, count):
+    """`count` records, or some more where the boundaries take more."""
+    made = [sample()[0]] + [record(rng, **held) for held in boundaries()] + list(stretched(rng))
+    return made + [record(rng) for _ in range(count - len(made))]
+
+
+def some(rng, count):
+    """A smaller set: every so manieth boundary, and seeded ones."""
+    held = list(boundaries())
+    step = max(1, 2 * len(held) // count)
+    made = [sample()[0]] + [record(rng, **x) for x in held[::step]]
+    return made + [record(rng) for _ in range(count - len(made))]
+
+
+def wanted(r, length, list_length):
+    """Names of the boundaries that a record with these lengths meets."""
+    c = r.places[: r.count]
+    duration = c[-1].time - r.opening
+    yield from (f"charging ID {x}" for x in CHARGING_IDS if r.charging_id == x)
+    yield from (f"uplink {x}" for x in VOLUMES if any(y.uplink == x for y in c))
+    yield from (f"downlink {x}" for x in VOLUMES if any(y.downlink == x for y in c))
+    yield from (f"number {x}" for x in RECORD_NUMBERS if r.number == x)
+    yield from (f"duration {x}" for x in DURATIONS if duration == x)
+    yield f"APN of {r.apn_length}"
+    yield f"IMSI of {sum(h < 10 for o in r.imsi for h in (o & 15, o >> 4))} digits"
+    yield f"node ID of {r.node_id_length}"
+    yield f"{r.count} containers"
+    yield f"cause {r.cause} and {'no' if r.number == 0 else 'the first' if r.number == 1 else 'a later'} number"
+    yield f"SGSN change {r.change} with cause {r.cause}"
+    yield f"offset {r.zone - 720}"
+    yield from (f"time {x}" for x in MOMENTS if r.opening == x)
+    yield from (f"record of {x} octets inside" for x in (127, 128, 255, 256) if length == x)
+    yield from (f"containers of {x} octets" for x in (127, 128, 255, 256) if list_length == x)
+
+
+def all_wanted():
+    names = [f"charging ID {x}" for x in CHARGING_IDS]
+    names += [f"{way} {x}" for way in ("uplink", "downlink") for x in VOLUMES]
+    names += [f"number {x}" for x in RECORD_NUMBERS] + [f"duration {x}" for x in DURATIONS]
+    names += [f"APN of {n}" for n in range(1, 64)] + [f"IMSI of {n} digits" for n in range(6, 16)]
+    names += [f"node ID of {n}" for n in range(21)] + [f"{n} containers" for n in range(1, 16)]
+    names += [f"cause {c} and {n} number" for c in RELEASES for n in ("no", "a later")]
+    names += [f"cause {c} and {n} number" for c in CLOSINGS for n in ("the first", "a later")]
+    names += [f"SGSN change {x} with cause {c}" for x in (0, 1) for c in RELEASES + CLOSINGS]
+    names += [f"offset {x}" for x in range(-720, 841)] + [f"time {x}" for x in MOMENTS]
+    names += [f"{what} {x} octets{inside}" for x in (127, 128, 255, 256)
+              for what, inside in (("record of", " inside"), ("containers of", ""))]
+    return names
