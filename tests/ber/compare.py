@@ -85,7 +85,10 @@ def ours(tally, command, how, data, count):
     with tempfile.TemporaryFile() as given:
         given.write(data)
         given.seek(0)
-        run = subprocess.run(command + [how], stdin=given, stdout=subprocess.PIPE)
+        try:
+            run = subprocess.run(command + [how], stdin=given, stdout=subprocess.PIPE, timeout=900)
+        except (OSError, subprocess.TimeoutExpired) as wrong:
+            sys.exit(f"our program does not run: {wrong}")
     lines = run.stdout.decode("ascii", "replace").split("\n")
     last = lines.pop()
     if run.returncode or last or len(lines) != count:
@@ -253,7 +256,7 @@ def bases(rng, records, encoded, whole):
         (lambda r: r.count == 3 and r.network and r.zone < 720, 256),
         (lambda r: r.count == 1 and r.change and r.number == 0 and r.zone == 720, 140),
     ]
-    made = [pick(*shape) for shape in (shapes if whole else shapes[:2])]
+    made = [pick(*shape) for shape in (shapes if whole else shapes[:1])]
     return [x for x in made if x]
 
 
@@ -294,7 +297,7 @@ def main():
     tally = Tally()
 
     # What to write, and what Erlang makes of the same values.
-    records = good.records(rng, 12_000) if whole else good.some(rng, 600)
+    records = good.records(rng, 12_000) if whole else good.at_boundaries(rng)
     for r in records:
         if rules.broken(r):
             tally.compare(ITSELF, False, f"made to keep the rules, breaks {rules.broken(r)}")
@@ -308,7 +311,9 @@ def main():
                   lambda: differ(good.sample()[1].hex().upper(), encoded[0]))
     for line in encoded:
         if line.startswith("refused"):
-            sys.exit(f"Erlang cannot encode a record within the rules: {line}")
+            tally.compare(ITSELF, False, f"Erlang cannot encode a record within the rules: {line}")
+    if tally.failed:
+        return tally.end()  # by a wrong module nothing can be judged
 
     # Our writer.
     blocks = [plain.pack(r) for r in records]

@@ -258,7 +258,7 @@ def damaged(rng, sample, bases, whole):
         keep(fields(base))
         keep(containers(base))
         keep(twice(rng, base, 800 if whole else 80))
-        keep(across(rng, base, rng.choice(bases), 400 if whole else 40))
+        keep(across(rng, base, rng.choice(bases or [sample]), 400 if whole else 40))
     for base in [sample] + bases:
         made.pop(base, None)
     return [(name, octets) for octets, name in made.items()]

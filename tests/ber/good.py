@@ -149,7 +149,7 @@ def sample():
 
 
 def boundaries():
-    """What to hold fast in a record, one boundary each."""
+    """What to hold fast in a record, a boundary each."""
     yield from ({"charging_id": x} for x in CHARGING_IDS)
     for x in VOLUMES:
         yield from ({name: x, "containers": n} for name in ("uplink", "downlink") for n in (1, 3))
@@ -166,7 +166,6 @@ def boundaries():
     yield from ({"opening": 0, "times": [0] * n} for n in range(1, 16))
     yield from ({"opening": LAST, "times": [LAST] * n} for n in range(1, 16))
     yield from ({"zone": x} for x in ZONES)
-    yield from ({"zone": x, "containers": 1, "apn_length": 1} for x in range(1561))
     yield from ({"imsi_digits": n} for n in range(6, 16) for _ in range(8))
     yield from ({"node_id_length": n} for n in range(21))
     for letter in APN_LETTERS:
@@ -187,11 +186,17 @@ def boundaries():
            "charging_id": 2**32 - 1, "number": NUMBERS, "network": 1, "opening": 0, "duration": LAST}
     yield {"containers": 1, "volume_octets": 2, "apn_length": 1, "node_id_length": 0, "imsi_digits": 6,
            "charging_id": 0, "number": 0, "network": 0, "change": 0, "duration": 0}
-    yield from ({"containers": n, "apn_length": a} for n in range(1, 16) for a in range(1, 64, 1 if n < 6 else 7))
-    # Each of the 1,200 months: its first second, and the one before.
+    yield from ({"apn_length": n} for n in range(1, 64))
+    yield from ({"containers": n} for n in range(1, 16))
+
+
+def sweeps():
+    """Every offset; every month, its first second and the one before; every length."""
+    yield from ({"zone": x, "containers": 1, "apn_length": 1} for x in range(1561))
     for first in MONTHS:
         before = max(0, first - 1)
         yield {"opening": before, "times": [before, first]}
+    yield from ({"containers": n, "apn_length": a} for n in range(1, 16) for a in range(1, 64, 1 if n < 6 else 7))
 
 
 def stretched(rng):
@@ -202,17 +207,14 @@ def stretched(rng):
             yield copy(base, apn_length=size, apn=filled(bytes(rng.choices(APN_LETTERS, k=size)), 63))
 
 
+def at_boundaries(rng):
+    """The sample, and records at every boundary."""
+    return [sample()[0]] + [record(rng, **held) for held in boundaries()] + list(stretched(rng))
+
+
 def records(rng, count):
-    """`count` records, or some more where the boundaries take more."""
-    made = [sample()[0]] + [record(rng, **held) for held in boundaries()] + list(stretched(rng))
-    return made + [record(rng) for _ in range(count - len(made))]
-
-
-def some(rng, count):
-    """A smaller set: every so manieth boundary, and seeded ones."""
-    held = list(boundaries())
-    step = max(1, 2 * len(held) // count)
-    made = [sample()[0]] + [record(rng, **x) for x in held[::step]]
+    """`count` records, or some more where boundaries and sweeps take more."""
+    made = at_boundaries(rng) + [record(rng, **held) for held in sweeps()]
     return made + [record(rng) for _ in range(count - len(made))]
 
 
