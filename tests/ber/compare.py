@@ -113,10 +113,29 @@ class Decoded:
 # Showing a difference
 
 
+def leaves(text):
+    """The values that hold no others, as "tags around it and its own: octets"."""
+    octets, shown = bytes.fromhex(text), []
+    for f in damage.Field(octets, 0, None).all():
+        if not f.kids:
+            tags, g = [], f
+            while g:
+                tags.insert(0, f"{octets[g.start]:02X}")
+                g = g.parent
+            shown.append(f"{' '.join(tags)}: {octets[f.start + 1 : f.end].hex().upper()}")
+    return shown
+
+
 def differ(wanted, found):
     """Where two rows of hex differ first."""
     if wanted == found:
         return "no difference"
+    try:
+        for a, b in zip(leaves(wanted), leaves(found)):
+            if a != b:
+                return f"first different field: wanted {a}, found {b}"
+    except (IndexError, ValueError, RecursionError):
+        pass
     place = next((i for i, (a, b) in enumerate(zip(wanted, found)) if a != b), min(len(wanted), len(found))) // 2
     start = max(0, place - 8)
     return (f"first different octet {place}: wanted ..{wanted[2 * start : 2 * place + 24]}.., "
