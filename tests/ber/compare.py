@@ -349,9 +349,8 @@ def main():
         else:
             inputs.append(("a value that breaks a rule", rule, octets))
     sample, some = good.sample()[1], bases(rng, records, encoded, whole)
-    made = damage.damaged(rng, sample, some, whole)
-    for base in full_lists(rng, records, encoded, 20 if whole else 2):
-        made += list(damage.containers(base))
+    full = full_lists(rng, records, encoded, 20 if whole else 2)
+    made = damage.damaged(rng, sample, some, full, whole)
     inputs += [(name, None, octets) for name, octets in made]
     own = [octets_of(line) for line in written]
     to_read = [o if o is not None else bytes.fromhex(t) for o, t in zip(own, encoded)]
@@ -382,6 +381,8 @@ def main():
     table("Damaged records, by damage:", kinds)
     table("Damaged records that are records within the rules all the same (read takes them):", taken)
     table("Damaged records that are none, and why (one may break several rules; read answers 20):", why)
+    print(f"\n{sum(kinds.values())} damaged records, {len({octets for _, _, octets in inputs})} of them different, "
+          f"{sum(taken.values())} taken")
     print("\nComparisons:")
     for kind in KINDS:
         print(f"  {tally.passed[kind]:7} passed {tally.failed[kind]:6} failed  {kind}")

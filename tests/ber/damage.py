@@ -201,7 +201,8 @@ def containers(octets):
     for i, c in enumerate(held.kids):
         own = octets[c.start : c.end]
         yield "container left out", mended(octets, held, c.start, c.end, b"")
-        yield "container doubled", mended(octets, held, c.start, c.end, own + own)
+        if len(held.kids) < 15:
+            yield "container doubled", mended(octets, held, c.start, c.end, own + own)
         for total in (15, 16, 17, 31):
             more = total - len(held.kids)
             if more > 0:
@@ -239,8 +240,9 @@ def noise(rng, count):
         yield "no record at all", tlv(0xA0, rng.randbytes(rng.randrange(1, 200)))
 
 
-def damaged(rng, sample, bases, whole):
-    """(damage, octets), no octets twice: `sample` in every way, `bases` in several."""
+def damaged(rng, sample, bases, full, whole):
+    """(damage, octets), no octets twice: `sample` in every way, `bases` in several;
+    of the `full` ones, with fifteen containers, the containers only."""
     made = {}
 
     def keep(pairs):
@@ -259,6 +261,8 @@ def damaged(rng, sample, bases, whole):
         keep(containers(base))
         keep(twice(rng, base, 800 if whole else 80))
         keep(across(rng, base, rng.choice(bases or [sample]), 400 if whole else 40))
-    for base in [sample] + bases:
+    for base in full:
+        keep(containers(base))
+    for base in [sample] + bases + full:
         made.pop(base, None)
     return [(name, octets) for octets, name in made.items()]
