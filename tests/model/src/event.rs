@@ -1,0 +1,213 @@
+//! "Events (integers big-endian)": layout and the ranges of the fields.
+
+use crate::fault::Fault;
+
+pub const MARK: [u8; 2] = [0xC3, 0x5E];
+/// "the mark C3 5E, a kind, and a 4-octet time: 7 octets"
+pub const HEAD: usize = 7;
+
+pub const ACTIVATE: u8 = 1;
+pub const TRAFFIC: u8 = 2;
+pub const QOS: u8 = 3;
+pub const TARIFF: u8 = 4;
+pub const RELEASE: u8 = 5;
+pub const TICK: u8 = 6;
+pub const MANAGEMENT: u8 = 7;
+
+/// Reliability, delay, precedence, peak, mean.
+pub type Qos = [u8; 5];
+
+/// "A context is named by charging ID and GGSN address."
+#[derive(Clone, Copy, Debug, PartialEq, Eq, PartialOrd, Ord)]
+pub struct Name {
+    pub charging_id: u32,
+    pub ggsn: [u8; 4],
+}
+
+#[derive(Clone, Debug, PartialEq, Eq)]
+pub enum What {
+    Activate(Name, Box<Start>),
+    Traffic(Name, u32, u32),
+    Qos(Name, Qos),
+    Tariff,
+    Release(Name, u8),
+    Tick,
+    Management(Name),
+}
+
+#[derive(Clone, Debug, PartialEq, Eq)]
+pub struct Start {
+    pub flags: u8,
+    pub imsi: [u8; 8],
+    pub pdp_type: [u8; 2],
+    pub address: [u8; 4],
+    pub qos: Qos,
+    pub apn: Vec<u8>,
+}
+
+fn four(octets: &[u8], at: usize) -> [u8; 4] {
+    octets[at..at + 4].try_into().unwrap()
+}
+
+fn number(octets: &[u8], at: usize) -> u32 {
+    u32::from_be_bytes(four(octets, at))
+}
+
+pub fn kind(event: &[u8]) -> u8 {
+    event[2]
+}
+
+pub fn time(event: &[u8]) -> u32 {
+    number(event, 3)
+}
+
+pub fn name(event: &[u8]) -> Name {
+    Name { charging_id: number(event, 7), ggsn: four(event, 11) }
+}
+
+/// Kinds 1, 2, 3, 5 and 7.
+pub fn has_name(kind: u8) -> bool {
+    !matches!(kind, TARIFF | TICK)
+}
+
+/// The column "Whole length"; nothing for an activate that ends before its n.
+/// n counts as it stands here, its range comes under 5.
+pub fn whole_length(event: &[u8]) -> Option<usize> {
+    match kind(event) {
+        ACTIVATE => event.get(35).map(|n| 36 + usize::from(*n)),
+        TRAFFIC => Some(23),
+        QOS => Some(20),
+        TARIFF | TICK => Some(7),
+        RELEASE => Some(16),
+        MANAGEMENT => Some(15),
+        _ => None,
+    }
+}
+
+/// "reliability 0..5, delay 0..3, precedence 0..3, peak 0..9, mean 0..18"
+pub const QOS_HIGHEST: Qos = [5, 3, 3, 9, 18];
+
+pub fn qos_in_range(qos: &Qos, fault: Fault) -> bool {
+    let mut highest = QOS_HIGHEST;
+    if fault == Fault::MeanOf19 {
+        highest[4] = 19;
+    }
+    qos.iter().zip(highest).all(|(value, most)| *value <= most)
+}
+
+/// The sixteen halves of an IMSI, "low half first".
+fn halves(imsi: &[u8; 8]) -> Vec<u8> {
+    imsi.iter().flat_map(|octet| [octet & 15, octet >> 4]).collect()
+}
+
+pub fn imsi_digits(imsi: &[u8; 8]) -> usize {
+    halves(imsi).iter().take_while(|half| **half <= 9).count()
+}
+
+/// "IMSI 6..15 digits, low half first, all later halves F"
+pub fn imsi_in_range(imsi: &[u8; 8], fault: Fault) -> bool {
+    let digits = imsi_digits(imsi);
+    let fewest = if fault == Fault::FiveDigits { 5 } else { 6 };
+    (fewest..=15).contains(&digits) && halves(imsi)[digits..].iter().all(|half| *half == 15)
+}
+
+/// "n 1..63; APN letters, digits, '.', '-'"
+pub fn apn_in_range(apn: &[u8], fault: Fault) -> bool {
+    let most = if fault == Fault::Apn64 { 64 } else { 63 };
+    (1..=most).contains(&apn.len())
+        && apn.iter().all(|c| c.is_ascii_alphanumeric() || *c == b'.' || *c == b'-')
+}
+
+/// "flags 0..3"
+pub fn flags_in_range(flags: u8) -> bool {
+    flags <= 3
+}
+
+/// "cause 0, 4 or 18"
+pub fn cause_in_range(cause: u8, fault: Fault) -> bool {
+    matches!(cause, 0 | 4 | 18) || (fault == Fault::CauseOf16 && cause == 16)
+}
+
+/// All fields but the time, which has a row of its own. "PDP type any"; names,
+/// addresses and volumes may be anything.
+pub fn fields_in_range(event: &[u8], fault: Fault) -> bool {
+    match what(event) {
+        What::Activate(_, start) => {
+            flags_in_range(start.flags)
+                && imsi_in_range(&start.imsi, fault)
+                && qos_in_range(&start.qos, fault)
+                && apn_in_range(&start.apn, fault)
+        }
+        What::Qos(_, qos) => qos_in_range(&qos, fault),
+        What::Release(_, cause) => cause_in_range(cause, fault),
+        What::Traffic(..) | What::Tariff | What::Tick | What::Management(_) => true,
+    }
+}
+
+/// "An event is one of these seven": of an event of the right length.
+pub fn what(event: &[u8]) -> What {
+    match kind(event) {
+        ACTIVATE => What::Activate(
+            name(event),
+            Box::new(Start {
+                flags: event[15],
+                imsi: event[16..24].try_into().unwrap(),
+                pdp_type: [event[24], event[25]],
+                address: four(event, 26),
+                qos: event[30..35].try_into().unwrap(),
+                apn: event[36..].to_vec(),
+            }),
+        ),
+        TRAFFIC => What::Traffic(name(event), number(event, 15), number(event, 19)),
+        QOS => What::Qos(name(event), event[15..20].try_into().unwrap()),
+        TARIFF => What::Tariff,
+        RELEASE => What::Release(name(event), event[15]),
+        TICK => What::Tick,
+        MANAGEMENT => What::Management(name(event)),
+        other => panic!("kind {other} after row 3"),
+    }
+}
+
+/// The octets of an event, whatever its fields.
+pub fn octets(time: u32, what: &What) -> Vec<u8> {
+    let mut event = MARK.to_vec();
+    let kind = match what {
+        What::Activate(..) => ACTIVATE,
+        What::Traffic(..) => TRAFFIC,
+        What::Qos(..) => QOS,
+        What::Tariff => TARIFF,
+        What::Release(..) => RELEASE,
+        What::Tick => TICK,
+        What::Management(_) => MANAGEMENT,
+    };
+    event.push(kind);
+    event.extend_from_slice(&time.to_be_bytes());
+    if let What::Activate(name, _)
+    | What::Traffic(name, ..)
+    | What::Qos(name, _)
+    | What::Release(name, _)
+    | What::Management(name) = what
+    {
+        event.extend_from_slice(&name.charging_id.to_be_bytes());
+        event.extend_from_slice(&name.ggsn);
+    }
+    match what {
+        What::Activate(_, start) => {
+            event.push(start.flags);
+            event.extend_from_slice(&start.imsi);
+            event.extend_from_slice(&start.pdp_type);
+            event.extend_from_slice(&start.address);
+            event.extend_from_slice(&start.qos);
+            event.push(start.apn.len() as u8);
+            event.extend_from_slice(&start.apn);
+        }
+        What::Traffic(_, uplink, downlink) => {
+            event.extend_from_slice(&uplink.to_be_bytes());
+            event.extend_from_slice(&downlink.to_be_bytes());
+        }
+        What::Qos(_, qos) => event.extend_from_slice(qos),
+        What::Release(_, cause) => event.push(*cause),
+        What::Tariff | What::Tick | What::Management(_) => {}
+    }
+    event
+}

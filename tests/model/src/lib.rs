@@ -1,0 +1,13 @@
+//! The rules of document 01 a second time, in plain Rust, written from the
+//! document alone. Words in quotes are the document's.
+
+// pub mod aims;
+pub mod calls;
+pub mod clock;
+pub mod event;
+pub mod fault;
+pub mod node;
+pub mod profile;
+pub mod random;
+pub mod record;
+pub mod step;

@@ -1,0 +1,150 @@
+//! "The record's octets": the BER writer.
+
+use crate::clock::time_stamp;
+use crate::event::{imsi_digits, Name, Qos};
+use crate::fault::Fault;
+use crate::node::Container;
+
+/// A closed S-CDR.
+#[derive(Clone, Debug, PartialEq, Eq)]
+pub struct Record {
+    pub network_initiated: bool,
+    pub imsi: [u8; 8],
+    pub sgsn: [u8; 4],
+    pub name: Name,
+    pub apn: Vec<u8>,
+    pub pdp_type: [u8; 2],
+    pub address: [u8; 4],
+    pub containers: Vec<Container>,
+    pub opened: u32,
+    pub offset: i32,
+    pub sgsn_change: bool,
+    pub cause: u8,
+    pub number: Option<u64>,
+    pub node_id: Vec<u8>,
+    /// For planted faults only.
+    pub activated: u32,
+}
+
+/// "Integers: shortest two's complement." None here is below zero.
+pub fn integer(value: u64) -> Vec<u8> {
+    let mut octets = value.to_be_bytes().to_vec();
+    octets.insert(0, 0);
+    while octets.len() > 1 && octets[0] == 0 && octets[1] < 0x80 {
+        octets.remove(0);
+    }
+    octets
+}
+
+/// "Lengths: shortest definite form."
+pub fn length(value: usize, fault: Fault) -> Vec<u8> {
+    if value < 0x80 {
+        return vec![value as u8];
+    }
+    if value < 0x100 && fault != Fault::LongLength {
+        return vec![0x81, value as u8];
+    }
+    assert!(value < 0x1_0000);
+    vec![0x82, (value >> 8) as u8, value as u8]
+}
+
+/// A tag, a length and the contents.
+pub fn field(tag: u8, contents: &[u8], fault: Fault) -> Vec<u8> {
+    let mut octets = vec![tag];
+    octets.extend(length(contents.len(), fault));
+    octets.extend_from_slice(contents);
+    octets
+}
+
+/// "An IPv4 address is 80 04 and four octets."
+pub fn ipv4(address: &[u8; 4], fault: Fault) -> Vec<u8> {
+    field(0x80, address, fault)
+}
+
+/// "83 IMSI, half the digits rounded up, odd ones filled with F": the event
+/// has the F there already.
+pub fn imsi(imsi: &[u8; 8], fault: Fault) -> Vec<u8> {
+    if fault == Fault::ImsiWhole {
+        return imsi.to_vec();
+    }
+    imsi[..imsi_digits(imsi).div_ceil(2)].to_vec()
+}
+
+/// "A2 (80..84, one octet each, the QoS)"
+fn qos(qos: &Qos, fault: Fault) -> Vec<u8> {
+    let parts: Vec<u8> =
+        (0x80..).zip(qos).flat_map(|(tag, value)| field(tag, &[*value], fault)).collect();
+    field(0xA2, &parts, fault)
+}
+
+/// "A container: 30; A2 ..; 83 uplink; 84 downlink; 85 condition; 86 time."
+fn container(container: &Container, offset: i32, fault: Fault) -> Vec<u8> {
+    let contents = [
+        qos(&container.qos, fault),
+        field(0x83, &integer(container.uplink), fault),
+        field(0x84, &integer(container.downlink), fault),
+        field(0x85, &[container.condition], fault),
+        field(0x86, &time_stamp(container.time, offset, fault), fault),
+    ]
+    .concat();
+    field(0x30, &contents, fault)
+}
+
+/// "8A charging ID"
+fn charging_id(id: u32, fault: Fault) -> Vec<u8> {
+    if fault == Fault::ChargingIdInFour && id >= 0x8000_0000 {
+        return id.to_be_bytes().to_vec();
+    }
+    integer(u64::from(id))
+}
+
+/// "Duration: last container time minus opening."
+fn duration(record: &Record, fault: Fault) -> u64 {
+    let from =
+        if fault == Fault::DurationFromActivation { record.activated } else { record.opened };
+    u64::from(record.containers.last().expect("a closed record has a container").time - from)
+}
+
+/// "AE served address, an A0 around it"
+fn served_address(address: &[u8; 4], fault: Fault) -> Vec<u8> {
+    if fault == Fault::ServedAddressBare {
+        return ipv4(address, fault);
+    }
+    field(0xA0, &ipv4(address, fault), fault)
+}
+
+/// "Outer A0; inside, ascending: .."; without the mark.
+pub fn octets(record: &Record, fault: Fault) -> Vec<u8> {
+    let f = |tag: u8, contents: &[u8]| field(tag, contents, fault);
+    let mut inside = f(0x80, &[18]);
+    if record.network_initiated {
+        inside.extend(f(0x81, &[0xFF]));
+    }
+    inside.extend(f(0x83, &imsi(&record.imsi, fault)));
+    if fault == Fault::AddressBare {
+        inside.extend(f(0xA5, &record.sgsn));
+    } else {
+        inside.extend(f(0xA5, &ipv4(&record.sgsn, fault)));
+    }
+    inside.extend(f(0x8A, &charging_id(record.name.charging_id, fault)));
+    inside.extend(f(0xAB, &ipv4(&record.name.ggsn, fault)));
+    inside.extend(f(0x8C, &record.apn));
+    inside.extend(f(0x8D, &record.pdp_type));
+    inside.extend(f(0xAE, &served_address(&record.address, fault)));
+    let containers: Vec<u8> =
+        record.containers.iter().flat_map(|c| container(c, record.offset, fault)).collect();
+    inside.extend(f(0xAF, &containers));
+    inside.extend(f(0x90, &time_stamp(record.opened, record.offset, fault)));
+    inside.extend(f(0x91, &integer(duration(record, fault))));
+    if record.sgsn_change {
+        inside.extend(f(0x92, &[0xFF]));
+    }
+    inside.extend(f(0x93, &integer(u64::from(record.cause))));
+    if let Some(number) = record.number {
+        inside.extend(f(0x95, &integer(number)));
+    }
+    if !record.node_id.is_empty() || fault == Fault::EmptyNodeId {
+        inside.extend(f(0x96, &record.node_id));
+    }
+    f(0xA0, &inside)
+}
