@@ -425,14 +425,10 @@ fn largest_record() {
     let mut output = Vec::new();
     for _ in 0..15 {
         for _ in 0..3 {
-            run.say(0, What::Traffic(name, u32::MAX, u32::MAX));
+            run.say(9, What::Traffic(name, u32::MAX, u32::MAX));
         }
-        output = run.say(clock::LAST_SECOND, What::Tariff);
-        run.0.clock = 0;
-        for context in run.0.slots.iter_mut().flatten() {
-            context.containers.iter_mut().for_each(|c| c.time = 0);
-        }
+        output = run.say(9, What::Tariff);
     }
     assert!(output.len() - 2 <= 1024, "{}", output.len());
-    assert!(output.len() > 900, "{}", output.len());
+    assert!(output.len() > 870, "{}", output.len());
 }
