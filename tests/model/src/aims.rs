@@ -178,6 +178,8 @@ impl Aims {
     pub fn missed(&self) -> Vec<String> {
         let mut missed = Vec::new();
         let none = |count: &u64| *count == 0;
+        let strange = self.answers.keys().filter(|a| **a != 0 && !REFUSALS.contains(a));
+        missed.extend(strange.map(|a| format!("a run without answer {a}")));
         missed.extend(self.answers.iter().filter(|a| none(a.1)).map(|a| format!("answer {}", a.0)));
         missed.extend(self.causes.iter().filter(|c| none(c.1)).map(|c| format!("cause {}", c.0)));
         missed.extend(self.aims.iter().filter(|a| none(a.1)).map(|a| a.0.to_string()));
@@ -262,13 +264,15 @@ impl Aims {
                 4 => (1..=7).contains(&event::kind(event)),
                 11 if !readable => false,
                 // A wrong time can't be carried out; the output is as long now.
-                11 => doable() && {
-                    let mut other = event.to_vec();
-                    if !time_right {
-                        other[3..7].copy_from_slice(&node.clock.to_be_bytes());
+                11 => {
+                    doable() && {
+                        let mut other = event.to_vec();
+                        if !time_right {
+                            other[3..7].copy_from_slice(&node.clock.to_be_bytes());
+                        }
+                        !step::accept(node, &other, Fault::None).1.is_empty() && room < 64
                     }
-                    !step::accept(node, &other, Fault::None).1.is_empty() && room < 64
-                },
+                }
                 _ => readable,
             };
             if can && (*row == 11 || applies(node, event, room, Fault::None)) {

@@ -22,7 +22,7 @@ faults! {
     CountedTwice "counted-twice" "the report that met the limit is counted in the next record as well",
     CountedInNext "counted-in-next" "the report that met the limit is counted in the next record only",
     RefusalMovesClock "refusal-moves-clock" "refusal 8 moves the clock",
-    RefusalCounts "full-table-releases" "refusal 10 frees the last slot",
+    RefusalFreesSlot "refusal-frees-slot" "refusal 10 frees the last slot",
     RefusedTickWrites "refused-tick-writes" "a tick refused with 11 writes the records that fit",
     RefusedTickCloses "refused-tick-closes" "a tick refused with 11 closes its first record",
     Swap2And3 "rows-2-3" "rows 2 and 3 of the refusal table are swapped",

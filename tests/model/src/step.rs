@@ -145,8 +145,7 @@ pub struct Step {
 /// written .. Accepted: answer 0, output from the buffer's start"
 pub fn step(node: &Node, event: &[u8], room: usize, fault: Fault) -> Step {
     if let Some(answer) = refusal(node, event, room, fault) {
-        let mut step =
-            Step { answer, node: node.clone(), output: Vec::new(), records: Vec::new() };
+        let mut step = Step { answer, node: node.clone(), output: Vec::new(), records: Vec::new() };
         spoil_refusal(&mut step, event, room, fault);
         return step;
     }
@@ -159,7 +158,7 @@ fn spoil_refusal(step: &mut Step, event: &[u8], room: usize, fault: Fault) {
     let tick = step.answer == 11 && event::kind(event) == event::TICK;
     match fault {
         Fault::RefusalMovesClock if step.answer == 8 => step.node.clock = event::time(event),
-        Fault::RefusalCounts if step.answer == 10 => step.node.slots[SLOTS - 1] = None,
+        Fault::RefusalFreesSlot if step.answer == 10 => step.node.slots[SLOTS - 1] = None,
         Fault::RefusedTickWrites if tick => {
             for record in accept(&step.node, event, fault).1 {
                 let one = output(&[record], fault);

@@ -20,7 +20,8 @@ fn lines(octets: &[u8]) -> Vec<&[u8]> {
 /// A line for a reader: not too long, and in quotes if it is odd.
 fn shown(line: Option<&[u8]>, around: usize) -> String {
     let Some(line) = line else { return "(no line)".into() };
-    let plain = line.ends_with(b"\n") && line[..line.len() - 1].iter().all(|c| (32..127).contains(c));
+    let plain =
+        line.ends_with(b"\n") && line[..line.len() - 1].iter().all(|c| (32..127).contains(c));
     if !plain {
         return format!("{:?}", String::from_utf8_lossy(&line[..line.len().min(200)]));
     }
@@ -37,8 +38,7 @@ fn event_in_words(octets: &[u8]) -> String {
     if octets.len() < event::HEAD {
         return "under 7 octets".into();
     }
-    let kinds =
-        ["?", "activate", "traffic", "QoS", "tariff", "release", "tick", "management"];
+    let kinds = ["?", "activate", "traffic", "QoS", "tariff", "release", "tick", "management"];
     let kind = event::kind(octets);
     let mut words = format!("{} ({kind})", kinds.get(usize::from(kind)).unwrap_or(&"?"));
     let time = event::time(octets);
@@ -73,7 +73,11 @@ fn compare(runs: &Path, expected: &Path, found: &Path) -> Result<bool, String> {
         let other = read(&found.join(format!("{name}.out"))).unwrap_or_default();
         let (model, other) = (lines(&model), lines(&other));
         if model.len() != made.len() {
-            return Err(format!("run {name}: {} calls, but {} lines of the model", made.len(), model.len()));
+            return Err(format!(
+                "run {name}: {} calls, but {} lines of the model",
+                made.len(),
+                model.len()
+            ));
         }
         aims.new_run();
         let mut node = Node::fresh(profile);
@@ -90,8 +94,18 @@ fn compare(runs: &Path, expected: &Path, found: &Path) -> Result<bool, String> {
                     let first = one.iter().zip(two_octets).take_while(|(a, b)| a == b).count();
                     println!("run {name}, call {} of {}: the outputs differ", at + 1, made.len());
                     println!("  event    {}", hex(call.event));
-                    println!("           {} octets, room {}: {}", call.event.len(), call.room, event_in_words(call.event));
-                    println!("  node     clock {}, {} contexts, {} events accepted", node.clock, node.active(), node.accepted);
+                    println!(
+                        "           {} octets, room {}: {}",
+                        call.event.len(),
+                        call.room,
+                        event_in_words(call.event)
+                    );
+                    println!(
+                        "  node     clock {}, {} contexts, {} events accepted",
+                        node.clock,
+                        node.active(),
+                        node.accepted
+                    );
                     println!("  model    {}", shown(Some(one), first));
                     println!("  program  {}", shown(two, first));
                     println!("  first difference at character {} of the line", first + 1);
@@ -105,7 +119,9 @@ fn compare(runs: &Path, expected: &Path, found: &Path) -> Result<bool, String> {
         }
     }
     if differing > 0 {
-        println!("{differing} lines differ in all; those after the first in a run may follow from it");
+        println!(
+            "{differing} lines differ in all; those after the first in a run may follow from it"
+        );
         println!("{same} passed, {differing} failed");
         return Ok(false);
     }

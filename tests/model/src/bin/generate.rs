@@ -16,16 +16,39 @@ const CALLS_OF_A_RUN: usize = 2_500;
 const ROOM: usize = 20_000;
 
 const IDS: [u32; 18] = [
-    0, 1, 127, 128, 255, 256, 32767, 32768, 65535, 65536, 0x7F_FFFF, 0x80_0000, 0xFF_FFFF,
-    0x100_0000, 0x7FFF_FFFF, 0x8000_0000, 0xFFFF_FFFE, 0xFFFF_FFFF,
+    0,
+    1,
+    127,
+    128,
+    255,
+    256,
+    32767,
+    32768,
+    65535,
+    65536,
+    0x7F_FFFF,
+    0x80_0000,
+    0xFF_FFFF,
+    0x100_0000,
+    0x7FFF_FFFF,
+    0x8000_0000,
+    0xFFFF_FFFE,
+    0xFFFF_FFFF,
 ];
 const GGSNS: [[u8; 4]; 5] =
     [[10, 0, 0, 2], [10, 0, 0, 3], [0, 0, 0, 0], [255, 255, 255, 255], [2, 0, 0, 10]];
-const OFFSETS: [i32; 15] =
-    [0, -90, -720, 840, -1, 1, 59, 60, 61, -59, -60, -61, 839, -719, 330];
+const OFFSETS: [i32; 15] = [0, -90, -720, 840, -1, 1, 59, 60, 61, -59, -60, -61, 839, -719, 330];
 const NODE_IDS: [&str; 10] = [
-    "", "~~~~~~~~~~~~~~~~~~~~", "N", "SGSN-1 Teheran", " a ", " ", "                    ", "node-id x",
-    "0123456789012345678", "-90",
+    "",
+    "~~~~~~~~~~~~~~~~~~~~",
+    "N",
+    "SGSN-1 Teheran",
+    " a ",
+    " ",
+    "                    ",
+    "node-id x",
+    "0123456789012345678",
+    "-90",
 ];
 
 /// How the time of a run goes on.
@@ -270,8 +293,11 @@ impl Run {
     }
 
     fn any_name(&mut self) -> Name {
-        let charging_id =
-            if self.random.percent(80) { self.random.pick(&IDS) } else { self.random.next() as u32 };
+        let charging_id = if self.random.percent(80) {
+            self.random.pick(&IDS)
+        } else {
+            self.random.next() as u32
+        };
         let ggsn = self.random.pick(&GGSNS);
         Name { charging_id, ggsn }
     }
@@ -415,9 +441,11 @@ impl Run {
         let time = self.time();
         let what = match kind {
             event::ACTIVATE => What::Activate(name, Box::new(self.start())),
-            event::TRAFFIC => {
-                What::Traffic(name, self.random.sized(u32::MAX.into()) as u32, self.random.next() as u32)
-            }
+            event::TRAFFIC => What::Traffic(
+                name,
+                self.random.sized(u32::MAX.into()) as u32,
+                self.random.next() as u32,
+            ),
             event::QOS => What::Qos(name, self.qos()),
             event::TARIFF => What::Tariff,
             event::RELEASE => What::Release(name, self.random.pick(&[0, 4, 18])),
@@ -441,7 +469,11 @@ impl Run {
                     let half = self.random.below(16);
                     let value = self.random.between(10, 15) as u8;
                     let octet = &mut event[16 + half as usize / 2];
-                    *octet = if half % 2 == 0 { *octet & 0xF0 | value } else { *octet & 15 | value << 4 };
+                    *octet = if half % 2 == 0 {
+                        *octet & 0xF0 | value
+                    } else {
+                        *octet & 15 | value << 4
+                    };
                 }
                 _ => {
                     let at = self.random.between(36, event.len() as u64 - 1) as usize;
