@@ -1,0 +1,61 @@
+-- Laws of lists and of what may be missing.
+-- Assumes nothing.
+use Prim.Native.Nat.{ℕ, zero, suc, _+_}
+use mathlib.Core.Path.{_≡_, refl, sym, ap, _∙_}
+use mathlib.Core.Bool.{Bool, true, false, not, cond, _&&_, false≢true}
+use mathlib.Core.List.{List, [], _∷_, _++_, map, append-assoc, append-nil}
+use mathlib.Core.Option.{Option, none, some}
+use native.Mathlib.Omega.{arith}
+use lib.ListN.{length, length-append}
+use Rattle.history.specs.Lists.{each, sumOf, All, Earlier, ifAny, count}
+
+pub each-append : {A B : Type 0} (f : A → List B) (a b : List A) → each f (a ++ b) ≡ each f a ++ each f b
+each-append f [] b = refl
+each-append f (x ∷ xs) b = rw (append-assoc, each-append f xs b)
+
+pub each-one : {A : Type 0} (a : List A) → each (λ x. x ∷ []) a ≡ a
+each-one [] = refl
+each-one (x ∷ xs) = rw (each-one xs)
+
+pub append-cancel : {A : Type 0} (a b c : List A) → a ++ b ≡ a ++ c → b ≡ c
+append-cancel [] b c p = p
+append-cancel (x ∷ xs) b c p = let q : xs ++ b ≡ xs ++ c = cc in append-cancel xs b c q
+
+pub map-append : {A B : Type 0} (f : A → B) (a b : List A) → map f (a ++ b) ≡ map f a ++ map f b
+map-append f [] b = refl
+map-append f (x ∷ xs) b = rw (map-append f xs b)
+
+pub map-map : {A B C : Type 0} (f : B → C) (g : A → B) (a : List A) → map f (map g a) ≡ map (λ x. f (g x)) a
+map-map f g [] = refl
+map-map f g (x ∷ xs) = rw (map-map f g xs)
+
+pub map-id : {A : Type 0} (a : List A) → map (λ x. x) a ≡ a
+map-id [] = refl
+map-id (x ∷ xs) = rw (map-id xs)
+
+pub sumOf-append : {A : Type 0} (f : A → ℕ) (a b : List A) → sumOf f (a ++ b) ≡ sumOf f a + sumOf f b
+sumOf-append f [] b = omega arith
+sumOf-append f (x ∷ xs) b = omega (arith, sumOf-append f xs b)
+
+pub length-ifAny : {A : Type 0} (a : List A) (o : Option ℕ) (f : ℕ → A) → length (a ++ ifAny o f) ≡ count o (length a)
+length-ifAny a none f = ap length (append-nil a)
+length-ifAny a (some k) f = omega (arith, length-append a (f k ∷ []))
+
+pub both : (a b : Bool) → (a && b) ≡ true → (a ≡ true) × (b ≡ true)
+both true b p = (refl, p)
+both false b p = absurd (false≢true p)
+
+pub not-true : (a : Bool) → not a ≡ true → a ≡ false
+not-true true p = absurd (false≢true p)
+not-true false p = refl
+
+pub cond-same : {A : Type 0} (b : Bool) (x : A) → cond b x x ≡ x
+cond-same true x = refl
+cond-same false x = refl
+
+pub each-cond : {A B : Type 0} (f : A → List B) (b : Bool) (a : A) (rest : List A) → each f (cond b (a ∷ rest) rest) ≡ cond b (f a ++ each f rest) (each f rest)
+each-cond f true a rest = refl
+each-cond f false a rest = refl
+
+pub none≢some : {A : Type 0} {k : A} → none ≡ some k → ⊥
+none≢some {k = k} p = let z : _≡_ {A = ℕ} 0 1 = cc in omega arith

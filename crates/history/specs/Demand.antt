@@ -1,0 +1,98 @@
+-- Demand 3: every octet once.
+-- Assumes nothing.
+use Prim.Native.Nat.{ℕ, zero, suc, _+_}
+use mathlib.Core.Path.{_≡_}
+use mathlib.Core.Logic.{_↔_}
+use mathlib.Core.Bool.{Bool, true, false, cond}
+use mathlib.Core.List.{List, [], _∷_, _++_, map}
+use mathlib.Core.Option.{Option, none, some}
+use lib.ListN.{length}
+use Rattle.history.specs.Lists.{each, sumOf, All, Earlier}
+use Rattle.history.specs.History.{History, start, _▸_∶_, events, began, beganWith, total}
+use Rattle.history.specs.Records.{Rules, Stretch, Record, Open, whole, entire, inForce, changes, sinceOpening, closes, running, stretches, closings, records, ended, leaves}
+use Rattle.history.specs.Log.{Accepted, Meaning, histories}
+use Rattle.history.specs.Run.{Machine, run, written, log}
+
+-- ---- what one history must be
+
+-- 1, 2, 3 .. k
+abbrev pub upTo : ℕ → List (Option ℕ)
+upTo zero = []
+upTo (suc k) = upTo k ++ (some (suc k) ∷ [])
+
+-- The numbers of k closed records, by whether a release has ended the history: a sole record has none.
+abbrev pub numbers : Bool → ℕ → List (Option ℕ)
+numbers false k = upTo k
+numbers true zero = []
+numbers true (suc zero) = none ∷ []
+numbers true (suc (suc k)) = upTo (suc (suc k))
+
+-- Hearing e at t right after h closes a record, with this cause.
+pub record ClosesNow {S E : Type 0} (R : Rules S E) (h : History S E) (t : ℕ) (e : E) (cause : ℕ) : Type 0 where
+  pub closed : Record S E
+  pub written : records R (h ▸ t ∶ e) ≡ records R h ++ (closed ∷ [])
+  pub for : closed .cause ≡ cause
+
+pub record OnceEach {S E : Type 0} (R : Rules S E) (h : History S E) : Type 0 where
+  -- The stretches, read through the closed records and then the open one, are those that the cuts make: once each, in order.
+  pub read : each (λ r. r .stretches) (records R h) ++ stretches R (sinceOpening R h) ≡ stretches R h
+  -- They and then the running one are the whole history, event by event.
+  pub all : each (λ x. events (whole x)) (stretches R h) ++ events (running R h) ≡ events h
+  -- Whatever is counted: with the running stretch they make up all that was reported.
+  pub every : (counts : E → ℕ) → sumOf (λ x. total counts (whole x)) (stretches R h) + total counts (running R h) ≡ total counts h
+  -- The closed records have the numbers 1, 2, 3, and a sole record none.
+  pub numbered : map (λ r. r .number) (records R h) ≡ numbers (ended R h) (closings R h)
+  -- Each record opens when the one before it closes, with what is then in force; the first with the history.
+  pub opened : map (λ r. began (r .past)) (records R h) ++ (began (sinceOpening R h) ∷ []) ≡ began h ∷ map (λ r. r .time) (records R h)
+  pub opened-with : map (λ r. beganWith (r .past)) (records R h) ++ (beganWith (sinceOpening R h) ∷ [])
+      ≡ beganWith h ∷ map (λ r. inForce R (entire r)) (records R h)
+  -- The open record has a finished stretch for each of its changes.
+  pub changed : changes R (sinceOpening R h) ≡ length (stretches R (sinceOpening R h))
+  -- Whatever is heard next closes a record exactly when a closing condition holds, read since the last opening.
+  pub exactly : (t : ℕ) (e : E) (cause : ℕ) → ClosesNow R h t e cause ↔ (closes R h t e ≡ some cause)
+
+-- ---- what a node must do
+
+-- How a kind's records are written and its subjects stored, by what the history says. C is what is stored, B what is written.
+pub record Forms (N S E C B : Type 0) : Type 0 where
+  pub written : N → Record S E → B
+  pub stored : N → Open S E → C
+
+-- Where a node M has the slots of a kind, and which of the records that it writes are of the kind.
+pub record Sight (N C B M O : Type 0) : Type 0 where
+  pub slots : M → List (Option C)
+  pub name : C → N
+  pub kindred : O → List B
+  pub nameOf : B → N
+
+-- What stands under a name: among records, and among slots.
+abbrev pub under : {N B : Type 0} → (N → N → Bool) → (B → N) → N → List B → List B
+under same nameOf n [] = []
+under same nameOf n (r ∷ rs) = cond (same n (nameOf r)) (r ∷ under same nameOf n rs) (under same nameOf n rs)
+
+abbrev pub stored : {C : Type 0} → List (Option C) → List C
+stored [] = []
+stored (none ∷ os) = stored os
+stored (some c ∷ os) = c ∷ stored os
+
+module _ {G N S E W C B M I O : Type 0} (R : Rules S E) (D : Meaning G N S E W) (F : Forms N S E C B) (L : Sight N C B M O)
+    (X : Machine M I W O) (fresh : M) (settings : G) where
+  -- the histories of a name after calls from a fresh node
+  abbrev pub historiesOf : List I → N → List (History S E)
+  historiesOf calls n = histories R D n settings (log X fresh calls)
+
+  -- what a history leaves stored: nothing once a release has ended it
+  abbrev pub left : N → History S E → List C
+  left n h = cond (ended R h) [] (F .stored n (leaves R h) ∷ [])
+
+  -- After any calls from a fresh node, refused ones among them, and for every name:
+  pub record Demand3 (calls : List I) (n : N) : Type 0 where
+    -- the records written under it are exactly those that its histories make, one activation after another, in order;
+    pub closed : under (D .same) (L .nameOf) n (each (L .kindred) (written X fresh calls))
+        ≡ each (λ h. map (F .written n) (records R h)) (historiesOf calls n)
+    -- what is stored under it is what its histories leave,
+    pub open-now : under (D .same) (L .name) n (stored (L .slots (run X fresh calls))) ≡ each (left n) (historiesOf calls n)
+    -- and that is what the last one leaves, since a release has ended each before it;
+    pub released : Earlier (λ h. ended R h ≡ true) (historiesOf calls n)
+    -- and each history is charged once in every part.
+    pub once : All (OnceEach R) (historiesOf calls n)
