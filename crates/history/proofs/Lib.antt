@@ -1,2 +1,7 @@
 pub mod Lists
 pub mod Records
+pub mod Tables
+pub mod Told
+pub mod Histories
+pub mod Runs
+pub mod Demand

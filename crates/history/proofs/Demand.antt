@@ -1,0 +1,37 @@
+-- Demand 3, for every node that handles a kind as its histories say.
+-- Assumes nothing.
+use Prim.Native.Nat.{ℕ}
+use mathlib.Core.Path.{_≡_, refl, sym, ap, _∙_}
+use mathlib.Core.Bool.{Bool, true, false, cond}
+use mathlib.Core.List.{List, [], _∷_, _++_, map}
+use mathlib.Core.Option.{Option, none, some}
+use Rattle.history.specs.Lists.{each, All}
+use Rattle.history.specs.Records.{Rules}
+use Rattle.history.specs.Log.{Meaning}
+use Rattle.history.specs.Table.{Handling}
+use Rattle.history.specs.Run.{Machine, run, written, log}
+use Rattle.history.specs.Demand.{OnceEach, Forms, Sight, under, stored, historiesOf, Demand3}
+use Rattle.history.proofs.Records.{once}
+use Rattle.history.proofs.Tables.{named, Sound}
+use Rattle.history.proofs.Told.{charged}
+use Rattle.history.proofs.Histories.{every-proper}
+use Rattle.history.proofs.Runs.{Serves, runs}
+
+-- names read alike give the same under a name
+under-alike : {N A : Type 0} (same same′ : N → N → Bool) (name name′ : A → N) → ((m n : N) → same m n ≡ same′ m n) → ((a : A) → name a ≡ name′ a)
+    → (n : N) (xs : List A) → under same name n xs ≡ under same′ name′ n xs
+under-alike same same′ name name′ p q n [] = refl
+under-alike same same′ name name′ p q n (x ∷ xs) = rw (p n (name x), q x, under-alike same same′ name name′ p q n xs)
+
+pub demand3 : {G N S E W C B M I O : Type 0} (R : Rules S E) (D : Meaning G N S E W) (F : Forms N S E C B) (K : Handling G N S E W C B) (L : Sight N C B M O)
+    (X : Machine M I W O) (settings : S → G) → Sound R D F K (L .nameOf) settings → (Y : Serves K L X) (fresh : M) → stored (L .slots fresh) ≡ []
+    → (calls : List I) (n : N) → Demand3 R D F L X fresh (Y .settings fresh) calls n
+demand3 R D F K L X settings Z Y fresh empty calls n =
+    let r = runs K L X Y calls fresh in
+    let c = charged R D F K (L .nameOf) settings Z n (Y .settings fresh) (L .slots fresh) (log X fresh calls) (rw empty) (r .admitted) in
+    record {
+      closed = sym (under-alike (K .same) (D .same) (L .nameOf) (L .nameOf) (Z .same-meant) (λ b. refl) n (each (L .kindred) (written X fresh calls))) ∙ rw (r .wrote) (c .closed);
+      open-now = sym (under-alike (K .same) (D .same) (K .name) (L .name) (Z .same-meant) (Y .names) n (stored (L .slots (run X fresh calls)))) ∙ rw (r .slots) (c .open-now);
+      released = c .released;
+      once = every-proper R D n (OnceEach R) (λ h p. once R h p) (Y .settings fresh) (log X fresh calls);
+    }

@@ -1,0 +1,52 @@
+-- A node's run is the run of its table over the events that its calls applied.
+-- Assumes nothing.
+use Prim.Native.Nat.{ℕ}
+use mathlib.Core.Path.{_≡_, refl, sym, ap, _∙_}
+use mathlib.Core.List.{List, [], _∷_, _++_, append-assoc}
+use mathlib.Core.Option.{Option, none, some}
+use Rattle.history.specs.Lists.{each}
+use Rattle.history.specs.Log.{Accepted}
+use Rattle.history.specs.Table.{Handling, settled, table, output}
+use Rattle.history.specs.Run.{Machine, applied, run, written, log}
+use Rattle.history.specs.Demand.{Sight}
+use Rattle.history.proofs.Lists.{each-append}
+use Rattle.history.proofs.Told.{Admitted}
+
+-- The slots of one kind in a node: each call does to them, and writes of that kind, what the handling says of the events that it
+-- applied. A call that applied none leaves them as they are and writes nothing.
+pub record Serves {G N S E W C B M I O : Type 0} (K : Handling G N S E W C B) (L : Sight N C B M O) (X : Machine M I W O) : Type 0 where
+  pub settings : M → G
+  pub names : (c : C) → K .name c ≡ L .name c
+  pub slots-after : (a : M) (i : I) → L .slots (X .after a i) ≡ table K (settings a) (L .slots a) (applied X a i)
+  pub settings-after : (a : M) (i : I) → settings (X .after a i) ≡ settled K (settings a) (applied X a i)
+  pub wrote : (a : M) (i : I) → each (L .kindred) (X .writes a i) ≡ output K (settings a) (L .slots a) (applied X a i)
+  pub admitted : (a : M) (i : I) → Admitted K (settings a) (L .slots a) (applied X a i)
+
+module _ {G N S E W C B M I O : Type 0} (K : Handling G N S E W C B) (L : Sight N C B M O) (X : Machine M I W O) (Y : Serves K L X) where
+  table-append : (cs ds : List (Accepted W)) (g : G) (os : List (Option C)) → table K g os (cs ++ ds) ≡ table K (settled K g cs) (table K g os cs) ds
+  table-append [] ds g os = refl
+  table-append (c ∷ cs) ds g os = table-append cs ds _ _
+
+  output-append : (cs ds : List (Accepted W)) (g : G) (os : List (Option C)) → output K g os (cs ++ ds) ≡ output K g os cs ++ output K (settled K g cs) (table K g os cs) ds
+  output-append [] ds g os = refl
+  output-append (c ∷ cs) ds g os = rw (append-assoc, output-append cs ds)
+
+  admitted-append : (cs ds : List (Accepted W)) (g : G) (os : List (Option C)) → Admitted K g os cs → Admitted K (settled K g cs) (table K g os cs) ds → Admitted K g os (cs ++ ds)
+  admitted-append [] ds g os p q = q
+  admitted-append (c ∷ cs) ds g os p q = (p .0, admitted-append cs ds _ _ (p .1) q)
+
+  pub record Runs (a : M) (is : List I) : Type 0 where
+    pub slots : L .slots (run X a is) ≡ table K (Y .settings a) (L .slots a) (log X a is)
+    pub wrote : each (L .kindred) (written X a is) ≡ output K (Y .settings a) (L .slots a) (log X a is)
+    pub admitted : Admitted K (Y .settings a) (L .slots a) (log X a is)
+
+  pub runs : (is : List I) (a : M) → Runs a is
+  runs [] a = record { slots = refl; wrote = refl; admitted = tt }
+  runs (i ∷ is) a =
+      let r = runs is (X .after a i) in
+      record {
+        slots = r .slots ∙ rw (table-append, Y .settings-after a i, Y .slots-after a i);
+        wrote = rw (each-append, output-append, Y .wrote a i, ← Y .settings-after a i, ← Y .slots-after a i, r .wrote);
+        admitted = admitted-append (applied X a i) (log X (X .after a i) is) (Y .settings a) (L .slots a) (Y .admitted a i)
+            (rw (← Y .settings-after a i, ← Y .slots-after a i) (r .admitted));
+      }
