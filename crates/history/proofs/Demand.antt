@@ -14,7 +14,7 @@ use Rattle.history.specs.Demand.{OnceEach, Forms, Sight, under, stored, 
 use Rattle.history.proofs.Records.{once}
 use Rattle.history.proofs.Tables.{named, Sound}
 use Rattle.history.proofs.Told.{charged}
-use Rattle.history.proofs.Histories.{every-proper}
+use Rattle.history.proofs.Histories.{every-proper, every-ordered}
 use Rattle.history.proofs.Runs.{Serves, runs}
 
 -- names read alike give the same under a name
@@ -33,5 +33,6 @@ demand3 R D F K L X settings Z Y fresh empty calls n =
       closed = sym (under-alike (K .same) (D .same) (L .nameOf) (L .nameOf) (Z .same-meant) (λ b. refl) n (each (L .kindred) (written X fresh calls))) ∙ rw (r .wrote) (c .closed);
       open-now = sym (under-alike (K .same) (D .same) (K .name) (L .name) (Z .same-meant) (Y .names) n (stored (L .slots (run X fresh calls)))) ∙ rw (r .slots) (c .open-now);
       released = c .released;
+      in-order = every-ordered R D n (Y .clock fresh) (Y .clock (run X fresh calls)) (Y .settings fresh) (log X fresh calls) (r .timely);
       once = every-proper R D n (OnceEach R) (λ h p. once R h p) (Y .settings fresh) (log X fresh calls);
     }

@@ -12,6 +12,16 @@ use Rattle.history.specs.Records.{Rules, ended}
 use Rattle.history.specs.Log.{Accepted, Said, activates, tells, tellsAll, nothing, Meaning, grown, heard, grow, follow, activation, histories}
 use Rattle.history.proofs.Records.{Proper}
 
+-- The events of a log are in time order: none before k, none after l.
+abbrev pub Ordered : {W : Type 0} → ℕ → List (Accepted W) → ℕ → Type 0
+Ordered k [] l = k ≤ l
+Ordered k (c ∷ cs) l = (k ≤ c .time) × Ordered (c .time) cs l
+
+pub ordered-append : {W : Type 0} (k m l : ℕ) (cs ds : List (Accepted W)) → Ordered k cs m → Ordered m ds l → Ordered k (cs ++ ds) l
+ordered-append k m l [] [] p q = omega arith
+ordered-append k m l [] (d ∷ ds) p q = ((omega arith), q .1)
+ordered-append k m l (c ∷ cs) ds p q = (p .0, ordered-append (c .time) m l cs ds (p .1) q)
+
 module _ {G N S E W : Type 0} (R : Rules S E) (D : Meaning G N S E W) (n : N) where
   -- What holds of each start, followed through the events after it, holds of each history.
   module _ (P : History S E → Type 0) where
@@ -44,24 +54,19 @@ module _ {G N S E W : Type 0} (R : Rules S E) (D : Meaning G N S E W) (n : N) wh
 
   -- ---- time does not go back
 
-  -- The events of a log are in time order, none before k.
-  abbrev pub Ordered : ℕ → List (Accepted W) → Type 0
-  Ordered k [] = Unit {0}
-  Ordered k (c ∷ cs) = (k ≤ c .time) × Ordered (c .time) cs
-
   grown-ordered : (h : History S E) (k t : ℕ) (o : Option E) (b : Bool) → k ≤ t → latest h ≤ k → InOrder h
       → InOrder (cond b h (grown h t o)) × (latest (cond b h (grown h t o)) ≤ t)
   grown-ordered h k t o true f p q = (q, omega arith)
   grown-ordered h k t none false f p q = (q, omega arith)
   grown-ordered h k t (some e) false f p q = (((omega arith), q), omega arith)
 
-  follow-ordered : (cs : List (Accepted W)) (k : ℕ) (h : History S E) → Ordered k cs → latest h ≤ k → InOrder h → InOrder (follow R D n cs h)
-  follow-ordered [] k h o p q = q
-  follow-ordered (c ∷ cs) k h o p q =
+  follow-ordered : (cs : List (Accepted W)) (k l : ℕ) (h : History S E) → Ordered k cs l → latest h ≤ k → InOrder h → InOrder (follow R D n cs h)
+  follow-ordered [] k l h o p q = q
+  follow-ordered (c ∷ cs) k l h o p q =
       let i = grown-ordered h k (c .time) (heard R D n (D .says (c .event))) (ended R h) (o .0) p q in
-      follow-ordered cs (c .time) (grow R D n c h) (o .1) (i .1) (i .0)
+      follow-ordered cs (c .time) l (grow R D n c h) (o .1) (i .1) (i .0)
 
-  pub every-ordered : (k : ℕ) (g : G) (cs : List (Accepted W)) → Ordered k cs → All InOrder (histories R D n g cs)
-  every-ordered k g [] o = tt
-  every-ordered k g (c ∷ cs) o = each-activation InOrder cs g (c .time) (D .says (c .event)) _
-      (λ s. follow-ordered cs (c .time) (start (c .time) s) (o .1) (omega arith) tt) (every-ordered (c .time) (D .settles g (c .event)) cs (o .1))
+  pub every-ordered : (k l : ℕ) (g : G) (cs : List (Accepted W)) → Ordered k cs l → All InOrder (histories R D n g cs)
+  every-ordered k l g [] o = tt
+  every-ordered k l g (c ∷ cs) o = each-activation InOrder cs g (c .time) (D .says (c .event)) _
+      (λ s. follow-ordered cs (c .time) l (start (c .time) s) (o .1) (omega arith) tt) (every-ordered (c .time) l (D .settles g (c .event)) cs (o .1))

@@ -5,3 +5,4 @@ pub mod Told
 pub mod Histories
 pub mod Runs
 pub mod Demand
+pub mod Everything

@@ -21,6 +21,10 @@ pub append-cancel : {A : Type 0} (a b c : List A) → a ++ b ≡ a ++ c → b �
 append-cancel [] b c p = p
 append-cancel (x ∷ xs) b c p = let q : xs ++ b ≡ xs ++ c = cc in append-cancel xs b c q
 
+pub each-map : {A B : Type 0} (f : A → B) (a : List A) → each (λ x. f x ∷ []) a ≡ map f a
+each-map f [] = refl
+each-map f (x ∷ xs) = rw (each-map f xs)
+
 pub map-append : {A B : Type 0} (f : A → B) (a b : List A) → map f (a ++ b) ≡ map f a ++ map f b
 map-append f [] b = refl
 map-append f (x ∷ xs) b = rw (map-append f xs b)

@@ -3,7 +3,7 @@
 use Prim.Native.Nat.{ℕ, zero, suc, _+_}
 use mathlib.Core.Path.{_≡_, refl, sym, ap, _∙_}
 use mathlib.Core.Logic.{_↔_}
-use mathlib.Core.Bool.{Bool, true, false, cond}
+use mathlib.Core.Bool.{Bool, true, false, cond, false≢true}
 use mathlib.Core.List.{List, [], _∷_, _++_, map, append-assoc, append-nil, cons≢nil}
 use mathlib.Core.Option.{Option, none, some}
 use native.Mathlib.Omega.{arith}
@@ -190,6 +190,31 @@ module _ {S E : Type 0} (R : Rules S E) where
       for = refl;
     }),
   )
+
+  -- the same, where a kind says its closing conditions one by one, as a relation
+  pub exactly-when : (P : History S E → ℕ → E → ℕ → Type 0) → ((r : History S E) (t : ℕ) (e : E) (c : ℕ) → (causeFor R r t e ≡ some c) ↔ P r t e c)
+      → (h : History S E) (t : ℕ) (e : E) (cause : ℕ) → ClosesNow R h t e cause ↔ P (sinceOpening R h) t e cause
+  exactly-when P f h t e cause = (
+    (λ c. f (sinceOpening R h) t e cause .0 (exactly h t e cause .0 c)),
+    (λ p. exactly h t e cause .1 (f (sinceOpening R h) t e cause .1 p)),
+  )
+
+  -- Once a release has ended it, nothing is open: no stretch waits, and nothing runs.
+  pub ended-open : (h : History S E) → ended R h ≡ true → stretches R (sinceOpening R h) ≡ []
+  ended-open (start t s) p = refl
+  ended-open (h ▸ t ∶ e) p = go (R .release e) refl p
+    where
+      go : (o : Option ℕ) → R .release e ≡ o → isSome o ≡ true → stretches R (sinceOpening R (h ▸ t ∶ e)) ≡ []
+      go none q i = absurd (false≢true i)
+      go (some c) q i = rw q
+
+  pub ended-running : (counts : E → ℕ) (h : History S E) → ended R h ≡ true → total counts (running R h) ≡ 0
+  ended-running counts (start t s) p = refl
+  ended-running counts (h ▸ t ∶ e) p = go (R .release e) refl p
+    where
+      go : (o : Option ℕ) → R .release e ≡ o → isSome o ≡ true → total counts (running R (h ▸ t ∶ e)) ≡ 0
+      go none q i = absurd (false≢true i)
+      go (some c) q i = rw q
 
   pub once : (h : History S E) → Proper h → OnceEach R h
   once h p = record {

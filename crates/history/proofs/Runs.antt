@@ -1,26 +1,32 @@
 -- A node's run is the run of its table over the events that its calls applied.
 -- Assumes nothing.
-use Prim.Native.Nat.{ℕ}
+use Prim.Native.Nat.{ℕ, _≤_}
 use mathlib.Core.Path.{_≡_, refl, sym, ap, _∙_}
-use mathlib.Core.List.{List, [], _∷_, _++_, append-assoc}
+use mathlib.Core.Bool.{true}
+use mathlib.Core.List.{List, [], _∷_, _++_, append-assoc, append-nil}
 use mathlib.Core.Option.{Option, none, some}
+use native.Mathlib.Omega.{arith}
 use Rattle.history.specs.Lists.{each}
 use Rattle.history.specs.Log.{Accepted}
-use Rattle.history.specs.Table.{Handling, settled, table, output}
+use Rattle.history.specs.Table.{Handling, slotsAfter, writes, settled, table, output}
 use Rattle.history.specs.Run.{Machine, applied, run, written, log}
 use Rattle.history.specs.Demand.{Sight}
 use Rattle.history.proofs.Lists.{each-append}
+use Rattle.history.proofs.Tables.{admits}
 use Rattle.history.proofs.Told.{Admitted}
+use Rattle.history.proofs.Histories.{Ordered, ordered-append}
 
 -- The slots of one kind in a node: each call does to them, and writes of that kind, what the handling says of the events that it
 -- applied. A call that applied none leaves them as they are and writes nothing.
 pub record Serves {G N S E W C B M I O : Type 0} (K : Handling G N S E W C B) (L : Sight N C B M O) (X : Machine M I W O) : Type 0 where
   pub settings : M → G
+  pub clock : M → ℕ
   pub names : (c : C) → K .name c ≡ L .name c
   pub slots-after : (a : M) (i : I) → L .slots (X .after a i) ≡ table K (settings a) (L .slots a) (applied X a i)
   pub settings-after : (a : M) (i : I) → settings (X .after a i) ≡ settled K (settings a) (applied X a i)
   pub wrote : (a : M) (i : I) → each (L .kindred) (X .writes a i) ≡ output K (settings a) (L .slots a) (applied X a i)
   pub admitted : (a : M) (i : I) → Admitted K (settings a) (L .slots a) (applied X a i)
+  pub timely : (a : M) (i : I) → Ordered (clock a) (applied X a i) (clock (X .after a i))
 
 module _ {G N S E W C B M I O : Type 0} (K : Handling G N S E W C B) (L : Sight N C B M O) (X : Machine M I W O) (Y : Serves K L X) where
   table-append : (cs ds : List (Accepted W)) (g : G) (os : List (Option C)) → table K g os (cs ++ ds) ≡ table K (settled K g cs) (table K g os cs) ds
@@ -39,9 +45,10 @@ module _ {G N S E W C B M I O : Type 0} (K : Handling G N S E W C B) (L : Sight 
     pub slots : L .slots (run X a is) ≡ table K (Y .settings a) (L .slots a) (log X a is)
     pub wrote : each (L .kindred) (written X a is) ≡ output K (Y .settings a) (L .slots a) (log X a is)
     pub admitted : Admitted K (Y .settings a) (L .slots a) (log X a is)
+    pub timely : Ordered (Y .clock a) (log X a is) (Y .clock (run X a is))
 
   pub runs : (is : List I) (a : M) → Runs a is
-  runs [] a = record { slots = refl; wrote = refl; admitted = tt }
+  runs [] a = record { slots = refl; wrote = refl; admitted = tt; timely = omega arith }
   runs (i ∷ is) a =
       let r = runs is (X .after a i) in
       record {
@@ -49,4 +56,63 @@ module _ {G N S E W C B M I O : Type 0} (K : Handling G N S E W C B) (L : Sight 
         wrote = rw (each-append, output-append, Y .wrote a i, ← Y .settings-after a i, ← Y .slots-after a i, r .wrote);
         admitted = admitted-append (applied X a i) (log X (X .after a i) is) (Y .settings a) (L .slots a) (Y .admitted a i)
             (rw (← Y .settings-after a i, ← Y .slots-after a i) (r .admitted));
+        timely = ordered-append (Y .clock a) (Y .clock (X .after a i)) (Y .clock (run X (X .after a i) is)) (applied X a i) (log X (X .after a i) is) (Y .timely a i) (r .timely);
       }
+
+-- ---- A node whose calls apply one event or none.
+
+module _ {G N S E W C B M I O : Type 0} (K : Handling G N S E W C B) (L : Sight N C B M O) (X : Machine M I W O) (settings : M → G) (clock : M → ℕ) where
+  -- the call applied c
+  pub record Applied (a : M) (i : I) (c : Accepted W) : Type 0 where
+    pub events : applied X a i ≡ c ∷ []
+    pub admitted : admits K (K .says (c .event)) (L .slots a) ≡ true
+    pub since : clock a ≤ c .time
+    pub clock-after : c .time ≤ clock (X .after a i)
+    pub slots-after : L .slots (X .after a i) ≡ slotsAfter K (settings a) (c .time) (K .says (c .event)) (L .slots a)
+    pub settings-after : settings (X .after a i) ≡ K .settles (settings a) (c .event)
+    pub wrote : each (L .kindred) (X .writes a i) ≡ writes K (settings a) (c .time) (K .says (c .event)) (L .slots a)
+
+  -- the call was refused: the node is as it was, and nothing is written
+  pub record Refused (a : M) (i : I) : Type 0 where
+    pub events : applied X a i ≡ []
+    pub kept : X .after a i ≡ a
+    pub silent : X .writes a i ≡ []
+
+  pub data Outcome (a : M) (i : I) : Type 0 where
+    did : (c : Accepted W) → Applied a i c → Outcome a i
+    refused : Refused a i → Outcome a i
+
+  record Served (a : M) (i : I) (cs : List (Accepted W)) : Type 0 where
+    slots-after : L .slots (X .after a i) ≡ table K (settings a) (L .slots a) cs
+    settings-after : settings (X .after a i) ≡ settled K (settings a) cs
+    wrote : each (L .kindred) (X .writes a i) ≡ output K (settings a) (L .slots a) cs
+    admitted : Admitted K (settings a) (L .slots a) cs
+    timely : Ordered (clock a) cs (clock (X .after a i))
+
+  served : (a : M) (i : I) → Outcome a i → Served a i (applied X a i)
+  served a i (did c d) = rw (d .events) (record {
+    slots-after = d .slots-after;
+    settings-after = d .settings-after;
+    wrote = d .wrote ∙ sym (append-nil _);
+    admitted = (d .admitted, tt);
+    timely = (d .since, d .clock-after);
+  })
+  served a i (refused d) = rw (d .events) (record {
+    slots-after = rw (d .kept);
+    settings-after = rw (d .kept);
+    wrote = rw (d .silent);
+    admitted = tt;
+    timely = rw (d .kept) (omega arith);
+  })
+
+  pub serves : ((c : C) → K .name c ≡ L .name c) → ((a : M) (i : I) → Outcome a i) → Serves K L X
+  serves names f = record {
+    settings = settings;
+    clock = clock;
+    names = names;
+    slots-after = λ a i. served a i (f a i) .slots-after;
+    settings-after = λ a i. served a i (f a i) .settings-after;
+    wrote = λ a i. served a i (f a i) .wrote;
+    admitted = λ a i. served a i (f a i) .admitted;
+    timely = λ a i. served a i (f a i) .timely;
+  }

@@ -8,7 +8,7 @@ use mathlib.Core.List.{List, [], _∷_, _++_, map}
 use mathlib.Core.Option.{Option, none, some}
 use lib.ListN.{length}
 use Rattle.history.specs.Lists.{each, sumOf, All, Earlier}
-use Rattle.history.specs.History.{History, start, _▸_∶_, events, began, beganWith, total}
+use Rattle.history.specs.History.{History, start, _▸_∶_, events, began, beganWith, total, InOrder}
 use Rattle.history.specs.Records.{Rules, Stretch, Record, Open, whole, entire, inForce, changes, sinceOpening, closes, running, stretches, closings, records, ended, leaves}
 use Rattle.history.specs.Log.{Accepted, Meaning, histories}
 use Rattle.history.specs.Run.{Machine, run, written, log}
@@ -94,5 +94,7 @@ module _ {G N S E W C B M I O : Type 0} (R : Rules S E) (D : Meaning G N S E W) 
     pub open-now : under (D .same) (L .name) n (stored (L .slots (run X fresh calls))) ≡ each (left n) (historiesOf calls n)
     -- and that is what the last one leaves, since a release has ended each before it;
     pub released : Earlier (λ h. ended R h ≡ true) (historiesOf calls n)
-    -- and each history is charged once in every part.
+    -- time does not go back in any of them;
+    pub in-order : All InOrder (historiesOf calls n)
+    -- and each of them is charged once in every part.
     pub once : All (OnceEach R) (historiesOf calls n)
