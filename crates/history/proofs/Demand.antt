@@ -24,15 +24,15 @@ under-alike same same′ name name′ p q n [] = refl
 under-alike same same′ name name′ p q n (x ∷ xs) = rw (p n (name x), q x, under-alike same same′ name name′ p q n xs)
 
 pub demand3 : {G N S E W C B M I O : Type 0} (R : Rules S E) (D : Meaning G N S E W) (F : Forms N S E C B) (K : Handling G N S E W C B) (L : Sight N C B M O)
-    (X : Machine M I W O) (settings : S → G) → Sound R D F K (L .nameOf) settings → (Y : Serves K L X) (fresh : M) → stored (L .slots fresh) ≡ []
-    → (calls : List I) (n : N) → Demand3 R D F L X fresh (Y .settings fresh) calls n
-demand3 R D F K L X settings Z Y fresh empty calls n =
-    let r = runs K L X Y calls fresh in
-    let c = charged R D F K (L .nameOf) settings Z n (Y .settings fresh) (L .slots fresh) (log X fresh calls) (rw empty) (r .admitted) in
+    (X : Machine M I W O) (known : S → G) → Sound R D F K (L .nameOf) known → (settings : M → G) (clock : M → ℕ) → Serves K L X settings clock
+    → (fresh : M) → stored (L .slots fresh) ≡ [] → (calls : List I) (n : N) → Demand3 R D F L X fresh (settings fresh) calls n
+demand3 R D F K L X known Z settings clock Y fresh empty calls n =
+    let r = runs K L X settings clock Y calls fresh in
+    let c = charged R D F K (L .nameOf) known Z n (settings fresh) (L .slots fresh) (log X fresh calls) (rw empty) (r .admitted) in
     record {
       closed = sym (under-alike (K .same) (D .same) (L .nameOf) (L .nameOf) (Z .same-meant) (λ b. refl) n (each (L .kindred) (written X fresh calls))) ∙ rw (r .wrote) (c .closed);
       open-now = sym (under-alike (K .same) (D .same) (K .name) (L .name) (Z .same-meant) (Y .names) n (stored (L .slots (run X fresh calls)))) ∙ rw (r .slots) (c .open-now);
       released = c .released;
-      in-order = every-ordered R D n (Y .clock fresh) (Y .clock (run X fresh calls)) (Y .settings fresh) (log X fresh calls) (r .timely);
-      once = every-proper R D n (OnceEach R) (λ h p. once R h p) (Y .settings fresh) (log X fresh calls);
+      in-order = every-ordered R D n (clock fresh) (clock (run X fresh calls)) (settings fresh) (log X fresh calls) (r .timely);
+      once = every-proper R D n (OnceEach R) (λ h p. once R h p) (settings fresh) (log X fresh calls);
     }

@@ -6,3 +6,4 @@ pub mod Histories
 pub mod Runs
 pub mod Demand
 pub mod Everything
+pub mod Sample

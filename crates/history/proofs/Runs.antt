@@ -18,9 +18,8 @@ use Rattle.history.proofs.Histories.{Ordered, ordered-append}
 
 -- The slots of one kind in a node: each call does to them, and writes of that kind, what the handling says of the events that it
 -- applied. A call that applied none leaves them as they are and writes nothing.
-pub record Serves {G N S E W C B M I O : Type 0} (K : Handling G N S E W C B) (L : Sight N C B M O) (X : Machine M I W O) : Type 0 where
-  pub settings : M → G
-  pub clock : M → ℕ
+pub record Serves {G N S E W C B M I O : Type 0} (K : Handling G N S E W C B) (L : Sight N C B M O) (X : Machine M I W O)
+    (settings : M → G) (clock : M → ℕ) : Type 0 where
   pub names : (c : C) → K .name c ≡ L .name c
   pub slots-after : (a : M) (i : I) → L .slots (X .after a i) ≡ table K (settings a) (L .slots a) (applied X a i)
   pub settings-after : (a : M) (i : I) → settings (X .after a i) ≡ settled K (settings a) (applied X a i)
@@ -28,7 +27,8 @@ pub record Serves {G N S E W C B M I O : Type 0} (K : Handling G N S E W C B) (L
   pub admitted : (a : M) (i : I) → Admitted K (settings a) (L .slots a) (applied X a i)
   pub timely : (a : M) (i : I) → Ordered (clock a) (applied X a i) (clock (X .after a i))
 
-module _ {G N S E W C B M I O : Type 0} (K : Handling G N S E W C B) (L : Sight N C B M O) (X : Machine M I W O) (Y : Serves K L X) where
+module _ {G N S E W C B M I O : Type 0} (K : Handling G N S E W C B) (L : Sight N C B M O) (X : Machine M I W O) (settings : M → G) (clock : M → ℕ)
+    (Y : Serves K L X settings clock) where
   table-append : (cs ds : List (Accepted W)) (g : G) (os : List (Option C)) → table K g os (cs ++ ds) ≡ table K (settled K g cs) (table K g os cs) ds
   table-append [] ds g os = refl
   table-append (c ∷ cs) ds g os = table-append cs ds _ _
@@ -42,10 +42,10 @@ module _ {G N S E W C B M I O : Type 0} (K : Handling G N S E W C B) (L : Sight 
   admitted-append (c ∷ cs) ds g os p q = (p .0, admitted-append cs ds _ _ (p .1) q)
 
   pub record Runs (a : M) (is : List I) : Type 0 where
-    pub slots : L .slots (run X a is) ≡ table K (Y .settings a) (L .slots a) (log X a is)
-    pub wrote : each (L .kindred) (written X a is) ≡ output K (Y .settings a) (L .slots a) (log X a is)
-    pub admitted : Admitted K (Y .settings a) (L .slots a) (log X a is)
-    pub timely : Ordered (Y .clock a) (log X a is) (Y .clock (run X a is))
+    pub slots : L .slots (run X a is) ≡ table K (settings a) (L .slots a) (log X a is)
+    pub wrote : each (L .kindred) (written X a is) ≡ output K (settings a) (L .slots a) (log X a is)
+    pub admitted : Admitted K (settings a) (L .slots a) (log X a is)
+    pub timely : Ordered (clock a) (log X a is) (clock (run X a is))
 
   pub runs : (is : List I) (a : M) → Runs a is
   runs [] a = record { slots = refl; wrote = refl; admitted = tt; timely = omega arith }
@@ -54,9 +54,9 @@ module _ {G N S E W C B M I O : Type 0} (K : Handling G N S E W C B) (L : Sight 
       record {
         slots = r .slots ∙ rw (table-append, Y .settings-after a i, Y .slots-after a i);
         wrote = rw (each-append, output-append, Y .wrote a i, ← Y .settings-after a i, ← Y .slots-after a i, r .wrote);
-        admitted = admitted-append (applied X a i) (log X (X .after a i) is) (Y .settings a) (L .slots a) (Y .admitted a i)
+        admitted = admitted-append (applied X a i) (log X (X .after a i) is) (settings a) (L .slots a) (Y .admitted a i)
             (rw (← Y .settings-after a i, ← Y .slots-after a i) (r .admitted));
-        timely = ordered-append (Y .clock a) (Y .clock (X .after a i)) (Y .clock (run X (X .after a i) is)) (applied X a i) (log X (X .after a i) is) (Y .timely a i) (r .timely);
+        timely = ordered-append (clock a) (clock (X .after a i)) (clock (run X (X .after a i) is)) (applied X a i) (log X (X .after a i) is) (Y .timely a i) (r .timely);
       }
 
 -- ---- A node whose calls apply one event or none.
@@ -105,10 +105,8 @@ module _ {G N S E W C B M I O : Type 0} (K : Handling G N S E W C B) (L : Sight 
     timely = rw (d .kept) (omega arith);
   })
 
-  pub serves : ((c : C) → K .name c ≡ L .name c) → ((a : M) (i : I) → Outcome a i) → Serves K L X
+  pub serves : ((c : C) → K .name c ≡ L .name c) → ((a : M) (i : I) → Outcome a i) → Serves K L X settings clock
   serves names f = record {
-    settings = settings;
-    clock = clock;
     names = names;
     slots-after = λ a i. served a i (f a i) .slots-after;
     settings-after = λ a i. served a i (f a i) .settings-after;

@@ -1,6 +1,6 @@
 -- A table of slots seen under one name: what it holds and writes after an event is what the subjects of that name do.
 -- Assumes nothing.
-use Prim.Native.Nat.{ℕ}
+use Prim.Native.Nat.{ℕ, suc}
 use mathlib.Core.Path.{_≡_, refl, sym, ap, _∙_}
 use mathlib.Core.Logic.{_↔_}
 use mathlib.Core.Bool.{Bool, true, false, not, cond, _&&_, _||_, false≢true}
@@ -8,11 +8,12 @@ use mathlib.Core.List.{List, [], _∷_, _++_, map, append-assoc, append-nil, con
 use mathlib.Core.Option.{Option, none, some}
 use Rattle.history.specs.Lists.{each, isSome}
 use Rattle.history.specs.History.{History, start, _▸_∶_}
-use Rattle.history.specs.Records.{Rules, Record, Open, inForce, recordsAt, leaves}
+use Rattle.history.specs.Records.{Rules, Stretch, Record, Open, number, inForce, sinceOpening, closes, running, stretches, closings, recordsAt, leaves}
 use Rattle.history.specs.Log.{Accepted, Said, activates, tells, tellsAll, nothing, Meaning, heard}
 use Rattle.history.specs.Table.{Step, Handling, fill, free, active, hears, listen, slot, slotsHear, slotsWrite, slotsAfter, writes}
 use Rattle.history.specs.Demand.{Forms, under, stored}
-use Rattle.history.proofs.Lists.{each-append, each-cond}
+use Rattle.history.proofs.Lists.{each-cond}
+use Rattle.history.proofs.Records.{leaves-closing, records-closing, records-none, leaves-change, leaves-plain}
 
 -- what is in a slot
 abbrev pub content : {C : Type 0} → Option C → List C
@@ -139,9 +140,59 @@ module _ {G N S E W C B : Type 0} (K : Handling G N S E W C B) (nameOf : B → N
   named-fill n c (none ∷ os) p f i = rw (p, i)
   named-fill n c (some b ∷ os) p f i = fill-some n b c os (K .same n (K .name b)) refl i (λ j. named-fill n c os p f j)
 
--- ---- A kind that a node handles as its histories say: `settings` are the settings that what is in force holds.
+-- ---- What a history says that hearing e at t does, and the same by cases.
 
-pub record Sound {G N S E W C B : Type 0} (R : Rules S E) (D : Meaning G N S E W) (F : Forms N S E C B) (K : Handling G N S E W C B) (nameOf : B → N) (settings : S → G) : Type 0 where
+module _ {N S E C B : Type 0} (R : Rules S E) (F : Forms N S E C B) (n : N) (h : History S E) (t : ℕ) (e : E) where
+  abbrev pub told : Step C B
+  told = record {
+    next = cond (isSome (R .release e)) none (some (F .stored n (leaves R (h ▸ t ∶ e))));
+    out = map (F .written n) (recordsAt R h t e);
+  }
+
+  told-by : (o : Open S E) (rs : List (Record S E)) → leaves R (h ▸ t ∶ e) ≡ o → recordsAt R h t e ≡ rs
+      → told ≡ record { next = cond (isSome (R .release e)) none (some (F .stored n o)); out = map (F .written n) rs }
+  told-by o rs p q = λ i. record { next = cond (isSome (R .release e)) none (some (F .stored n (p i))); out = map (F .written n) (q i) }
+
+  abbrev next-force : S
+  next-force = R .after (inForce R h) e
+
+  abbrev cut : ℕ → Stretch S E
+  cut k = record { ran = running R h; time = t; event = e; condition = k }
+
+  -- it closes
+  pub told-closing : (c : ℕ) → closes R h t e ≡ some c → told ≡ record {
+    next = cond (isSome (R .release e)) none (some (F .stored n (record
+        { closed = suc (closings R h); past = start t next-force; stretches = []; running = start t next-force })));
+    out = F .written n (record {
+      number = number (closings R h) (isSome (R .release e));
+      cause = c;
+      past = sinceOpening R h;
+      time = t;
+      event = e;
+      stretches = stretches R (sinceOpening R h) ++ (cut (R .last (R .change (inForce R h) e)) ∷ []);
+    }) ∷ [];
+  }
+  told-closing c p = told-by _ _ (leaves-closing R h t e c p) (records-closing R h t e c p)
+
+  -- it is a change, and does not close
+  pub told-change : (k : ℕ) → closes R h t e ≡ none → R .change (inForce R h) e ≡ some k → told ≡ record {
+    next = cond (isSome (R .release e)) none (some (F .stored n (record
+        { closed = closings R h; past = sinceOpening R h ▸ t ∶ e; stretches = stretches R (sinceOpening R h) ++ (cut k ∷ []); running = start t next-force })));
+    out = [];
+  }
+  told-change k p q = told-by _ _ (leaves-change R h t e k p q) (records-none R h t e p)
+
+  -- it does neither
+  pub told-plain : closes R h t e ≡ none → R .change (inForce R h) e ≡ none → told ≡ record {
+    next = cond (isSome (R .release e)) none (some (F .stored n (record
+        { closed = closings R h; past = sinceOpening R h ▸ t ∶ e; stretches = stretches R (sinceOpening R h); running = running R h ▸ t ∶ e })));
+    out = [];
+  }
+  told-plain p q = told-by _ _ (leaves-plain R h t e p q) (records-none R h t e p)
+
+-- ---- A kind that a node handles as its histories say: `known` is the settings as what is in force knows them.
+
+pub record Sound {G N S E W C B : Type 0} (R : Rules S E) (D : Meaning G N S E W) (F : Forms N S E C B) (K : Handling G N S E W C B) (nameOf : B → N) (known : S → G) : Type 0 where
   -- names are told apart, and the node takes names and events as they are meant
   pub same-exactly : (m n : N) → (D .same m n ≡ true) ↔ (m ≡ n)
   pub same-meant : (m n : N) → K .same m n ≡ D .same m n
@@ -152,11 +203,8 @@ pub record Sound {G N S E W C B : Type 0} (R : Rules S E) (D : Meaning G N S E W
   pub bears : (g : G) (c : C) (t : ℕ) (e : E) → Bears K nameOf (K .name c) (K .hear g c t e)
   -- an activation stores, and hearing does, what the history says
   pub opens : (n : N) (t : ℕ) (s : S) → K .opening t n s ≡ F .stored n (leaves R (start t s))
-  pub told : (n : N) (h : History S E) (t : ℕ) (e : E) → K .hear (settings (inForce R h)) (F .stored n (leaves R h)) t e ≡ record {
-    next = cond (isSome (R .release e)) none (some (F .stored n (leaves R (h ▸ t ∶ e))));
-    out = map (F .written n) (recordsAt R h t e);
-  }
+  pub hears-told : (n : N) (h : History S E) (t : ℕ) (e : E) → K .hear (known (inForce R h)) (F .stored n (leaves R h)) t e ≡ told R F n h t e
   -- an event that changes the settings is in every history
-  pub settings-activated : (g : G) (v : W) (m : N) (s : G → S) → D .says v ≡ activates m s → settings (s g) ≡ D .settles g v
-  pub settings-heard : (n : N) (s : S) (v : W) (e : E) → heard R D n (D .says v) ≡ some e → settings (R .after s e) ≡ D .settles (settings s) v
+  pub settings-activated : (g : G) (v : W) (m : N) (s : G → S) → D .says v ≡ activates m s → known (s g) ≡ D .settles g v
+  pub settings-heard : (n : N) (s : S) (v : W) (e : E) → heard R D n (D .says v) ≡ some e → known (R .after s e) ≡ D .settles (known s) v
   pub settings-unheard : (n : N) (g : G) (v : W) → heard R D n (D .says v) ≡ none → D .settles g v ≡ g

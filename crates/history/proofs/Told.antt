@@ -22,7 +22,7 @@ Admitted K g os (c ∷ cs) = (admits K (K .says (c .event)) os ≡ true)
     × Admitted K (K .settles g (c .event)) (slotsAfter K g (c .time) (K .says (c .event)) os) cs
 
 module _ {G N S E W C B : Type 0} (R : Rules S E) (D : Meaning G N S E W) (F : Forms N S E C B) (K : Handling G N S E W C B)
-    (nameOf : B → N) (settings : S → G) (X : Sound R D F K nameOf settings) (n : N) where
+    (nameOf : B → N) (known : S → G) (X : Sound R D F K nameOf known) (n : N) where
   abbrev H : Type 0
   H = History S E
 
@@ -101,7 +101,7 @@ module _ {G N S E W C B : Type 0} (R : Rules S E) (D : Meaning G N S E W) (F : F
   -- it knows the settings
   abbrev Knows : G → Option H → Type 0
   Knows g none = Unit {0}
-  Knows g (some h) = ended R h ≡ false → settings (inForce R h) ≡ g
+  Knows g (some h) = ended R h ≡ false → known (inForce R h) ≡ g
 
   record Grows (g : G) (c : Accepted W) (w : Said G N S E) (o : Option H) (os : List (Option C)) : Type 0 where
     now : named′ (slotsHear K g (c .time) w os) ≡ leftOf (grew c o)
@@ -115,15 +115,15 @@ module _ {G N S E W C B : Type 0} (R : Rules S E) (D : Meaning G N S E W) (F : F
     abbrev hear-out : ofName K nameOf n (slotsWrite K g (c .time) w os) ≡ each (λ x. (listen K g x (c .time) (hears K (K .name x) w)) .out) (named′ os)
     hear-out = ofName-hear K nameOf (X .bears) g (c .time) w n os
 
-    grows-hearing : (h : H) (o : Option E) → ended R h ≡ false → heard R D n w ≡ o → settings (inForce R h) ≡ g → named′ os ≡ F .stored n (leaves R h) ∷ [] → Grows g c w (some h) os
+    grows-hearing : (h : H) (o : Option E) → ended R h ≡ false → heard R D n w ≡ o → known (inForce R h) ≡ g → named′ os ≡ F .stored n (leaves R h) ∷ [] → Grows g c w (some h) os
     grows-hearing h none f i s p = record {
       now = hear-slots ∙ rw (p, X .stored-name n (leaves R h), hears-heard w, f, meant, i, f);
       wrote = rw (hear-out, p, X .stored-name n (leaves R h), hears-heard w, f, meant, i) (simp append-nil);
       knows = rw (f, meant, i) (λ k. s ∙ sym (X .settles-meant g (c .event) ∙ X .settings-unheard n g (c .event) (rw (meant, i))));
     }
     grows-hearing h (some e) f i s p = record {
-      now = hear-slots ∙ rw (p, X .stored-name n (leaves R h), hears-heard w, f, meant, i, ← s, X .told n h (c .time) e, content-cond);
-      wrote = rw (hear-out, p, X .stored-name n (leaves R h), hears-heard w, f, meant, i, ← s, X .told n h (c .time) e, map-append) (simp append-nil);
+      now = hear-slots ∙ rw (p, X .stored-name n (leaves R h), hears-heard w, f, meant, i, ← s, X .hears-told n h (c .time) e, content-cond);
+      wrote = rw (hear-out, p, X .stored-name n (leaves R h), hears-heard w, f, meant, i, ← s, X .hears-told n h (c .time) e, map-append) (simp append-nil);
       knows = rw (f, meant, i) (λ k. X .settings-heard n (inForce R h) (c .event) e (rw (meant, i)) ∙ rw (s, X .settles-meant g (c .event)));
     }
 

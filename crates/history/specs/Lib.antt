@@ -5,3 +5,4 @@ pub mod Log
 pub mod Table
 pub mod Run
 pub mod Demand
+pub mod Sample
