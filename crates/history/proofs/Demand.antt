@@ -33,6 +33,7 @@ demand3 R D F K L X known Z settings clock Y fresh empty calls n =
       closed = sym (under-alike (K .same) (D .same) (L .nameOf) (L .nameOf) (Z .same-meant) (λ b. refl) n (each (L .kindred) (written X fresh calls))) ∙ rw (r .wrote) (c .closed);
       open-now = sym (under-alike (K .same) (D .same) (K .name) (L .name) (Z .same-meant) (Y .names) n (stored (L .slots (run X fresh calls)))) ∙ rw (r .slots) (c .open-now);
       released = c .released;
+      all-reported = c .all-reported;
       in-order = every-ordered R D n (clock fresh) (clock (run X fresh calls)) (settings fresh) (log X fresh calls) (r .timely);
       once = every-proper R D n (OnceEach R) (λ h p. once R h p) (settings fresh) (log X fresh calls);
     }

@@ -11,8 +11,8 @@ use native.Mathlib.Omega.{arith}
 use Rattle.history.specs.Lists.{each, sumOf, Earlier}
 use Rattle.history.specs.History.{History, start, _▸_∶_, total}
 use Rattle.history.specs.Records.{Rules, Stretch, Record, Open, whole, sinceOpening, running, stretches, records, ended, leaves}
-use Rattle.history.specs.Log.{Meaning}
-use Rattle.history.specs.Run.{Machine, run, written}
+use Rattle.history.specs.Log.{Accepted, tellsAll, Meaning, reported}
+use Rattle.history.specs.Run.{Machine, run, written, log}
 use Rattle.history.specs.Demand.{Forms, Sight, under, stored, left, historiesOf, Demand3}
 use Rattle.history.proofs.Lists.{each-append, sumOf-append}
 use Rattle.history.proofs.Records.{read, every, ended-open, ended-running}
@@ -82,7 +82,8 @@ module _ {N S E C B A : Type 0} (R : Rules S E) (F : Forms N S E C B) (n : N) (e
     pub containers-once : each ofRecord writtenUnder ++ each ofStored storedUnder ≡ each (λ h. each entries (stretches R h)) (historiesOf R D F L X fresh settings calls n)
     containers-once = rw (d .closed, d .open-now) (read-all (historiesOf R D F L X fresh settings calls n) (d .released))
 
-    pub octets-once : (counts : E → ℕ) (octets : A → ℕ) (runs : C → ℕ) → ((x : Stretch S E) → sumOf octets (entries x) ≡ total counts (whole x))
-        → ((o : Open S E) → runs (F .stored n o) ≡ total counts (o .running))
-        → sumOf octets (each ofRecord writtenUnder ++ each ofStored storedUnder) + sumOf runs storedUnder ≡ sumOf (λ h. total counts h) (historiesOf R D F L X fresh settings calls n)
-    octets-once counts octets runs p q = rw (containers-once, d .open-now) (count-all counts octets runs p q (historiesOf R D F L X fresh settings calls n))
+    pub octets-once : (counts : E → ℕ) → ((v : W) (e : E) → D .says v ≡ tellsAll e → counts e ≡ 0) → (octets : A → ℕ) (runs : C → ℕ)
+        → ((x : Stretch S E) → sumOf octets (entries x) ≡ total counts (whole x)) → ((o : Open S E) → runs (F .stored n o) ≡ total counts (o .running))
+        → sumOf octets (each ofRecord writtenUnder ++ each ofStored storedUnder) + sumOf runs storedUnder ≡ reported R D n counts (log X fresh calls)
+    octets-once counts z octets runs p q =
+        rw (containers-once, d .open-now) (count-all counts octets runs p q (historiesOf R D F L X fresh settings calls n)) ∙ d .all-reported counts z

@@ -41,23 +41,48 @@ module _ {G N S E W C B M I O : Type 0} (K : Handling G N S E W C B) (L : Sight 
   admitted-append [] ds g os p q = q
   admitted-append (c ∷ cs) ds g os p q = (p .0, admitted-append cs ds _ _ (p .1) q)
 
+  settled-append : (cs ds : List (Accepted W)) (g : G) → settled K g (cs ++ ds) ≡ settled K (settled K g cs) ds
+  settled-append [] ds g = refl
+  settled-append (c ∷ cs) ds g = settled-append cs ds _
+
   pub record Runs (a : M) (is : List I) : Type 0 where
+    pub settings-now : settings (run X a is) ≡ settled K (settings a) (log X a is)
     pub slots : L .slots (run X a is) ≡ table K (settings a) (L .slots a) (log X a is)
     pub wrote : each (L .kindred) (written X a is) ≡ output K (settings a) (L .slots a) (log X a is)
     pub admitted : Admitted K (settings a) (L .slots a) (log X a is)
     pub timely : Ordered (clock a) (log X a is) (clock (run X a is))
 
   pub runs : (is : List I) (a : M) → Runs a is
-  runs [] a = record { slots = refl; wrote = refl; admitted = tt; timely = omega arith }
+  runs [] a = record { settings-now = refl; slots = refl; wrote = refl; admitted = tt; timely = omega arith }
   runs (i ∷ is) a =
       let r = runs is (X .after a i) in
       record {
+        settings-now = r .settings-now ∙ rw (settled-append, Y .settings-after a i);
         slots = r .slots ∙ rw (table-append, Y .settings-after a i, Y .slots-after a i);
         wrote = rw (each-append, output-append, Y .wrote a i, ← Y .settings-after a i, ← Y .slots-after a i, r .wrote);
         admitted = admitted-append (applied X a i) (log X (X .after a i) is) (settings a) (L .slots a) (Y .admitted a i)
             (rw (← Y .settings-after a i, ← Y .slots-after a i) (r .admitted));
         timely = ordered-append (clock a) (clock (X .after a i)) (clock (run X (X .after a i) is)) (applied X a i) (log X (X .after a i) is) (Y .timely a i) (r .timely);
       }
+
+-- ---- A node whose calls do what some other calls do one by one: a batch, and its pairs.
+
+module _ {G N S E W C B M I J O : Type 0} (K : Handling G N S E W C B) (L : Sight N C B M O) (settings : M → G) (clock : M → ℕ) (X : Machine M I W O) (Z : Machine M J W O) where
+  pub record OneByOne (a : M) (i : I) : Type 0 where
+    pub calls : List J
+    pub events : applied X a i ≡ log Z a calls
+    pub node : X .after a i ≡ run Z a calls
+    pub wrote : X .writes a i ≡ written Z a calls
+
+  pub serves-too : Serves K L Z settings clock → ((a : M) (i : I) → OneByOne a i) → Serves K L X settings clock
+  serves-too Y f = record {
+    names = Y .names;
+    slots-after = λ a i. rw (f a i .events, f a i .node) (runs K L Z settings clock Y (f a i .calls) a .slots);
+    settings-after = λ a i. rw (f a i .events, f a i .node) (runs K L Z settings clock Y (f a i .calls) a .settings-now);
+    wrote = λ a i. rw (f a i .events, f a i .wrote) (runs K L Z settings clock Y (f a i .calls) a .wrote);
+    admitted = λ a i. rw (f a i .events) (runs K L Z settings clock Y (f a i .calls) a .admitted);
+    timely = λ a i. rw (f a i .events, f a i .node) (runs K L Z settings clock Y (f a i .calls) a .timely);
+  }
 
 -- ---- A node whose calls apply one event or none.
 

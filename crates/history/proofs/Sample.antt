@@ -12,16 +12,17 @@ use lib.Dec.{leb, eqb, T, eqb→eq, eqb-refl, leb→le}
 use Rattle.history.specs.Lists.{each, sumOf, isSome, test}
 use Rattle.history.specs.History.{History, start, _▸_∶_, began, beganWith, total}
 use Rattle.history.specs.Records.{Rules, Stretch, Record, Open, whole, number, inForce, sinceOpening, closes, running, stretches, closings, recordsAt, leaves}
-use Rattle.history.specs.Log.{Accepted, Said, activates, tells, tellsAll, heard}
+use Rattle.history.specs.Log.{Accepted, Said, activates, tells, tellsAll, heard, reported}
 use Rattle.history.specs.Table.{Step, free, active, slotsAfter, writes}
-use Rattle.history.specs.Run.{Machine, applied, written}
-use Rattle.history.specs.Demand.{Demand3, stored}
+use Rattle.history.specs.Run.{Machine, applied, run, written, log}
+use Rattle.history.specs.Demand.{Demand3, under, stored}
 use Rattle.history.specs.Sample.{Event, Force, Heard, after, change, octets, releases, closing, rules, says, settles, meaning, Part, Bill, Line, part, forms, cut, bill, keep, counted, turned, full, soleOr, hear, takes, handling, Node, fresh, refusal, answer, ifApplied, machine, sight}
-use Rattle.history.proofs.Lists.{each-one, map-append}
+use Rattle.history.proofs.Lists.{each-one, each-map, map-append}
 use Rattle.history.proofs.Records.{inForce-running, every-open}
 use Rattle.history.proofs.Tables.{Bears, bears-cond, admits, told, told-closing, told-change, told-plain, Sound}
 use Rattle.history.proofs.Runs.{Serves, Applied, Refused, Outcome, did, refused, serves}
 use Rattle.history.proofs.Demand.{demand3}
+use Rattle.history.proofs.Everything.{octets-once}
 
 T-true : (b : Bool) → T b → b ≡ true
 T-true true p = refl
@@ -144,6 +145,10 @@ sound = record {
 
 -- ---- the node serves it
 
+known : (b : Bool) → _≡_ {A = ℕ} (cond b 0 8) 0 → b ≡ true
+known true p = refl
+known false p = absurd (omega arith)
+
 admitted : (os : List (Option Line)) (v : Event) → refusal os v ≡ 0 → admits handling (takes v) os ≡ true
 admitted os (Event.activate n q) p = go (active handling n os) (free os) p
   where
@@ -151,9 +156,9 @@ admitted os (Event.activate n q) p = go (active handling n os) (free os) p
     go true f i = absurd (omega arith)
     go false true i = refl
     go false false i = absurd (omega arith)
-admitted os (Event.report n k) p = refl
-admitted os (Event.grade n q) p = refl
-admitted os (Event.release n k) p = refl
+admitted os (Event.report n k) p = known (active handling n os) p
+admitted os (Event.grade n q) p = known (active handling n os) p
+admitted os (Event.release n k) p = known (active handling n os) p
 admitted os Event.tariff p = refl
 admitted os (Event.limit l) p = refl
 
@@ -199,3 +204,21 @@ session-billed : written machine (fresh 1000) session ≡
     ∷ record { name = 7; number = some 2; cause = 0; opened = 12; duration = 2; parts = one-part 3 0 0 13 ∷ one-part 2 4 2 14 ∷ [] }
     ∷ []
 session-billed = refl
+
+-- ---- every octet once, of the sample: the parts billed and stored, and what runs, are what was reported of a line by name
+
+uncounted : (v : Event) (e : Heard) → says v ≡ tellsAll e → octets e ≡ 0
+uncounted (Event.activate n q) e p = absurd (let z : _≡_ {A = ℕ} 0 1 = cc in omega arith)
+uncounted (Event.report n k) e p = absurd (let z : _≡_ {A = ℕ} 0 1 = cc in omega arith)
+uncounted (Event.grade n q) e p = absurd (let z : _≡_ {A = ℕ} 0 1 = cc in omega arith)
+uncounted (Event.release n k) e p = absurd (let z : _≡_ {A = ℕ} 0 1 = cc in omega arith)
+uncounted Event.tariff e p = let i : Heard.tariff ≡ e = cc in rw (← i)
+uncounted (Event.limit l) e p = let i : Heard.limit l ≡ e = cc in rw (← i)
+
+pub octets-billed : (limit : ℕ) (calls : List (Accepted Event)) (n : ℕ)
+    → sumOf (λ p. p .octets) (each (λ b. b .parts) (under eqb (λ b. b .name) n (each (λ b. b ∷ []) (written machine (fresh limit) calls)))
+    ++ each (λ c. c .parts) (under eqb (λ c. c .name) n (stored ((run machine (fresh limit) calls) .slots))))
+    + sumOf (λ c. c .octets) (under eqb (λ c. c .name) n (stored ((run machine (fresh limit) calls) .slots)))
+    ≡ reported rules meaning n octets (log machine (fresh limit) calls)
+octets-billed limit calls n = octets-once rules forms n (λ x. part x ∷ []) (λ b. b .parts) (λ c. c .parts) (λ r. sym (each-map part (r .stretches))) (λ o. sym (each-map part (o .stretches)))
+    meaning sight machine (fresh limit) limit calls (met limit calls n) octets uncounted (λ p. p .octets) (λ c. c .octets) (λ x. add-zero _) (λ o. refl)

@@ -34,10 +34,10 @@ under-append {B = B} same nameOf n (r ∷ rs) b = rw (under-append same nameOf n
     go false p q = refl
 
 module _ {G N S E W C B : Type 0} (K : Handling G N S E W C B) where
-  -- An activation is accepted only for a name that is not active, and with a free slot.
+  -- An activation is accepted only for a name that is not active, and with a free slot; a named event only for an active name.
   abbrev pub admits : Said G N S E → List (Option C) → Bool
   admits (activates m s) os = not (active K m os) && free os
-  admits (tells m e) os = true
+  admits (tells m e) os = active K m os
   admits (tellsAll e) os = true
   admits nothing os = true
 
@@ -124,6 +124,16 @@ module _ {G N S E W C B : Type 0} (K : Handling G N S E W C B) (nameOf : B → N
   inactive n [] p = refl
   inactive n (none ∷ os) p = inactive n os p
   inactive n (some c ∷ os) p = named-some n c os (K .same n (K .name c)) refl p (λ a. inactive n os a)
+
+  named-one : (n : N) (c : C) (os : List (Option C)) (b : Bool) → K .same n (K .name c) ≡ b → (b || active K n os) ≡ true
+      → (active K n os ≡ true → named n os ≡ [] → ⊥) → named n (some c ∷ os) ≡ [] → ⊥
+  named-one n c os true q p i e = cons≢nil (rw q at e)
+  named-one n c os false q p i e = i p (rw q at e)
+
+  pub named-active : (n : N) (os : List (Option C)) → active K n os ≡ true → named n os ≡ [] → ⊥
+  named-active n [] p e = absurd (false≢true p)
+  named-active n (none ∷ os) p e = named-active n os p e
+  named-active n (some c ∷ os) p e = named-one n c os (K .same n (K .name c)) refl p (λ a i. named-active n os a i) e
 
   pub named-fill-other : (n : N) (c : C) (os : List (Option C)) → K .same n (K .name c) ≡ false → named n (fill c os) ≡ named n os
   named-fill-other n c [] p = refl

@@ -1,19 +1,21 @@
 -- Over any accepted events, a table of a sound kind holds under a name what the histories of that name leave, and has written
 -- what they make.
 -- Assumes nothing.
-use Prim.Native.Nat.{ℕ}
+use Prim.Native.Nat.{ℕ, _+_}
 use mathlib.Core.Path.{_≡_, refl, sym, ap, _∙_}
 use mathlib.Core.Bool.{Bool, true, false, not, cond, _&&_, _||_, false≢true}
 use mathlib.Core.List.{List, [], _∷_, _++_, map, append-assoc, append-nil, cons≢nil}
 use mathlib.Core.Option.{Option, none, some}
-use Rattle.history.specs.Lists.{each, isSome, All, Earlier}
-use Rattle.history.specs.History.{History, start, _▸_∶_}
+use native.Mathlib.Nat.{zero-add}
+use native.Mathlib.Omega.{arith}
+use Rattle.history.specs.Lists.{each, sumOf, isSome, All, Earlier}
+use Rattle.history.specs.History.{History, start, _▸_∶_, total}
 use Rattle.history.specs.Records.{Rules, Record, Open, inForce, recordsAt, records, ended, leaves}
-use Rattle.history.specs.Log.{Accepted, Said, activates, tells, tellsAll, nothing, Meaning, grown, heard, grow, follow, activation, histories}
+use Rattle.history.specs.Log.{Accepted, Said, activates, tells, tellsAll, nothing, Meaning, grown, heard, grow, follow, activation, histories, reports, reported}
 use Rattle.history.specs.Table.{Step, Handling, fill, free, active, hears, listen, slotsHear, slotsWrite, slotsAfter, writes, table, output}
 use Rattle.history.specs.Demand.{Forms, under, stored}
-use Rattle.history.proofs.Lists.{each-append, map-append, map-map, map-id, cond-same, both, not-true}
-use Rattle.history.proofs.Tables.{content, content-cond, under-append, named, ofName, named-hear, ofName-hear, unheard-slots, unheard-out, inactive, named-fill-other, named-fill, admits, Sound}
+use Rattle.history.proofs.Lists.{each-append, map-append, map-map, map-id, sumOf-append, cond-same, both, not-true}
+use Rattle.history.proofs.Tables.{content, content-cond, under-append, named, ofName, named-hear, ofName-hear, unheard-slots, unheard-out, inactive, named-active, named-fill-other, named-fill, admits, Sound}
 
 -- Each event of these is admitted where it comes.
 abbrev pub Admitted : {G N S E W C B : Type 0} → Handling G N S E W C B → G → List (Option C) → List (Accepted W) → Type 0
@@ -224,6 +226,75 @@ module _ {G N S E W C B : Type 0} (R : Rules S E) (D : Meaning G N S E W) (F : F
   next g c (tellsAll e) os hs z a k = next-heard g c (tellsAll e) os hs z k
   next g c nothing os hs z a k = rw (unheard-slots K nameOf g (c .time) os, unheard-out K nameOf g (c .time) os) at (next-heard g c nothing os hs z k)
 
+  -- ---- what is reported by name
+
+  module _ (counts : E → ℕ) (uncounted : (v : W) (e : E) → D .says v ≡ tellsAll e → counts e ≡ 0) where
+    abbrev sum : List H → ℕ
+    sum hs = sumOf (λ h. total counts h) hs
+
+    -- an event that nobody of the name hears
+    sum-unheard : (c : Accepted W) (hs : List H) → heard R D n (D .says (c .event)) ≡ none → sum (map (grow′ c) hs) ≡ sum hs
+    sum-unheard c hs u = rw (unheard c u hs)
+
+    -- an event that all hear
+    grown-uncounted : (h : H) (t : ℕ) (e : E) (b : Bool) → counts e ≡ 0 → total counts (cond b h (h ▸ t ∶ e)) ≡ total counts h
+    grown-uncounted h t e true z = refl
+    grown-uncounted h t e false z = omega arith
+
+    sum-all : (c : Accepted W) (e : E) (hs : List H) → D .says (c .event) ≡ tellsAll e → sum (map (grow′ c) hs) ≡ sum hs
+    sum-all c e [] z = refl
+    sum-all c e (h ∷ hs) z =
+        let a : total counts (grow′ c h) ≡ total counts h = rw z (grown-uncounted h (c .time) e (ended R h) (uncounted (c .event) e z)) in
+        omega (arith, a, sum-all c e hs z)
+
+    -- an event that names n: the last history is there to hear it
+    sum-last : (c : Accepted W) (e : E) (h : H) (b : Bool) → ended R h ≡ b → heard R D n (D .says (c .event)) ≡ some e → (leftOf (some h) ≡ [] → ⊥)
+        → total counts (grow′ c h) ≡ total counts h + counts e
+    sum-last c e h true f u p = absurd (p (rw f))
+    sum-last c e h false f u p = rw (f, u)
+
+    sum-cur : (c : Accepted W) (e : E) (o : Option H) → heard R D n (D .says (c .event)) ≡ some e → (leftOf o ≡ [] → ⊥) → sum (opt (grew c o)) ≡ sum (opt o) + counts e
+    sum-cur c e none u p = absurd (p refl)
+    sum-cur c e (some h) u p = omega (arith, sum-last c e h (ended R h) refl u p)
+
+    sum-named : (g : G) (c : Accepted W) (e : E) (os : List (Option C)) (hs : List H) → heard R D n (D .says (c .event)) ≡ some e → active K n os ≡ true → Tracks g os hs
+        → sum (map (grow′ c) hs) ≡ sum hs + counts e
+    sum-named g c e os hs u a k =
+        let i : sum (opt (grew c (k .cur))) ≡ sum (opt (k .cur)) + counts e = sum-cur c e (k .cur) u (λ z. named-active K nameOf n os a (k .now ∙ z)) in
+        let m : map (grow′ c) hs ≡ k .olds ++ opt (grew c (k .cur)) = rw (k .split, map-append, grow-ended c (k .olds) (k .done), map-opt) in
+        rw (m, k .split) (omega (
+          arith,
+          i,
+          sumOf-append (λ h. total counts h) (k .olds) (opt (grew c (k .cur))),
+          sumOf-append (λ h. total counts h) (k .olds) (opt (k .cur)),
+        ))
+
+    sum-tells : (g : G) (c : Accepted W) (m : N) (e : E) (os : List (Option C)) (hs : List H) (b : Bool) → D .same n m ≡ b → D .says (c .event) ≡ tells m e → active K m os ≡ true → Tracks g os hs
+        → sum (map (grow′ c) hs) ≡ sum hs + cond b (counts e) 0
+    sum-tells g c m e os hs true s z a k = sum-named g c e os hs (rw (z, s)) (rw (X .same-exactly n m .0 s) a) k
+    sum-tells g c m e os hs false s z a k = omega (arith, sum-unheard c hs (rw (z, s)))
+
+    sum-activation : (c : Accepted W) (t : ℕ) (s : S) (hs : List H) (b : Bool) → heard R D n (D .says (c .event)) ≡ none → sum (map (grow′ c) hs ++ cond b (start t s ∷ []) []) ≡ sum hs + 0
+    sum-activation c t s hs true u = omega (arith, sum-unheard c hs u, sumOf-append (λ h. total counts h) (map (grow′ c) hs) (start t s ∷ []))
+    sum-activation c t s hs false u = omega (arith, sum-unheard c hs u, sumOf-append (λ h. total counts h) (map (grow′ c) hs) [])
+
+    sum-next : (g : G) (c : Accepted W) (w : Said G N S E) (os : List (Option C)) (hs : List H) → D .says (c .event) ≡ w → admits K w os ≡ true → Tracks g os hs
+        → sum (map (grow′ c) hs ++ activation′ g (c .time) w) ≡ sum hs + reports R D n counts w
+    sum-next g c (activates m s) os hs z a k = sum-activation c (c .time) (s g) hs (D .same n m) (rw z)
+    sum-next g c (tells m e) os hs z a k = rw append-nil (sum-tells g c m e os hs (D .same n m) refl z a k)
+    sum-next g c (tellsAll e) os hs z a k = rw append-nil (omega (arith, sum-all c e hs z))
+    sum-next g c nothing os hs z a k = rw append-nil (omega (arith, sum-unheard c hs (rw z)))
+
+    sum-gathered : (cs : List (Accepted W)) (g : G) (os : List (Option C)) (hs : List H) → Admitted K g os cs → Tracks g os hs
+        → sum (gathered g hs cs) ≡ sum hs + reported R D n counts cs
+    sum-gathered [] g os hs a k = omega arith
+    sum-gathered (c ∷ cs) g os hs a k =
+        let x = next g c (K .says (c .event)) os hs (sym (X .says-meant (c .event))) (a .0) k in
+        let y : sum (map (grow′ c) hs ++ activation′ g (c .time) (K .says (c .event))) ≡ sum hs + reports R D n counts (K .says (c .event))
+        = sum-next g c (K .says (c .event)) os hs (sym (X .says-meant (c .event))) (a .0) k in
+        let z : reports R D n counts (K .says (c .event)) ≡ reports R D n counts (D .says (c .event)) = rw (X .says-meant (c .event)) in
+        omega (arith, y, z, sum-gathered cs (K .settles g (c .event)) _ _ (a .1) (x .tracks))
+
   -- ---- any accepted events
 
   record Agrees (g : G) (os : List (Option C)) (hs : List H) (cs : List (Accepted W)) : Type 0 where
@@ -256,10 +327,13 @@ module _ {G N S E W C B : Type 0} (R : Rules S E) (D : Meaning G N S E W) (F : F
     pub closed : ofName K nameOf n (output K g os cs) ≡ each made (histories R D n g cs)
     pub open-now : named K nameOf n (table K g os cs) ≡ each left (histories R D n g cs)
     pub released : Earlier (λ h. ended R h ≡ true) (histories R D n g cs)
+    pub all-reported : (counts : E → ℕ) → ((v : W) (e : E) → D .says v ≡ tellsAll e → counts e ≡ 0)
+        → sumOf (λ h. total counts h) (histories R D n g cs) ≡ reported R D n counts cs
 
   pub charged : (g : G) (os : List (Option C)) (cs : List (Accepted W)) → named K nameOf n os ≡ [] → Admitted K g os cs → Charged g os cs
   charged g os cs e a =
-      let i = agrees cs g os [] a (record { olds = []; cur = none; split = refl; done = tt; knows = tt; now = e }) in
+      let none-yet : Tracks g os [] = record { olds = []; cur = none; split = refl; done = tt; knows = tt; now = e } in
+      let i = agrees cs g os [] a none-yet in
       let f = gathered-all cs g [] in
       let k = i .tracks in
       let s : histories R D n g cs ≡ k .olds ++ opt (k .cur) = sym f ∙ k .split in
@@ -267,4 +341,5 @@ module _ {G N S E W C B : Type 0} (R : Rules S E) (D : Meaning G N S E W) (F : F
         closed = sym (i .closed) ∙ rw f;
         open-now = k .now ∙ rw (s, each-append, left-ended (k .olds) (k .done));
         released = rw s (earlier (k .olds) (k .cur) (k .done));
+        all-reported = λ counts z. rw f at (sum-gathered counts z cs g os [] a none-yet) ∙ zero-add (reported R D n counts cs);
       }

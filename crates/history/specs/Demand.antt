@@ -10,7 +10,7 @@ use lib.ListN.{length}
 use Rattle.history.specs.Lists.{each, sumOf, All, Earlier}
 use Rattle.history.specs.History.{History, start, _▸_∶_, events, began, beganWith, total, InOrder}
 use Rattle.history.specs.Records.{Rules, Stretch, Record, Open, whole, entire, inForce, changes, sinceOpening, closes, running, stretches, closings, records, ended, leaves}
-use Rattle.history.specs.Log.{Accepted, Meaning, histories}
+use Rattle.history.specs.Log.{Accepted, tellsAll, Meaning, histories, reported}
 use Rattle.history.specs.Run.{Machine, run, written, log}
 
 -- ---- what one history must be
@@ -94,6 +94,9 @@ module _ {G N S E W C B M I O : Type 0} (R : Rules S E) (D : Meaning G N S E W) 
     pub open-now : under (D .same) (L .name) n (stored (L .slots (run X fresh calls))) ≡ each (left n) (historiesOf calls n)
     -- and that is what the last one leaves, since a release has ended each before it;
     pub released : Earlier (λ h. ended R h ≡ true) (historiesOf calls n)
+    -- all that the accepted events reported of it by name is in them, whatever is counted, save in what every subject hears;
+    pub all-reported : (counts : E → ℕ) → ((v : W) (e : E) → D .says v ≡ tellsAll e → counts e ≡ 0)
+        → sumOf (λ h. total counts h) (historiesOf calls n) ≡ reported R D n counts (log X fresh calls)
     -- time does not go back in any of them;
     pub in-order : All InOrder (historiesOf calls n)
     -- and each of them is charged once in every part.

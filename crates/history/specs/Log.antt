@@ -1,6 +1,6 @@
 -- The histories of a name in a log: the list of the accepted events.
 -- Assumes nothing.
-use Prim.Native.Nat.{ℕ, _≤_}
+use Prim.Native.Nat.{ℕ, _+_}
 use mathlib.Core.Bool.{Bool, true, false, cond}
 use mathlib.Core.List.{List, [], _∷_, _++_, map}
 use mathlib.Core.Option.{Option, none, some}
@@ -62,3 +62,14 @@ module _ {G N S E W : Type 0} (R : Rules S E) (D : Meaning G N S E W) (n : N) wh
   abbrev pub histories : G → List (Accepted W) → List (History S E)
   histories g [] = []
   histories g (c ∷ cs) = map (follow cs) (activation g (c .time) (D .says (c .event))) ++ histories (D .settles g (c .event)) cs
+
+  -- What the events of a log report of n by name: the sum of what each of them counts.
+  abbrev pub reports : (E → ℕ) → Said G N S E → ℕ
+  reports counts (activates m s) = 0
+  reports counts (tells m e) = cond (D .same n m) (counts e) 0
+  reports counts (tellsAll e) = 0
+  reports counts nothing = 0
+
+  abbrev pub reported : (E → ℕ) → List (Accepted W) → ℕ
+  reported counts [] = 0
+  reported counts (c ∷ cs) = reports counts (D .says (c .event)) + reported counts cs
