@@ -1,30 +1,31 @@
 -- Demand 3, for every node that handles a kind as its histories say.
 -- Assumes nothing.
 use Prim.Native.Nat.{ℕ}
-use mathlib.Core.Path.{_≡_, refl, sym, ap, _∙_}
-use mathlib.Core.Bool.{Bool, true, false, cond}
-use mathlib.Core.List.{List, [], _∷_, _++_, map}
-use mathlib.Core.Option.{Option, none, some}
-use Rattle.history.specs.Lists.{each, All}
+use mathlib.Core.Path.{_≡_, refl, sym, _∙_}
+use mathlib.Core.Bool.{Bool}
+use mathlib.Core.List.{List, [], _∷_}
+use Rattle.history.specs.Lists.{each}
 use Rattle.history.specs.Records.{Rules}
 use Rattle.history.specs.Log.{Meaning}
 use Rattle.history.specs.Table.{Handling}
 use Rattle.history.specs.Run.{Machine, run, written, log}
-use Rattle.history.specs.Demand.{OnceEach, Forms, Sight, under, stored, historiesOf, Demand3}
+use Rattle.history.specs.Demand.{OnceEach, Forms, Sight, under, stored, Demand3}
 use Rattle.history.proofs.Records.{once}
-use Rattle.history.proofs.Tables.{named, Sound}
+use Rattle.history.proofs.Tables.{Sound}
 use Rattle.history.proofs.Told.{charged}
 use Rattle.history.proofs.Histories.{every-proper, every-ordered}
 use Rattle.history.proofs.Runs.{Serves, runs}
 
 -- names read alike give the same under a name
-under-alike : {N A : Type 0} (same same′ : N → N → Bool) (name name′ : A → N) → ((m n : N) → same m n ≡ same′ m n) → ((a : A) → name a ≡ name′ a)
+under-alike : {N A : Type 0} (same same′ : N → N → Bool) (name name′ : A → N) → ((m n : N) → same m n ≡ same′ m n)
+    → ((a : A) → name a ≡ name′ a)
     → (n : N) (xs : List A) → under same name n xs ≡ under same′ name′ n xs
 under-alike same same′ name name′ p q n [] = refl
 under-alike same same′ name name′ p q n (x ∷ xs) = rw (p n (name x), q x, under-alike same same′ name name′ p q n xs)
 
 pub demand3 : {G N S E W C B M I O : Type 0} (R : Rules S E) (D : Meaning G N S E W) (F : Forms N S E C B) (K : Handling G N S E W C B) (L : Sight N C B M O)
-    (X : Machine M I W O) (known : S → G) → Sound R D F K (L .nameOf) known → (settings : M → G) (clock : M → ℕ) → Serves K L X settings clock
+    (X : Machine M I W O) (known : S → G) → Sound R D F K (L .nameOf) known → (settings : M → G) (clock : M → ℕ)
+    → Serves K L X settings clock
     → (fresh : M) → stored (L .slots fresh) ≡ [] → (calls : List I) (n : N) → Demand3 R D F L X fresh (settings fresh) calls n
 demand3 R D F K L X known Z settings clock Y fresh empty calls n =
     let r = runs K L X settings clock Y calls fresh in

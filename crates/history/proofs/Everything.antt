@@ -6,14 +6,13 @@ use Prim.Native.Nat.{ℕ, _+_}
 use mathlib.Core.Path.{_≡_, refl, sym, ap, _∙_}
 use mathlib.Core.Bool.{Bool, true, false, cond}
 use mathlib.Core.List.{List, [], _∷_, _++_, map, append-assoc, append-nil}
-use mathlib.Core.Option.{Option, none, some}
 use native.Mathlib.Omega.{arith}
 use Rattle.history.specs.Lists.{each, sumOf, Earlier}
-use Rattle.history.specs.History.{History, start, _▸_∶_, total}
-use Rattle.history.specs.Records.{Rules, Stretch, Record, Open, whole, sinceOpening, running, stretches, records, ended, leaves}
-use Rattle.history.specs.Log.{Accepted, tellsAll, Meaning, reported}
+use Rattle.history.specs.History.{History, total}
+use Rattle.history.specs.Records.{Rules, Stretch, Record, Open, whole, running, stretches, records, ended, leaves}
+use Rattle.history.specs.Log.{tellsAll, Meaning, reported}
 use Rattle.history.specs.Run.{Machine, run, written, log}
-use Rattle.history.specs.Demand.{Forms, Sight, under, stored, left, historiesOf, Demand3}
+use Rattle.history.specs.Demand.{Forms, Sight, under, stored, historiesOf, Demand3}
 use Rattle.history.proofs.Lists.{each-append, sumOf-append}
 use Rattle.history.proofs.Records.{read, every, ended-open, ended-running}
 
@@ -31,7 +30,8 @@ module _ {N S E C B A : Type 0} (R : Rules S E) (F : Forms N S E C B) (n : N) (e
   each-made (r ∷ rs) = rw (records-carry r, each-made rs, each-append)
 
   -- one history
-  read-one : (h : History S E) (b : Bool) → ended R h ≡ b → each ofRecord (made h) ++ each ofStored (leaving b h) ≡ each entries (stretches R h)
+  read-one : (h : History S E) (b : Bool) → ended R h ≡ b
+      → each ofRecord (made h) ++ each ofStored (leaving b h) ≡ each entries (stretches R h)
   read-one h true p =
       let q : each (λ r. r .stretches) (records R h) ≡ stretches R h = sym (append-nil _) ∙ rw (ended-open R h p) at (read R h) in
       rw (each-made (records R h), append-nil, q)
@@ -54,11 +54,13 @@ module _ {N S E C B A : Type 0} (R : Rules S E) (F : Forms N S E C B) (n : N) (e
     octets-of [] = refl
     octets-of (x ∷ xs) = omega (arith, carry x, octets-of xs, sumOf-append octets (entries x) (each entries xs))
 
-    count-one : (h : History S E) (b : Bool) → ended R h ≡ b → sumOf octets (each entries (stretches R h)) + sumOf runs (leaving b h) ≡ total counts h
+    count-one : (h : History S E) (b : Bool) → ended R h ≡ b
+        → sumOf octets (each entries (stretches R h)) + sumOf runs (leaving b h) ≡ total counts h
     count-one h true p = omega (arith, octets-of (stretches R h), every R counts h, ended-running R counts h p)
     count-one h false p = omega (arith, octets-of (stretches R h), every R counts h, run-carry (leaves R h))
 
-    count-all : (hs : List (History S E)) → sumOf octets (each (λ h. each entries (stretches R h)) hs) + sumOf runs (each (λ h. leaving (ended R h) h) hs) ≡ sumOf (λ h. total counts h) hs
+    count-all : (hs : List (History S E))
+        → sumOf octets (each (λ h. each entries (stretches R h)) hs) + sumOf runs (each (λ h. leaving (ended R h) h) hs) ≡ sumOf (λ h. total counts h) hs
     count-all [] = refl
     count-all (h ∷ hs) = omega (
       arith,
@@ -83,7 +85,8 @@ module _ {N S E C B A : Type 0} (R : Rules S E) (F : Forms N S E C B) (n : N) (e
     containers-once = rw (d .closed, d .open-now) (read-all (historiesOf R D F L X fresh settings calls n) (d .released))
 
     pub octets-once : (counts : E → ℕ) → ((v : W) (e : E) → D .says v ≡ tellsAll e → counts e ≡ 0) → (octets : A → ℕ) (runs : C → ℕ)
-        → ((x : Stretch S E) → sumOf octets (entries x) ≡ total counts (whole x)) → ((o : Open S E) → runs (F .stored n o) ≡ total counts (o .running))
+        → ((x : Stretch S E) → sumOf octets (entries x) ≡ total counts (whole x))
+        → ((o : Open S E) → runs (F .stored n o) ≡ total counts (o .running))
         → sumOf octets (each ofRecord writtenUnder ++ each ofStored storedUnder) + sumOf runs storedUnder ≡ reported R D n counts (log X fresh calls)
     octets-once counts z octets runs p q =
         rw (containers-once, d .open-now) (count-all counts octets runs p q (historiesOf R D F L X fresh settings calls n)) ∙ d .all-reported counts z

@@ -7,7 +7,7 @@ use mathlib.Core.List.{List, [], _∷_, _++_, map}
 use mathlib.Core.Option.{Option, none, some}
 use native.Mathlib.Omega.{arith}
 use Rattle.history.specs.Lists.{All}
-use Rattle.history.specs.History.{History, start, _▸_∶_, latest, InOrder}
+use Rattle.history.specs.History.{History, start, latest, InOrder}
 use Rattle.history.specs.Records.{Rules, ended}
 use Rattle.history.specs.Log.{Accepted, Said, activates, tells, tellsAll, nothing, Meaning, grown, heard, grow, follow, activation, histories}
 use Rattle.history.proofs.Records.{Proper}
@@ -47,7 +47,8 @@ module _ {G N S E W : Type 0} (R : Rules S E) (D : Meaning G N S E W) (n : N) wh
   follow-proper [] h p = p
   follow-proper (c ∷ cs) h p = follow-proper cs (grow R D n c h) (grown-proper h (c .time) (heard R D n (D .says (c .event))) (ended R h) refl p)
 
-  pub every-proper : (P : History S E → Type 0) → ((h : History S E) → Proper R h → P h) → (g : G) (cs : List (Accepted W)) → All P (histories R D n g cs)
+  pub every-proper : (P : History S E → Type 0) → ((h : History S E) → Proper R h → P h) → (g : G) (cs : List (Accepted W))
+      → All P (histories R D n g cs)
   every-proper P holds g [] = tt
   every-proper P holds g (c ∷ cs) = each-activation P cs g (c .time) (D .says (c .event)) _
       (λ s. holds (follow R D n cs (start (c .time) s)) (follow-proper cs (start (c .time) s) tt)) (every-proper P holds (D .settles g (c .event)) cs)
@@ -60,7 +61,8 @@ module _ {G N S E W : Type 0} (R : Rules S E) (D : Meaning G N S E W) (n : N) wh
   grown-ordered h k t none false f p q = (q, omega arith)
   grown-ordered h k t (some e) false f p q = (((omega arith), q), omega arith)
 
-  follow-ordered : (cs : List (Accepted W)) (k l : ℕ) (h : History S E) → Ordered k cs l → latest h ≤ k → InOrder h → InOrder (follow R D n cs h)
+  follow-ordered : (cs : List (Accepted W)) (k l : ℕ) (h : History S E) → Ordered k cs l → latest h ≤ k → InOrder h
+      → InOrder (follow R D n cs h)
   follow-ordered [] k l h o p q = q
   follow-ordered (c ∷ cs) k l h o p q =
       let i = grown-ordered h k (c .time) (heard R D n (D .says (c .event))) (ended R h) (o .0) p q in

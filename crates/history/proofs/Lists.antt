@@ -1,13 +1,13 @@
 -- Laws of lists and of what may be missing.
 -- Assumes nothing.
-use Prim.Native.Nat.{ℕ, zero, suc, _+_}
-use mathlib.Core.Path.{_≡_, refl, sym, ap, _∙_}
+use Prim.Native.Nat.{ℕ, _+_}
+use mathlib.Core.Path.{_≡_, refl, ap}
 use mathlib.Core.Bool.{Bool, true, false, not, cond, _&&_, false≢true}
 use mathlib.Core.List.{List, [], _∷_, _++_, map, append-assoc, append-nil}
 use mathlib.Core.Option.{Option, none, some}
 use native.Mathlib.Omega.{arith}
 use lib.ListN.{length, length-append}
-use Rattle.history.specs.Lists.{each, sumOf, All, Earlier, ifAny, count}
+use Rattle.history.specs.Lists.{each, sumOf, ifAny, count}
 
 pub each-append : {A B : Type 0} (f : A → List B) (a b : List A) → each f (a ++ b) ≡ each f a ++ each f b
 each-append f [] b = refl
@@ -57,7 +57,8 @@ pub cond-same : {A : Type 0} (b : Bool) (x : A) → cond b x x ≡ x
 cond-same true x = refl
 cond-same false x = refl
 
-pub each-cond : {A B : Type 0} (f : A → List B) (b : Bool) (a : A) (rest : List A) → each f (cond b (a ∷ rest) rest) ≡ cond b (f a ++ each f rest) (each f rest)
+pub each-cond : {A B : Type 0} (f : A → List B) (b : Bool) (a : A) (rest : List A)
+    → each f (cond b (a ∷ rest) rest) ≡ cond b (f a ++ each f rest) (each f rest)
 each-cond f true a rest = refl
 each-cond f false a rest = refl
 

@@ -3,21 +3,22 @@
 use Prim.Native.Nat.{ℕ, zero, suc, _+_}
 use mathlib.Core.Path.{_≡_, refl, sym, ap, _∙_}
 use mathlib.Core.Logic.{_↔_}
-use mathlib.Core.Bool.{Bool, true, false, cond, false≢true}
+use mathlib.Core.Bool.{true, false, false≢true}
 use mathlib.Core.List.{List, [], _∷_, _++_, map, append-assoc, append-nil, cons≢nil}
 use mathlib.Core.Option.{Option, none, some}
 use native.Mathlib.Omega.{arith}
-use lib.ListN.{length, length-append}
+use lib.ListN.{length}
 use Rattle.history.specs.Lists.{each, sumOf, ifAny, isSome, orElse, count}
-use Rattle.history.specs.History.{History, start, _▸_∶_, collect, events, began, beganWith, standing, total, tally}
-use Rattle.history.specs.Records.{Rules, Stretch, Record, Open, whole, entire, orAnew, number, inForce, changes, causeFor, sinceOpening, closes, condition, cuts, running, stretchesAt, stretches, closings, recordsAt, records, ended, leaves}
+use Rattle.history.specs.History.{History, start, _▸_∶_, events, began, beganWith, total}
+use Rattle.history.specs.Records.{Rules, Stretch, Record, whole, entire, orAnew, number, inForce, changes, causeFor, sinceOpening, closes, condition, cuts, running, stretchesAt, stretches, closings, recordsAt, records, ended, leaves}
 use Rattle.history.specs.Demand.{upTo, numbers, ClosesNow, OnceEach}
 use Rattle.history.proofs.Lists.{each-append, map-append, sumOf-append, length-ifAny, append-cancel}
 
 module _ {S E : Type 0} (R : Rules S E) where
   -- ---- the open record's past is a history with the same present
 
-  inForce-orAnew : (o : Option ℕ) (r : History S E) (s : S) (t : ℕ) (e : E) → inForce R r ≡ s → inForce R (orAnew o r t e (R .after s e)) ≡ R .after s e
+  inForce-orAnew : (o : Option ℕ) (r : History S E) (s : S) (t : ℕ) (e : E) → inForce R r ≡ s
+      → inForce R (orAnew o r t e (R .after s e)) ≡ R .after s e
   inForce-orAnew none r s t e p = ap (λ (x : S). R .after x e) p
   inForce-orAnew (some k) r s t e p = refl
 
@@ -29,7 +30,8 @@ module _ {S E : Type 0} (R : Rules S E) where
   inForce-running (start t s) = refl
   inForce-running (h ▸ t ∶ e) = inForce-orAnew (cuts R h t e) (running R h) (inForce R h) t e (inForce-running h)
 
-  open-step : (o : Option ℕ) (r : History S E) (t : ℕ) (e : E) (s : S) → sinceOpening R r ≡ r → causeFor R r t e ≡ o → sinceOpening R (orAnew o r t e s) ≡ orAnew o r t e s
+  open-step : (o : Option ℕ) (r : History S E) (t : ℕ) (e : E) (s : S) → sinceOpening R r ≡ r → causeFor R r t e ≡ o
+      → sinceOpening R (orAnew o r t e s) ≡ orAnew o r t e s
   open-step none r t e s i p = rw (i, p)
   open-step (some c) r t e s i p = refl
 
@@ -96,7 +98,8 @@ module _ {S E : Type 0} (R : Rules S E) where
     )
 
     -- the same of the open record alone
-    pub every-open : (h : History S E) → sumOf (λ x. total counts (whole x)) (stretches R (sinceOpening R h)) + total counts (running R h) ≡ total counts (sinceOpening R h)
+    pub every-open : (h : History S E)
+        → sumOf (λ x. total counts (whole x)) (stretches R (sinceOpening R h)) + total counts (running R h) ≡ total counts (sinceOpening R h)
     every-open h = rw (running-open h) at (every (sinceOpening R h))
 
   -- ---- the numbers
@@ -106,7 +109,8 @@ module _ {S E : Type 0} (R : Rules S E) where
   Proper (start t s) = Unit {0}
   Proper (h ▸ t ∶ e) = (ended R h ≡ false) × Proper h
 
-  numbered-at : (o p : Option ℕ) (k : ℕ) → upTo k ++ ifAny (orElse o p) (λ c. number k (isSome o)) ≡ numbers (isSome o) (count (orElse o p) k)
+  numbered-at : (o p : Option ℕ) (k : ℕ)
+      → upTo k ++ ifAny (orElse o p) (λ c. number k (isSome o)) ≡ numbers (isSome o) (count (orElse o p) k)
   numbered-at none none k = append-nil (upTo k)
   numbered-at none (some c) k = refl
   numbered-at (some c) p zero = refl
@@ -138,12 +142,14 @@ module _ {S E : Type 0} (R : Rules S E) where
     chained none k rs r x s p q i = rw (append-nil, p) i
     chained (some c) k rs r x s p q i = rw (map-append, map-append, i, q c)
 
-  pub opened : (h : History S E) → map (λ r. began (r .past)) (records R h) ++ (began (sinceOpening R h) ∷ []) ≡ began h ∷ map (λ r. r .time) (records R h)
+  pub opened : (h : History S E)
+      → map (λ r. began (r .past)) (records R h) ++ (began (sinceOpening R h) ∷ []) ≡ began h ∷ map (λ r. r .time) (records R h)
   opened (start t s) = refl
   opened (h ▸ t ∶ e) = chained began (λ r. r .time) t e h (closes R h t e) (number (closings R h) (isSome (R .release e))) (records R h) (sinceOpening R h)
       (stretches R (sinceOpening R h ▸ t ∶ e)) (inForce R (h ▸ t ∶ e)) refl (λ c. refl) (opened h)
 
-  pub opened-with : (h : History S E) → map (λ r. beganWith (r .past)) (records R h) ++ (beganWith (sinceOpening R h) ∷ []) ≡ beganWith h ∷ map (λ r. inForce R (entire r)) (records R h)
+  pub opened-with : (h : History S E)
+      → map (λ r. beganWith (r .past)) (records R h) ++ (beganWith (sinceOpening R h) ∷ []) ≡ beganWith h ∷ map (λ r. inForce R (entire r)) (records R h)
   opened-with (start t s) = refl
   opened-with (h ▸ t ∶ e) = chained beganWith (λ r. inForce R (entire r)) t e h (closes R h t e) (number (closings R h) (isSome (R .release e))) (records R h) (sinceOpening R h)
       (stretches R (sinceOpening R h ▸ t ∶ e)) (inForce R (h ▸ t ∶ e)) refl (λ c. rw (inForce-open h)) (opened-with h)
@@ -192,7 +198,8 @@ module _ {S E : Type 0} (R : Rules S E) where
   )
 
   -- the same, where a kind says its closing conditions one by one, as a relation
-  pub exactly-when : (P : History S E → ℕ → E → ℕ → Type 0) → ((r : History S E) (t : ℕ) (e : E) (c : ℕ) → (causeFor R r t e ≡ some c) ↔ P r t e c)
+  pub exactly-when : (P : History S E → ℕ → E → ℕ → Type 0)
+      → ((r : History S E) (t : ℕ) (e : E) (c : ℕ) → (causeFor R r t e ≡ some c) ↔ P r t e c)
       → (h : History S E) (t : ℕ) (e : E) (cause : ℕ) → ClosesNow R h t e cause ↔ P (sinceOpening R h) t e cause
   exactly-when P f h t e cause = (
     (λ c. f (sinceOpening R h) t e cause .0 (exactly h t e cause .0 c)),

@@ -1,10 +1,10 @@
 -- A node's run is the run of its table over the events that its calls applied.
 -- Assumes nothing.
 use Prim.Native.Nat.{ℕ, _≤_}
-use mathlib.Core.Path.{_≡_, refl, sym, ap, _∙_}
+use mathlib.Core.Path.{_≡_, refl, sym, _∙_}
 use mathlib.Core.Bool.{true}
 use mathlib.Core.List.{List, [], _∷_, _++_, append-assoc, append-nil}
-use mathlib.Core.Option.{Option, none, some}
+use mathlib.Core.Option.{Option}
 use native.Mathlib.Omega.{arith}
 use Rattle.history.specs.Lists.{each}
 use Rattle.history.specs.Log.{Accepted}
@@ -29,15 +29,18 @@ pub record Serves {G N S E W C B M I O : Type 0} (K : Handling G N S E W C B) (L
 
 module _ {G N S E W C B M I O : Type 0} (K : Handling G N S E W C B) (L : Sight N C B M O) (X : Machine M I W O) (settings : M → G) (clock : M → ℕ)
     (Y : Serves K L X settings clock) where
-  table-append : (cs ds : List (Accepted W)) (g : G) (os : List (Option C)) → table K g os (cs ++ ds) ≡ table K (settled K g cs) (table K g os cs) ds
+  table-append : (cs ds : List (Accepted W)) (g : G) (os : List (Option C))
+      → table K g os (cs ++ ds) ≡ table K (settled K g cs) (table K g os cs) ds
   table-append [] ds g os = refl
   table-append (c ∷ cs) ds g os = table-append cs ds _ _
 
-  output-append : (cs ds : List (Accepted W)) (g : G) (os : List (Option C)) → output K g os (cs ++ ds) ≡ output K g os cs ++ output K (settled K g cs) (table K g os cs) ds
+  output-append : (cs ds : List (Accepted W)) (g : G) (os : List (Option C))
+      → output K g os (cs ++ ds) ≡ output K g os cs ++ output K (settled K g cs) (table K g os cs) ds
   output-append [] ds g os = refl
   output-append (c ∷ cs) ds g os = rw (append-assoc, output-append cs ds)
 
-  admitted-append : (cs ds : List (Accepted W)) (g : G) (os : List (Option C)) → Admitted K g os cs → Admitted K (settled K g cs) (table K g os cs) ds → Admitted K g os (cs ++ ds)
+  admitted-append : (cs ds : List (Accepted W)) (g : G) (os : List (Option C)) → Admitted K g os cs
+      → Admitted K (settled K g cs) (table K g os cs) ds → Admitted K g os (cs ++ ds)
   admitted-append [] ds g os p q = q
   admitted-append (c ∷ cs) ds g os p q = (p .0, admitted-append cs ds _ _ (p .1) q)
 

@@ -1,26 +1,26 @@
 -- The sample node meets the demand.
 -- Assumes nothing.
-use Prim.Native.Nat.{ℕ, zero, suc, _+_, _-_, _≤_}
-use mathlib.Core.Path.{_≡_, refl, sym, ap, _∙_}
+use Prim.Native.Nat.{ℕ, zero, suc, _+_}
+use mathlib.Core.Path.{_≡_, refl, sym, ap}
 use mathlib.Core.Logic.{_↔_}
-use mathlib.Core.Bool.{Bool, true, false, not, cond, _&&_, false≢true}
-use mathlib.Core.List.{List, [], _∷_, _++_, map, append-nil}
+use mathlib.Core.Bool.{Bool, true, false, not, cond, _&&_}
+use mathlib.Core.List.{List, [], _∷_, _++_, map}
 use mathlib.Core.Option.{Option, none, some}
 use native.Mathlib.Nat.{add-zero}
 use native.Mathlib.Omega.{arith}
 use lib.Dec.{leb, eqb, T, eqb→eq, eqb-refl, leb→le}
-use Rattle.history.specs.Lists.{each, sumOf, isSome, test}
-use Rattle.history.specs.History.{History, start, _▸_∶_, began, beganWith, total}
-use Rattle.history.specs.Records.{Rules, Stretch, Record, Open, whole, number, inForce, sinceOpening, closes, running, stretches, closings, recordsAt, leaves}
-use Rattle.history.specs.Log.{Accepted, Said, activates, tells, tellsAll, heard, reported}
-use Rattle.history.specs.Table.{Step, free, active, slotsAfter, writes}
-use Rattle.history.specs.Run.{Machine, applied, run, written, log}
+use Rattle.history.specs.Lists.{each, sumOf, test}
+use Rattle.history.specs.History.{History, beganWith, total}
+use Rattle.history.specs.Records.{Stretch, whole, number, inForce, sinceOpening, running, stretches, closings, leaves}
+use Rattle.history.specs.Log.{Accepted, activates, tellsAll, heard, reported}
+use Rattle.history.specs.Table.{free, active}
+use Rattle.history.specs.Run.{run, written, log}
 use Rattle.history.specs.Demand.{Demand3, under, stored}
-use Rattle.history.specs.Sample.{Event, Force, Heard, after, change, octets, releases, closing, rules, says, settles, meaning, Part, Bill, Line, part, forms, cut, bill, keep, counted, turned, full, soleOr, hear, takes, handling, Node, fresh, refusal, answer, ifApplied, machine, sight}
+use Rattle.history.specs.Sample.{Event, Force, Heard, after, octets, rules, says, settles, meaning, Part, Line, part, forms, keep, counted, turned, full, soleOr, hear, takes, handling, Node, fresh, refusal, answer, machine, sight}
 use Rattle.history.proofs.Lists.{each-one, each-map, map-append}
 use Rattle.history.proofs.Records.{inForce-running, every-open}
 use Rattle.history.proofs.Tables.{Bears, bears-cond, admits, told, told-closing, told-change, told-plain, Sound}
-use Rattle.history.proofs.Runs.{Serves, Applied, Refused, Outcome, did, refused, serves}
+use Rattle.history.proofs.Runs.{Outcome, did, refused, serves}
 use Rattle.history.proofs.Demand.{demand3}
 use Rattle.history.proofs.Everything.{octets-once}
 
@@ -48,14 +48,17 @@ module _ (n : ℕ) (h : History Force Heard) (t : ℕ) where
   abbrev g : ℕ
   g = (inForce rules h) .limit
 
-  volume : (k : ℕ) → sumOf (λ p. p .octets) (map part (stretches rules past)) + (total octets (running rules h) + k) ≡ total octets past + k
+  volume : (k : ℕ)
+      → sumOf (λ p. p .octets) (map part (stretches rules past)) + (total octets (running rules h) + k) ≡ total octets past + k
   volume k = omega (arith, parts-sum (stretches rules past), every-open rules octets h)
 
-  hear-report : (k : ℕ) (b : Bool) → leb ((beganWith past) .limit) (total octets past + k) ≡ b → hear g line t (Heard.report k) ≡ told rules forms n h t (Heard.report k)
+  hear-report : (k : ℕ) (b : Bool) → leb ((beganWith past) .limit) (total octets past + k) ≡ b
+      → hear g line t (Heard.report k) ≡ told rules forms n h t (Heard.report k)
   hear-report k true p = rw (told-closing rules forms n h t (Heard.report k) 16 (ap (λ (b : Bool). test b 16) p), volume k, p, map-append, inForce-running rules h)
   hear-report k false p = rw (told-plain rules forms n h t (Heard.report k) (ap (λ (b : Bool). test b 16) p) refl, volume k, p)
 
-  hear-grade : (q : ℕ) (b : Bool) → eqb ((inForce rules h) .grade) q ≡ b → hear g line t (Heard.grade q) ≡ told rules forms n h t (Heard.grade q)
+  hear-grade : (q : ℕ) (b : Bool) → eqb ((inForce rules h) .grade) q ≡ b
+      → hear g line t (Heard.grade q) ≡ told rules forms n h t (Heard.grade q)
   hear-grade q true p = rw (told-plain rules forms n h t (Heard.grade q) refl (rw p), inForce-running rules h, p, add-zero, eqb→eq ((inForce rules h) .grade) q (rw p tt))
   hear-grade q false p = rw (told-change rules forms n h t (Heard.grade q) 0 refl (rw p), inForce-running rules h, p, map-append, inForce-running rules h)
 

@@ -4,13 +4,13 @@ use Prim.Native.Nat.{ℕ, suc}
 use mathlib.Core.Path.{_≡_, refl, sym, ap, _∙_}
 use mathlib.Core.Logic.{_↔_}
 use mathlib.Core.Bool.{Bool, true, false, not, cond, _&&_, _||_, false≢true}
-use mathlib.Core.List.{List, [], _∷_, _++_, map, append-assoc, append-nil, cons≢nil}
+use mathlib.Core.List.{List, [], _∷_, _++_, map, cons≢nil}
 use mathlib.Core.Option.{Option, none, some}
 use Rattle.history.specs.Lists.{each, isSome}
 use Rattle.history.specs.History.{History, start, _▸_∶_}
 use Rattle.history.specs.Records.{Rules, Stretch, Record, Open, number, inForce, sinceOpening, closes, running, stretches, closings, recordsAt, leaves}
-use Rattle.history.specs.Log.{Accepted, Said, activates, tells, tellsAll, nothing, Meaning, heard}
-use Rattle.history.specs.Table.{Step, Handling, fill, free, active, hears, listen, slot, slotsHear, slotsWrite, slotsAfter, writes}
+use Rattle.history.specs.Log.{Said, activates, tells, tellsAll, nothing, Meaning, heard}
+use Rattle.history.specs.Table.{Step, Handling, fill, free, active, hears, listen, slotsHear, slotsWrite}
 use Rattle.history.specs.Demand.{Forms, under, stored}
 use Rattle.history.proofs.Lists.{each-cond}
 use Rattle.history.proofs.Records.{leaves-closing, records-closing, records-none, leaves-change, leaves-plain}
@@ -140,12 +140,14 @@ module _ {G N S E W C B : Type 0} (K : Handling G N S E W C B) (nameOf : B → N
   named-fill-other n c (none ∷ os) p = rw p
   named-fill-other n c (some b ∷ os) p = rw (named-fill-other n c os p)
 
-  fill-some : (n : N) (b c : C) (os : List (Option C)) (x : Bool) → K .same n (K .name b) ≡ x → cond x (b ∷ named n os) (named n os) ≡ []
+  fill-some : (n : N) (b c : C) (os : List (Option C)) (x : Bool) → K .same n (K .name b) ≡ x
+      → cond x (b ∷ named n os) (named n os) ≡ []
       → (named n os ≡ [] → named n (fill c os) ≡ c ∷ []) → cond x (b ∷ named n (fill c os)) (named n (fill c os)) ≡ c ∷ []
   fill-some n b c os true q i f = absurd (cons≢nil i)
   fill-some n b c os false q i f = f i
 
-  pub named-fill : (n : N) (c : C) (os : List (Option C)) → K .same n (K .name c) ≡ true → free os ≡ true → named n os ≡ [] → named n (fill c os) ≡ c ∷ []
+  pub named-fill : (n : N) (c : C) (os : List (Option C)) → K .same n (K .name c) ≡ true → free os ≡ true → named n os ≡ []
+      → named n (fill c os) ≡ c ∷ []
   named-fill n c [] p f i = absurd (false≢true f)
   named-fill n c (none ∷ os) p f i = rw (p, i)
   named-fill n c (some b ∷ os) p f i = fill-some n b c os (K .same n (K .name b)) refl i (λ j. named-fill n c os p f j)
@@ -213,8 +215,10 @@ pub record Sound {G N S E W C B : Type 0} (R : Rules S E) (D : Meaning G N S E W
   pub bears : (g : G) (c : C) (t : ℕ) (e : E) → Bears K nameOf (K .name c) (K .hear g c t e)
   -- an activation stores, and hearing does, what the history says
   pub opens : (n : N) (t : ℕ) (s : S) → K .opening t n s ≡ F .stored n (leaves R (start t s))
-  pub hears-told : (n : N) (h : History S E) (t : ℕ) (e : E) → K .hear (known (inForce R h)) (F .stored n (leaves R h)) t e ≡ told R F n h t e
+  pub hears-told : (n : N) (h : History S E) (t : ℕ) (e : E)
+      → K .hear (known (inForce R h)) (F .stored n (leaves R h)) t e ≡ told R F n h t e
   -- an event that changes the settings is in every history
   pub settings-activated : (g : G) (v : W) (m : N) (s : G → S) → D .says v ≡ activates m s → known (s g) ≡ D .settles g v
-  pub settings-heard : (n : N) (s : S) (v : W) (e : E) → heard R D n (D .says v) ≡ some e → known (R .after s e) ≡ D .settles (known s) v
+  pub settings-heard : (n : N) (s : S) (v : W) (e : E) → heard R D n (D .says v) ≡ some e
+      → known (R .after s e) ≡ D .settles (known s) v
   pub settings-unheard : (n : N) (g : G) (v : W) → heard R D n (D .says v) ≡ none → D .settles g v ≡ g

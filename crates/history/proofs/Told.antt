@@ -2,18 +2,18 @@
 -- what they make.
 -- Assumes nothing.
 use Prim.Native.Nat.{ℕ, _+_}
-use mathlib.Core.Path.{_≡_, refl, sym, ap, _∙_}
-use mathlib.Core.Bool.{Bool, true, false, not, cond, _&&_, _||_, false≢true}
+use mathlib.Core.Path.{_≡_, refl, sym, _∙_}
+use mathlib.Core.Bool.{Bool, true, false, not, cond, false≢true}
 use mathlib.Core.List.{List, [], _∷_, _++_, map, append-assoc, append-nil, cons≢nil}
 use mathlib.Core.Option.{Option, none, some}
 use native.Mathlib.Nat.{zero-add}
 use native.Mathlib.Omega.{arith}
-use Rattle.history.specs.Lists.{each, sumOf, isSome, All, Earlier}
+use Rattle.history.specs.Lists.{each, sumOf, All, Earlier}
 use Rattle.history.specs.History.{History, start, _▸_∶_, total}
-use Rattle.history.specs.Records.{Rules, Record, Open, inForce, recordsAt, records, ended, leaves}
-use Rattle.history.specs.Log.{Accepted, Said, activates, tells, tellsAll, nothing, Meaning, grown, heard, grow, follow, activation, histories, reports, reported}
-use Rattle.history.specs.Table.{Step, Handling, fill, free, active, hears, listen, slotsHear, slotsWrite, slotsAfter, writes, table, output}
-use Rattle.history.specs.Demand.{Forms, under, stored}
+use Rattle.history.specs.Records.{Rules, inForce, records, ended, leaves}
+use Rattle.history.specs.Log.{Accepted, Said, activates, tells, tellsAll, nothing, Meaning, heard, grow, follow, activation, histories, reports, reported}
+use Rattle.history.specs.Table.{Handling, fill, free, active, hears, listen, slotsHear, slotsWrite, slotsAfter, writes, table, output}
+use Rattle.history.specs.Demand.{Forms, stored}
 use Rattle.history.proofs.Lists.{each-append, map-append, map-map, map-id, sumOf-append, cond-same, both, not-true}
 use Rattle.history.proofs.Tables.{content, content-cond, under-append, named, ofName, named-hear, ofName-hear, unheard-slots, unheard-out, inactive, named-active, named-fill-other, named-fill, admits, Sound}
 
@@ -117,7 +117,8 @@ module _ {G N S E W C B : Type 0} (R : Rules S E) (D : Meaning G N S E W) (F : F
     abbrev hear-out : ofName K nameOf n (slotsWrite K g (c .time) w os) ≡ each (λ x. (listen K g x (c .time) (hears K (K .name x) w)) .out) (named′ os)
     hear-out = ofName-hear K nameOf (X .bears) g (c .time) w n os
 
-    grows-hearing : (h : H) (o : Option E) → ended R h ≡ false → heard R D n w ≡ o → known (inForce R h) ≡ g → named′ os ≡ F .stored n (leaves R h) ∷ [] → Grows g c w (some h) os
+    grows-hearing : (h : H) (o : Option E) → ended R h ≡ false → heard R D n w ≡ o → known (inForce R h) ≡ g
+        → named′ os ≡ F .stored n (leaves R h) ∷ [] → Grows g c w (some h) os
     grows-hearing h none f i s p = record {
       now = hear-slots ∙ rw (p, X .stored-name n (leaves R h), hears-heard w, f, meant, i, f);
       wrote = rw (hear-out, p, X .stored-name n (leaves R h), hears-heard w, f, meant, i) (simp append-nil);
@@ -159,7 +160,8 @@ module _ {G N S E W C B : Type 0} (R : Rules S E) (D : Meaning G N S E W) (F : F
     wrote : each made hs′ ≡ each made hs ++ ofName K nameOf n rs
 
   -- no activation: the last history grows
-  next-heard : (g : G) (c : Accepted W) (w : Said G N S E) (os : List (Option C)) (hs : List H) → D .says (c .event) ≡ w → Tracks g os hs
+  next-heard : (g : G) (c : Accepted W) (w : Said G N S E) (os : List (Option C)) (hs : List H) → D .says (c .event) ≡ w
+      → Tracks g os hs
       → Next g (K .settles g (c .event)) os (slotsHear K g (c .time) w os) hs (map (grow′ c) hs ++ []) (slotsWrite K g (c .time) w os)
   next-heard g c w os hs m k =
       let i = grows g c w m os (k .cur) (k .knows) (k .now) in
@@ -183,7 +185,8 @@ module _ {G N S E W C B : Type 0} (R : Rules S E) (D : Meaning G N S E W) (F : F
   cur-ended none p = tt
   cur-ended (some h) p = (last-ended (ended R h) h refl p, tt)
 
-  next-activation : (g : G) (c : Accepted W) (m : N) (s : G → S) (os : List (Option C)) (hs : List H) (x : Bool) → D .same n m ≡ x → D .says (c .event) ≡ activates m s
+  next-activation : (g : G) (c : Accepted W) (m : N) (s : G → S) (os : List (Option C)) (hs : List H) (x : Bool) → D .same n m ≡ x
+      → D .says (c .event) ≡ activates m s
       → admits K (activates m s) os ≡ true → Tracks g os hs
       → Next g (K .settles g (c .event)) os (fill (K .opening (c .time) m (s g)) os) hs (map (grow′ c) hs ++ cond x (start (c .time) (s g) ∷ []) []) []
   next-activation g c m s os hs false i z a k =
@@ -219,7 +222,8 @@ module _ {G N S E W C B : Type 0} (R : Rules S E) (D : Meaning G N S E W) (F : F
         wrote = rw (e, each-append);
       }
 
-  next : (g : G) (c : Accepted W) (w : Said G N S E) (os : List (Option C)) (hs : List H) → D .says (c .event) ≡ w → admits K w os ≡ true → Tracks g os hs
+  next : (g : G) (c : Accepted W) (w : Said G N S E) (os : List (Option C)) (hs : List H) → D .says (c .event) ≡ w
+      → admits K w os ≡ true → Tracks g os hs
       → Next g (K .settles g (c .event)) os (slotsAfter K g (c .time) w os) hs (map (grow′ c) hs ++ activation′ g (c .time) w) (writes K g (c .time) w os)
   next g c (activates m s) os hs z a k = next-activation g c m s os hs (D .same n m) refl z a k
   next g c (tells m e) os hs z a k = next-heard g c (tells m e) os hs z k
@@ -248,16 +252,19 @@ module _ {G N S E W C B : Type 0} (R : Rules S E) (D : Meaning G N S E W) (F : F
         omega (arith, a, sum-all c e hs z)
 
     -- an event that names n: the last history is there to hear it
-    sum-last : (c : Accepted W) (e : E) (h : H) (b : Bool) → ended R h ≡ b → heard R D n (D .says (c .event)) ≡ some e → (leftOf (some h) ≡ [] → ⊥)
+    sum-last : (c : Accepted W) (e : E) (h : H) (b : Bool) → ended R h ≡ b → heard R D n (D .says (c .event)) ≡ some e
+        → (leftOf (some h) ≡ [] → ⊥)
         → total counts (grow′ c h) ≡ total counts h + counts e
     sum-last c e h true f u p = absurd (p (rw f))
     sum-last c e h false f u p = rw (f, u)
 
-    sum-cur : (c : Accepted W) (e : E) (o : Option H) → heard R D n (D .says (c .event)) ≡ some e → (leftOf o ≡ [] → ⊥) → sum (opt (grew c o)) ≡ sum (opt o) + counts e
+    sum-cur : (c : Accepted W) (e : E) (o : Option H) → heard R D n (D .says (c .event)) ≡ some e → (leftOf o ≡ [] → ⊥)
+        → sum (opt (grew c o)) ≡ sum (opt o) + counts e
     sum-cur c e none u p = absurd (p refl)
     sum-cur c e (some h) u p = omega (arith, sum-last c e h (ended R h) refl u p)
 
-    sum-named : (g : G) (c : Accepted W) (e : E) (os : List (Option C)) (hs : List H) → heard R D n (D .says (c .event)) ≡ some e → active K n os ≡ true → Tracks g os hs
+    sum-named : (g : G) (c : Accepted W) (e : E) (os : List (Option C)) (hs : List H) → heard R D n (D .says (c .event)) ≡ some e
+        → active K n os ≡ true → Tracks g os hs
         → sum (map (grow′ c) hs) ≡ sum hs + counts e
     sum-named g c e os hs u a k =
         let i : sum (opt (grew c (k .cur))) ≡ sum (opt (k .cur)) + counts e = sum-cur c e (k .cur) u (λ z. named-active K nameOf n os a (k .now ∙ z)) in
@@ -269,16 +276,19 @@ module _ {G N S E W C B : Type 0} (R : Rules S E) (D : Meaning G N S E W) (F : F
           sumOf-append (λ h. total counts h) (k .olds) (opt (k .cur)),
         ))
 
-    sum-tells : (g : G) (c : Accepted W) (m : N) (e : E) (os : List (Option C)) (hs : List H) (b : Bool) → D .same n m ≡ b → D .says (c .event) ≡ tells m e → active K m os ≡ true → Tracks g os hs
+    sum-tells : (g : G) (c : Accepted W) (m : N) (e : E) (os : List (Option C)) (hs : List H) (b : Bool) → D .same n m ≡ b
+        → D .says (c .event) ≡ tells m e → active K m os ≡ true → Tracks g os hs
         → sum (map (grow′ c) hs) ≡ sum hs + cond b (counts e) 0
     sum-tells g c m e os hs true s z a k = sum-named g c e os hs (rw (z, s)) (rw (X .same-exactly n m .0 s) a) k
     sum-tells g c m e os hs false s z a k = omega (arith, sum-unheard c hs (rw (z, s)))
 
-    sum-activation : (c : Accepted W) (t : ℕ) (s : S) (hs : List H) (b : Bool) → heard R D n (D .says (c .event)) ≡ none → sum (map (grow′ c) hs ++ cond b (start t s ∷ []) []) ≡ sum hs + 0
+    sum-activation : (c : Accepted W) (t : ℕ) (s : S) (hs : List H) (b : Bool) → heard R D n (D .says (c .event)) ≡ none
+        → sum (map (grow′ c) hs ++ cond b (start t s ∷ []) []) ≡ sum hs + 0
     sum-activation c t s hs true u = omega (arith, sum-unheard c hs u, sumOf-append (λ h. total counts h) (map (grow′ c) hs) (start t s ∷ []))
     sum-activation c t s hs false u = omega (arith, sum-unheard c hs u, sumOf-append (λ h. total counts h) (map (grow′ c) hs) [])
 
-    sum-next : (g : G) (c : Accepted W) (w : Said G N S E) (os : List (Option C)) (hs : List H) → D .says (c .event) ≡ w → admits K w os ≡ true → Tracks g os hs
+    sum-next : (g : G) (c : Accepted W) (w : Said G N S E) (os : List (Option C)) (hs : List H) → D .says (c .event) ≡ w
+        → admits K w os ≡ true → Tracks g os hs
         → sum (map (grow′ c) hs ++ activation′ g (c .time) w) ≡ sum hs + reports R D n counts w
     sum-next g c (activates m s) os hs z a k = sum-activation c (c .time) (s g) hs (D .same n m) (rw z)
     sum-next g c (tells m e) os hs z a k = rw append-nil (sum-tells g c m e os hs (D .same n m) refl z a k)
@@ -302,7 +312,8 @@ module _ {G N S E W C B : Type 0} (R : Rules S E) (D : Meaning G N S E W) (F : F
     end : G
     tracks : Tracks end (table K g os cs) (gathered g hs cs)
 
-  agrees : (cs : List (Accepted W)) (g : G) (os : List (Option C)) (hs : List H) → Admitted K g os cs → Tracks g os hs → Agrees g os hs cs
+  agrees : (cs : List (Accepted W)) (g : G) (os : List (Option C)) (hs : List H) → Admitted K g os cs → Tracks g os hs
+      → Agrees g os hs cs
   agrees [] g os hs a k = record { closed = sym (append-nil _); end = g; tracks = k }
   agrees (c ∷ cs) g os hs a k =
       let x = next g c (K .says (c .event)) os hs (sym (X .says-meant (c .event))) (a .0) k in
@@ -330,7 +341,8 @@ module _ {G N S E W C B : Type 0} (R : Rules S E) (D : Meaning G N S E W) (F : F
     pub all-reported : (counts : E → ℕ) → ((v : W) (e : E) → D .says v ≡ tellsAll e → counts e ≡ 0)
         → sumOf (λ h. total counts h) (histories R D n g cs) ≡ reported R D n counts cs
 
-  pub charged : (g : G) (os : List (Option C)) (cs : List (Accepted W)) → named K nameOf n os ≡ [] → Admitted K g os cs → Charged g os cs
+  pub charged : (g : G) (os : List (Option C)) (cs : List (Accepted W)) → named K nameOf n os ≡ [] → Admitted K g os cs
+      → Charged g os cs
   charged g os cs e a =
       let none-yet : Tracks g os [] = record { olds = []; cur = none; split = refl; done = tt; knows = tt; now = e } in
       let i = agrees cs g os [] a none-yet in

@@ -8,9 +8,9 @@ use mathlib.Core.List.{List, [], _∷_, _++_, map}
 use mathlib.Core.Option.{Option, none, some}
 use lib.ListN.{length}
 use Rattle.history.specs.Lists.{each, sumOf, All, Earlier}
-use Rattle.history.specs.History.{History, start, _▸_∶_, events, began, beganWith, total, InOrder}
-use Rattle.history.specs.Records.{Rules, Stretch, Record, Open, whole, entire, inForce, changes, sinceOpening, closes, running, stretches, closings, records, ended, leaves}
-use Rattle.history.specs.Log.{Accepted, tellsAll, Meaning, histories, reported}
+use Rattle.history.specs.History.{History, _▸_∶_, events, began, beganWith, total, InOrder}
+use Rattle.history.specs.Records.{Rules, Record, Open, whole, entire, inForce, changes, sinceOpening, closes, running, stretches, closings, records, ended, leaves}
+use Rattle.history.specs.Log.{tellsAll, Meaning, histories, reported}
 use Rattle.history.specs.Run.{Machine, run, written, log}
 
 -- ---- what one history must be

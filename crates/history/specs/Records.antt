@@ -1,8 +1,8 @@
 -- How a history falls into stretches by its cuts, and into records by its closings: said once, for every kind of subject.
 -- Assumes nothing.
 use Prim.Native.Nat.{ℕ, zero, suc}
-use mathlib.Core.Bool.{Bool, true, false, cond}
-use mathlib.Core.List.{List, [], _∷_, _++_}
+use mathlib.Core.Bool.{Bool, true, false}
+use mathlib.Core.List.{List}
 use mathlib.Core.Option.{Option, none, some}
 use Rattle.history.specs.Lists.{ifAny, isSome, orElse, count}
 use Rattle.history.specs.History.{History, start, _▸_∶_, collect, standing, tally}

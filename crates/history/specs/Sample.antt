@@ -3,14 +3,14 @@
 -- replaces; a record keeps the limit that it opened with.
 -- Assumes nothing.
 use Prim.Native.Nat.{ℕ, zero, suc, _+_, _-_}
-use mathlib.Core.Bool.{Bool, true, false, cond, not}
+use mathlib.Core.Bool.{cond}
 use mathlib.Core.List.{List, [], _∷_, _++_, map}
 use mathlib.Core.Option.{Option, none, some}
 use lib.Dec.{leb, eqb}
 use lib.ListN.{replicate}
 use Rattle.history.specs.Lists.{sumOf, test}
 use Rattle.history.specs.History.{History, _▸_∶_, began, beganWith, total}
-use Rattle.history.specs.Records.{Rules, Stretch, Record, Open, whole, inForce}
+use Rattle.history.specs.Records.{Rules, Stretch, whole, inForce}
 use Rattle.history.specs.Log.{Accepted, Said, activates, tells, tellsAll, Meaning}
 use Rattle.history.specs.Table.{Step, Handling, free, active, slotsAfter, writes}
 use Rattle.history.specs.Run.{Machine, ifZero}

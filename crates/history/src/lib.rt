@@ -1,2 +1,14 @@
-// Histories: what "every octet once" means, for every kind of subject that is charged. This crate has no code: its definitions
-// stand in specs/, the theorem and its consequences in proofs/, and the crates with nodes take both for their kinds.
+// Histories: what "every octet once" (demand 3) means, for every kind of subject that is charged. This crate has no code.
+//
+// What a reader must believe stands in specs/, to be read in this order:
+//   History   a history: how it started, and what was heard, each thing at its time
+//   Records   what a kind of subject provides; the stretches that cuts make, the records that closings make, what is left open
+//   Log       the accepted events, and the histories of a name among them
+//   Run       calls, their answers, and so the log of a run
+//   Demand    what one history must be, and demand 3 of a node with slots
+//   Table     how a node of slots hears events: for the step of such a node, and no part of demand 3
+//   Sample    a small node that has every part
+// Lists has the short words that these use.
+//
+// proofs/ has the theorem for every kind and every such node (Demand), what it says of all that is written and stored under a
+// name (Everything), and the laws that an instance uses (Records, Tables, Runs). Sample shows how a node takes all this.
