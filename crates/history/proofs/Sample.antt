@@ -165,13 +165,14 @@ admitted os (Event.release n k) p = known (active handling n os) p
 admitted os Event.tariff p = refl
 admitted os (Event.limit l) p = refl
 
-accepted : (b : Bool) (k : ℕ) → cond b k 6 ≡ 0 → (b ≡ true) × (k ≡ 0)
-accepted true k p = (refl, p)
-accepted false k p = absurd (omega arith)
+accepted : (a : Node) (c : Accepted Event) (b : Bool) → leb (a .clock) (c .time) ≡ b → answer a c ≡ 0
+    → (leb (a .clock) (c .time) ≡ true) × (refusal (a .slots) (c .event) ≡ 0)
+accepted a c true f p = (f, rw f at p)
+accepted a c false f p = let z = rw f at p in absurd (omega (arith, z))
 
 outcome : (a : Node) (c : Accepted Event) (k : ℕ) → answer a c ≡ k → Outcome handling sight machine (λ a. a .limit) (λ a. a .clock) a c
 outcome a c zero p =
-    let f = accepted (leb (a .clock) (c .time)) (refusal (a .slots) (c .event)) p in
+    let f = accepted a c (leb (a .clock) (c .time)) refl p in
     did c (record {
       events = rw p;
       admitted = admitted (a .slots) (c .event) (f .1);
