@@ -84,59 +84,35 @@ abbrev pub orZero : Option ℕ → ℕ
 orZero none = 0
 orZero (some n) = n
 
--- the fields of a record that lasted so long
+-- the fields of a record that lasted so long, part by part as above
+abbrev pub numberPart : Record → NumberFields
+numberPart r = (unless0 (r .number), (unlessNone (take (r .nodelen) (r .nodeid)), tt))
+
+abbrev pub listPart : Record → ℕ → ListFields
+listPart r lasts = (take (r .count) (r .containers), (r .opening, (lasts, (r .change, (r .cause, numberPart r)))))
+
+abbrev pub pdpPart : Record → ℕ → PdpFields
+pdpPart r lasts = (r .ggsn, (take (r .apnlen) (r .apn), (r .pdptype, (r .address, listPart r lasts))))
+
+abbrev pub namePart : Record → ℕ → NameFields
+namePart r lasts = (r .sgsn, (r .charging, pdpPart r lasts))
+
 unfoldable pub fieldsOf : Record → ℕ → Fields
-fieldsOf r lasts = (
-  tt,
-  (
-    r .network,
-    (
-      r .imsi,
-      (
-        r .sgsn,
-        (
-          r .charging,
-          (
-            r .ggsn,
-            (
-              take (r .apnlen) (r .apn),
-              (
-                r .pdptype,
-                (
-                  r .address,
-                  (
-                    take (r .count) (r .containers),
-                    (
-                      r .opening,
-                      (
-                        lasts,
-                        (
-                          r .change,
-                          (
-                            r .cause,
-                            (unless0 (r .number), (unlessNone (take (r .nodelen) (r .nodeid)), tt)),
-                          ),
-                        ),
-                      ),
-                    ),
-                  ),
-                ),
-              ),
-            ),
-          ),
-        ),
-      ),
-    ),
-  ),
-)
+fieldsOf r lasts = (tt, (r .network, (r .imsi, namePart r lasts)))
 
 unfoldable pub ofRecord : Record → Fields
 ofRecord r = fieldsOf r (duration r)
 
-abbrev pub listFields : Fields → ListFields
-listFields w = w .1 .1 .1 .1 .1 .1 .1 .1 .1
+-- and back: where each part begins, and the record that they say
+abbrev pub nameFields : Fields → NameFields
+nameFields w = w .1 .1 .1
 
--- the parts of what was read after the list
+abbrev pub pdpFields : Fields → PdpFields
+pdpFields w = nameFields w .1 .1
+
+abbrev pub listFields : Fields → ListFields
+listFields w = pdpFields w .1 .1 .1 .1
+
 abbrev pub numberFields : Fields → NumberFields
 numberFields w = listFields w .1 .1 .1 .1 .1
 
@@ -144,13 +120,13 @@ unfoldable pub toRecord : Fields → Record
 toRecord w = record {
   network = w .1 .0;
   imsi = w .1 .1 .0;
-  sgsn = w .1 .1 .1 .0;
-  charging = w .1 .1 .1 .1 .0;
-  ggsn = w .1 .1 .1 .1 .1 .0;
-  apn = fillTo 63 0 (w .1 .1 .1 .1 .1 .1 .0);
-  apnlen = length (w .1 .1 .1 .1 .1 .1 .0);
-  pdptype = w .1 .1 .1 .1 .1 .1 .1 .0;
-  address = w .1 .1 .1 .1 .1 .1 .1 .1 .0;
+  sgsn = nameFields w .0;
+  charging = nameFields w .1 .0;
+  ggsn = pdpFields w .0;
+  apn = fillTo 63 0 (pdpFields w .1 .0);
+  apnlen = length (pdpFields w .1 .0);
+  pdptype = pdpFields w .1 .1 .0;
+  address = pdpFields w .1 .1 .1 .0;
   containers = padded (listFields w .0);
   count = length (listFields w .0);
   opening = listFields w .1 .0;
