@@ -1,0 +1,3 @@
+pub mod Numbers
+pub mod Tried
+pub mod Saying

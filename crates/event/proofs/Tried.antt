@@ -1,0 +1,89 @@
+-- The refusals in their order, by what the code finds. Assumes nothing.
+use mathlib.Core.Path.{_≡_, refl, sym, _∙_}
+use mathlib.Core.Bool.{Bool, true, false, not, _&&_}
+use mathlib.Core.List.{List}
+use Prim.Native.Nat.{ℕ, _≤_, _<_}
+use native.Mathlib.Omega.{arith}
+use lib.Dec.{leb, eqb}
+use lib.ListN.{length, List·getD-eq-default}
+use borrow.Author.Tests.{lt-ltb, le-ltb, lt-leb, ne-eqb, not-true, not-false}
+use Rattle.ber.specs.Imsi.{imsiRoom}
+use Rattle.container.specs.Qos.{qosOk}
+use Rattle.scdr.specs.Rules.{allOf, apnChar, release}
+use Rattle.scdr.proofs.Answering.{imsi-room}
+use Rattle.event.specs.Fields.{kindOf, qosAt, flagsOf, imsiOf, countOf, apnOf, causeOf, activateOk, fieldsOk}
+use Rattle.event.specs.Rows.{firstFit, rows, marked, known, measured}
+
+-- ---- what a test's answer says
+
+pub holds : {a b : Bool} → a ≡ b → not a ≡ false → b ≡ true
+holds {a} e h = sym e ∙ not-false a h
+
+pub fails : {a b : Bool} → a ≡ b → not a ≡ true → b ≡ false
+fails {a} e h = sym e ∙ not-true a h
+
+and-false : (a : Bool) → (a && false) ≡ false
+and-false true = refl
+and-false false = refl
+
+-- ---- an activate's fields
+
+pub activate-short : (s : List ℕ) → length s < 36 → false ≡ activateOk s
+unfolding activateOk
+activate-short s h =
+    let z : countOf s ≡ 0 = List·getD-eq-default s 0 {n = 35} (omega arith) in
+    let f : leb 1 (countOf s) ≡ false = lt-leb 1 (countOf s) (omega arith) in
+    rw (f, and-false)
+
+pub activate-is : (s : List ℕ) {f d n : ℕ} {q a : Bool} → f ≡ flagsOf s → d ≡ imsiRoom (imsiOf s) → q ≡ qosOk (qosAt 30 s) → n ≡ countOf s
+    → a ≡ allOf apnChar (apnOf s) → (leb f 3 && not (eqb d 0) && q && leb 1 n && leb n 63 && a) ≡ activateOk s
+unfolding activateOk
+activate-is s p e u v w = rw (p, e, u, v, w, imsi-room (imsiOf s))
+
+-- ---- the fields of the kind
+
+module _ (k : ℕ) (s : List ℕ) where
+  pub fields-activate : k ≡ 1 → activateOk s ≡ fieldsOk k s
+  unfolding fieldsOk
+  fields-activate e = rw e
+
+  pub fields-profile : k ≡ 3 → qosOk (qosAt 15 s) ≡ fieldsOk k s
+  unfolding fieldsOk
+  fields-profile e = rw e
+
+  pub fields-release : k ≡ 5 → release (causeOf s) ≡ fieldsOk k s
+  unfolding fieldsOk
+  fields-release e = rw e
+
+  pub fields-none : (k ≡ 1 → ⊥) → (k ≡ 3 → ⊥) → (k ≡ 5 → ⊥) → true ≡ fieldsOk k s
+  unfolding fieldsOk
+  fields-none a b d = rw (ne-eqb k 1 a, ne-eqb k 3 b, ne-eqb k 5 d)
+
+-- ---- one row after another
+
+pub row-1 : (s : List ℕ) → length s < 7 → 1 ≡ firstFit (rows s)
+unfolding firstFit rows
+row-1 s h = rw (lt-ltb (length s) 7 h)
+
+module _ (s : List ℕ) (h : 7 ≤ length s) where
+  pub row-2 : marked s ≡ false → 2 ≡ firstFit (rows s)
+  unfolding firstFit rows
+  row-2 m = rw (le-ltb (length s) 7 h, m)
+
+  module _ (m : marked s ≡ true) where
+    pub row-3 : known s ≡ false → 3 ≡ firstFit (rows s)
+    unfolding firstFit rows
+    row-3 k = rw (le-ltb (length s) 7 h, m, k)
+
+    module _ (k : known s ≡ true) where
+      pub row-4 : measured s ≡ false → 4 ≡ firstFit (rows s)
+      unfolding firstFit rows
+      row-4 l = rw (le-ltb (length s) 7 h, m, k, l)
+
+      pub row-5 : measured s ≡ true → fieldsOk (kindOf s) s ≡ false → 5 ≡ firstFit (rows s)
+      unfolding firstFit rows
+      row-5 l f = rw (le-ltb (length s) 7 h, m, k, l, f)
+
+      pub row-none : measured s ≡ true → fieldsOk (kindOf s) s ≡ true → 0 ≡ firstFit (rows s)
+      unfolding firstFit rows
+      row-none l f = rw (le-ltb (length s) 7 h, m, k, l, f)

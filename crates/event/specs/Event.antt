@@ -1,0 +1,40 @@
+-- What an event's octets say. Assumes nothing.
+use mathlib.Core.Bool.{cond}
+use mathlib.Core.List.{List}
+use Prim.Native.Nat.{ℕ}
+use lib.Dec.{eqb}
+use Rattle.event.specs.Number.{be}
+use Rattle.event.specs.Fields.{kindOf, timeOf, nameOf, qosAt, activationOf, causeOf}
+use Rattle.event.specs.Rows.{firstFit, rows}
+use Rattle.event.specs.declared.Event.{Event}
+use Rattle.event.specs.declared.Event.the-variants.{Activate, Traffic, Profile, Tariff, Release, Tick, Management}
+use Rattle.event.specs.declared.Decoded.{Decoded}
+use Rattle.event.specs.declared.Decoded.the-variants.{Said, Refused}
+
+-- uplink 4, downlink 4
+abbrev pub trafficOf : List ℕ → Event
+trafficOf s = Traffic (nameOf s) (be 4 15 s) (be 4 19 s)
+
+abbrev pub profileOf : List ℕ → Event
+profileOf s = Profile (nameOf s) (qosAt 15 s)
+
+abbrev pub releaseOf : List ℕ → Event
+releaseOf s = Release (nameOf s) (causeOf s)
+
+-- the seven kinds
+unfoldable pub eventOf : ℕ → List ℕ → Event
+eventOf k s =
+    cond (eqb k 1) (Activate (activationOf s))
+    (cond (eqb k 2) (trafficOf s)
+    (cond (eqb k 3) (profileOf s)
+    (cond (eqb k 4) Tariff
+    (cond (eqb k 5) (releaseOf s)
+    (cond (eqb k 6) Tick
+    (Management (nameOf s)))))))
+
+-- the time and the event, or the number of the first refusal that fits
+unfoldable pub saidBy : ℕ → List ℕ → Decoded
+saidBy n s = cond (eqb n 0) (Said (timeOf s) (eventOf (kindOf s) s)) (Refused n)
+
+unfoldable pub decoded : List ℕ → Decoded
+decoded s = saidBy (firstFit (rows s)) s

@@ -1,0 +1,100 @@
+-- The fields of an event, as 01's table of kinds has them: where they stand, how long the event is, what is in range. Each is a
+-- value for any octets. Assumes nothing.
+use mathlib.Core.Bool.{Bool, true, cond, _&&_}
+use mathlib.Core.List.{List}
+use Prim.Native.Nat.{ℕ, _+_, _/_, _%_}
+use lib.Dec.{leb, eqb}
+use lib.ListN.{getD, take, drop}
+use Rattle.ber.specs.Imsi.{imsiOk}
+use Rattle.container.specs.declared.Qos.{Qos}
+use Rattle.container.specs.Qos.{qosOk}
+use Rattle.scdr.specs.Rules.{allOf, apnChar, release}
+use Rattle.event.specs.Number.{be}
+use Rattle.event.specs.declared.Name.{Name}
+use Rattle.event.specs.declared.Activation.{Activation}
+
+-- ---- where they stand
+
+-- the mark is octets 0 and 1, and the time octets 3 to 6
+abbrev pub kindOf : List ℕ → ℕ
+kindOf s = getD s 2 0
+
+abbrev pub timeOf : List ℕ → ℕ
+timeOf s = be 4 3 s
+
+-- charging ID 4, GGSN 4
+abbrev pub nameOf : List ℕ → Name
+nameOf s = record { id = be 4 7 s; ggsn = be 4 11 s }
+
+-- five octets from a place on
+abbrev pub qosAt : ℕ → List ℕ → Qos
+qosAt at s =
+    record {
+      reliability = getD s at 0;
+      delay = getD s (at + 1) 0;
+      precedence = getD s (at + 2) 0;
+      peak = getD s (at + 3) 0;
+      mean = getD s (at + 4) 0;
+    }
+
+-- an activate after its name: flags 1, IMSI 8, PDP type 2, PDP address 4, QoS 5, n 1, APN n
+abbrev pub flagsOf : List ℕ → ℕ
+flagsOf s = getD s 15 0
+
+abbrev pub imsiOf : List ℕ → List ℕ
+imsiOf s = take 8 (drop 16 s)
+
+abbrev pub countOf : List ℕ → ℕ
+countOf s = getD s 35 0
+
+abbrev pub apnOf : List ℕ → List ℕ
+apnOf s = drop 36 s
+
+-- bit 0 of the flags is network-initiated, bit 1 arrived by SGSN change
+abbrev pub activationOf : List ℕ → Activation
+activationOf s =
+    record {
+      name = nameOf s;
+      network = eqb (flagsOf s % 2) 1;
+      change = eqb (flagsOf s / 2 % 2) 1;
+      pdptype = be 2 24 s;
+      address = be 4 26 s;
+      qos = qosAt 30 s;
+      apnlen = countOf s;
+    }
+
+-- a release after its name: cause 1
+abbrev pub causeOf : List ℕ → ℕ
+causeOf s = getD s 15 0
+
+-- ---- how long the event is
+
+-- by its kind; an activate has n octets after its first 36
+unfoldable pub wholeLength : ℕ → ℕ → ℕ
+wholeLength k n =
+    cond (eqb k 1) (36 + n)
+    (cond (eqb k 2) 23
+    (cond (eqb k 3) 20
+    (cond (eqb k 5) 16
+    (cond (eqb k 7) 15
+    7))))
+
+-- ---- what is in range
+
+-- flags 0..3; IMSI; QoS; n 1..63; APN letters, digits, '.', '-'. The PDP type and the PDP address are any.
+unfoldable pub activateOk : List ℕ → Bool
+activateOk s =
+    leb (flagsOf s) 3
+    && imsiOk (imsiOf s)
+    && qosOk (qosAt 30 s)
+    && leb 1 (countOf s)
+    && leb (countOf s) 63
+    && allOf apnChar (apnOf s)
+
+-- of a QoS its profile, of a release its cause; the other kinds have nothing that could be out of range
+unfoldable pub fieldsOk : ℕ → List ℕ → Bool
+fieldsOk k s =
+    cond (eqb k 1) (activateOk s)
+    (cond (eqb k 3) (qosOk (qosAt 15 s))
+    (cond (eqb k 5) (release (causeOf s))
+    true))

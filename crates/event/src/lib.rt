@@ -1,0 +1,62 @@
+// An event's octets decoded: what an event says, or the number of the first refusal that fits. The time's range is the node's to
+// look at, and so is what a context has to do with the event.
+//
+// number has numbers at a place, fields what follows the head, rows the refusals in their order, kinds the seven kinds.
+//
+// No public function has a `requires`: each answers for every input.
+mod fields;
+mod kinds;
+mod number;
+mod rows;
+
+ghost use mathlib.Core.Path.{_≡_};
+ghost use Rattle.event.specs.Event.{decoded};
+
+// The name of a context.
+pub struct Name {
+    pub id: u32,
+    pub ggsn: u32,
+}
+
+// What an activate says. The IMSI is octets 16 to 23 of the event, and the access point name its octets from 36 on.
+pub struct Activation {
+    pub name: Name,
+    // initiated by the network
+    pub network: bool,
+    // arrived by a change of SGSN
+    pub change: bool,
+    pub pdptype: u16,
+    pub address: u32,
+    pub qos: container::Qos,
+    pub apnlen: usize,
+}
+
+pub enum Event {
+    Activate(Activation),
+    // octets up and down
+    Traffic(Name, u32, u32),
+    Profile(Name, container::Qos),
+    Tariff,
+    // the cause
+    Release(Name, u8),
+    Tick,
+    Management(Name),
+}
+
+// The time and the event, or the number of the first refusal that fits.
+pub enum Decoded {
+    Said(u32, Event),
+    Refused(u8),
+}
+
+pub fn decode(s: &[u8]) -> Decoded
+    ensures { λ r. ⌜ r ≡ decoded (now (s .entry)) ⌝ }
+{
+    let n = rows::first_row(s);
+    if n == 0 {
+        let t = number::four(s, 3);
+        let e = kinds::event_of(s);
+        return Decoded::Said(t, e);
+    }
+    Decoded::Refused(n)
+}
