@@ -1,3 +1,5 @@
+pub mod Firsts
 pub mod Numbers
 pub mod Tried
 pub mod Saying
+pub mod Theorems

@@ -38,3 +38,13 @@ saidBy n s = cond (eqb n 0) (Said (timeOf s) (eventOf (kindOf s) s)) (Refused n)
 
 unfoldable pub decoded : List ℕ → Decoded
 decoded s = saidBy (firstFit (rows s)) s
+
+-- the number of an event's kind
+abbrev pub kindNumber : Event → ℕ
+kindNumber (Activate a) = 1
+kindNumber (Traffic c u d) = 2
+kindNumber (Profile c q) = 3
+kindNumber Tariff = 4
+kindNumber (Release c x) = 5
+kindNumber Tick = 6
+kindNumber (Management c) = 7

@@ -83,7 +83,8 @@ fn fields_ok(s: &[u8]) -> bool
         return profile::qos_ok(fields::qos_at(s, 15));
     }
     if k == 5 {
-        return closing::is_release(number::octet(s, 15));
+        let cause = number::octet(s, 15);
+        return closing::is_release(cause);
     }
     true
 }
@@ -101,10 +102,12 @@ pub fn first_row(s: &[u8]) -> u8
     if !is_known(s) {
         return 3;
     }
-    if !is_measured(s) {
+    let long = is_measured(s);
+    let right = fields_ok(s);
+    if !long {
         return 4;
     }
-    if !fields_ok(s) {
+    if !right {
         return 5;
     }
     0

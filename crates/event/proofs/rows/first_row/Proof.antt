@@ -24,28 +24,28 @@ returns-3 c =
 is-measured-requires : tie.Need-is-measured-requires
 is-measured-requires c κs = search needs
 
-returns-4 : tie.Need-returns-4
-returns-4 c =
-    row-4 (c .before .before .before .before .before .before .before .before .args .s .now) (c .before .before .before .before .before .before .if1 .left) (holds (c .before .before .before .before .before .is-marked .ensures) (c .before .before .before .before .if2 .left))
-    (holds (c .before .before .before .is-known .ensures) (c .before .before .if3 .left))
-    (fails (c .before .is-measured .ensures) (c .if4 .taken))
-
 fields-ok-requires : tie.Need-fields-ok-requires
 fields-ok-requires c κs = search needs
+
+returns-4 : tie.Need-returns-4
+returns-4 c =
+    row-4 (c .before .before .before .before .before .before .before .before .before .args .s .now) (c .before .before .before .before .before .before .before .if1 .left) (holds (c .before .before .before .before .before .before .is-marked .ensures) (c .before .before .before .before .before .if2 .left))
+    (holds (c .before .before .before .before .is-known .ensures) (c .before .before .before .if3 .left))
+    (fails (c .before .before .is-measured .ensures) (c .if4 .taken))
 
 returns-5 : tie.Need-returns-5
 returns-5 c =
     row-5 (c .before .before .before .before .before .before .before .before .before .before .args .s .now) (c .before .before .before .before .before .before .before .before .if1 .left) (holds (c .before .before .before .before .before .before .before .is-marked .ensures) (c .before .before .before .before .before .before .if2 .left))
     (holds (c .before .before .before .before .before .is-known .ensures) (c .before .before .before .before .if3 .left))
-    (holds (c .before .before .before .is-measured .ensures) (c .before .before .if4 .left))
-    (fails (c .before .fields-ok .ensures) (c .if5 .taken))
+    (holds (c .before .before .before .is-measured .ensures) (c .before .if4 .left))
+    (fails (c .before .before .fields-ok .ensures) (c .if5 .taken))
 
 returns-6 : tie.Need-returns-6
 returns-6 c =
     row-none (c .before .before .before .before .before .before .before .before .before .before .args .s .now) (c .before .before .before .before .before .before .before .before .if1 .left) (holds (c .before .before .before .before .before .before .before .is-marked .ensures) (c .before .before .before .before .before .before .if2 .left))
     (holds (c .before .before .before .before .before .is-known .ensures) (c .before .before .before .before .if3 .left))
-    (holds (c .before .before .before .is-measured .ensures) (c .before .before .if4 .left))
-    (holds (c .before .fields-ok .ensures) (c .if5 .left))
+    (holds (c .before .before .before .is-measured .ensures) (c .before .if4 .left))
+    (holds (c .before .before .fields-ok .ensures) (c .if5 .left))
 
 pub first-row-spec : {M : Type 1} → statement M
 first-row-spec =
@@ -57,7 +57,7 @@ first-row-spec =
     is-known-requires
     returns-3
     is-measured-requires
-    returns-4
     fields-ok-requires
+    returns-4
     returns-5
     returns-6)
