@@ -3,3 +3,4 @@ pub mod Numbers
 pub mod Tried
 pub mod Saying
 pub mod Theorems
+pub mod Printed

@@ -2,3 +2,4 @@ pub mod Number
 pub mod Fields
 pub mod Rows
 pub mod Event
+pub mod Sample

@@ -1,0 +1,69 @@
+-- Events that 01 tells of, and edges of the refusals. Assumes nothing.
+use mathlib.Core.Path.{_≡_, refl}
+use mathlib.Core.Bool.{false}
+use mathlib.Core.List.{[]}
+use lib.ListN.{take}
+use Rattle.ber.specs.Imsi.{imsiOk, halves, leading, allF}
+use Rattle.container.specs.Qos.{qosOk}
+use Rattle.scdr.specs.Rules.{allOf, apnChar, release}
+use Rattle.event.specs.Number.{be}
+use Rattle.event.specs.Fields.{wholeLength, activateOk, fieldsOk}
+use Rattle.event.specs.Rows.{firstFit, rows, marked, known, measured}
+use Rattle.event.specs.Event.{eventOf, saidBy, decoded}
+use Rattle.event.specs.Sample.{activate, traffic, released, named}
+use Rattle.event.specs.declared.Event.the-variants.{Activate, Traffic, Release}
+use Rattle.event.specs.declared.Decoded.the-variants.{Said, Refused}
+
+-- ---- "One session, whole"
+
+pub activate-said : decoded activate ≡
+    Said 0
+    (Activate
+    (record {
+      name = record { id = 1; ggsn = 0x0A000002 };
+      network = false;
+      change = false;
+      pdptype = 0xF121;
+      address = 0x0A000003;
+      qos = record { reliability = 1; delay = 3; precedence = 2; peak = 4; mean = 0 };
+      apnlen = 1;
+    }))
+unfolding activate decoded saidBy eventOf firstFit rows marked known measured wholeLength fieldsOk activateOk be imsiOk halves leading allF qosOk allOf apnChar
+activate-said = refl
+
+pub traffic-said : decoded traffic ≡ Said 5 (Traffic (record { id = 1; ggsn = 0x0A000002 }) 400 599)
+unfolding traffic decoded saidBy eventOf firstFit rows marked known measured wholeLength fieldsOk be
+traffic-said = refl
+
+pub release-said : decoded (released 0) ≡ Said 6 (Release (record { id = 1; ggsn = 0x0A000002 }) 0)
+unfolding released decoded saidBy eventOf firstFit rows marked known measured wholeLength fieldsOk release be
+release-said = refl
+
+-- ---- refused
+
+-- 16 closes a record at the volume limit, and no release has it
+pub release-16 : decoded (released 16) ≡ Refused 5
+unfolding released decoded saidBy firstFit rows marked known measured wholeLength fieldsOk release
+release-16 = refl
+
+pub nothing : decoded [] ≡ Refused 1
+unfolding decoded saidBy firstFit rows
+nothing = refl
+
+pub activate-35 : decoded (take 35 activate) ≡ Refused 4
+unfolding activate decoded saidBy firstFit rows marked known measured wholeLength
+activate-35 = refl
+
+-- n = 0 in 36 octets, and in 37
+pub n-0 : decoded (named 0 0) ≡ Refused 5
+unfolding activate named decoded saidBy firstFit rows marked known measured wholeLength fieldsOk activateOk imsiOk halves leading allF qosOk allOf apnChar
+n-0 = refl
+
+pub n-0-longer : decoded (named 0 1) ≡ Refused 4
+unfolding activate named decoded saidBy firstFit rows marked known measured wholeLength
+n-0-longer = refl
+
+-- n = 64 in 100 octets
+pub n-64 : decoded (named 64 64) ≡ Refused 5
+unfolding activate named decoded saidBy firstFit rows marked known measured wholeLength fieldsOk activateOk imsiOk halves leading allF qosOk allOf apnChar
+n-64 = refl
