@@ -5,7 +5,7 @@ use mathlib.Core.List.{List, [], _∷_}
 use Prim.Native.Nat.{ℕ, _+_, _≤_}
 use native.Mathlib.Omega.{arith}
 use lib.Dec.{leb, ltb, eqb}
-use lib.ListN.{length}
+use lib.ListN.{length, length-drop}
 use borrow.Author.Tests.{ltb-false, leb-true, eqb-true, eqb-false, not-false}
 use Rattle.format.proofs.Tests.{by, T-true, true-T, and-l, and-r}
 use Rattle.ber.specs.Imsi.{imsiOk}
@@ -134,6 +134,7 @@ pub record Activated (s : List ℕ) (a : Activation) : Type 0 where
   pub least : 1 ≤ a .apnlen
   pub most : a .apnlen ≤ 63
   pub apn : allOf apnChar (apnOf s) ≡ true
+  pub size : length (apnOf s) ≡ a .apnlen
 
 activation-in : (s : List ℕ) → length s ≡ 36 + countOf s → activateOk s ≡ true → Activated s (activationOf s)
 unfolding activateOk
@@ -157,6 +158,7 @@ activation-in s l h =
       least = leb-true 1 (countOf s) (and-right (a && b && c) d h4);
       most = leb-true (countOf s) 63 (and-right (a && b && c && d) e h5);
       apn = and-right (a && b && c && d && e) f h;
+      size = omega (arith, length-drop 36 s);
     }
 
 pub activated : (s : List ℕ) {t : ℕ} {a : Activation} → decoded s ≡ Said t (Activate a) → Activated s a
