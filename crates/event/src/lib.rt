@@ -13,6 +13,7 @@ ghost use mathlib.Core.Path.{_≡_};
 ghost use Rattle.event.specs.Event.{decoded};
 
 // The name of a context.
+#[repr(C)]
 pub struct Name {
     pub id: u32,
     pub ggsn: u32,
