@@ -409,16 +409,19 @@ def main(folder, command):
             print(f"NOT STOPPED: {name}\n  ended with {code}, {counts}, failed: {sorted(found)}\n  wanted: {sorted(kinds)}")
             print("\n".join("  | " + line for line in text.splitlines()[-20:]))
 
+    every = int(os.environ.get("EVERY", "1"))
     for number, fault in enumerate(FAULTS):
+        if number % every:
+            continue
         between = [sys.executable, os.path.abspath(__file__), "--as", str(number)] + command
         judge(fault.name, fault.kinds, compared(folder, between))
-    for name, (old, new) in MODULE_FAULTS:
+    for name, (old, new) in MODULE_FAULTS[::every]:
         with tempfile.TemporaryDirectory() as place:
             faulty_module(place, old, new)
             judge(name, {SAMPLE}, compared(place, command))
 
     for kind in KINDS:
-        if kind not in seen:
+        if every == 1 and kind not in seen:
             failed += 1
             print(f"NO FAULT made this fail: {kind}")
     print(f"{passed} passed, {failed} failed")
