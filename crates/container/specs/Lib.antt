@@ -2,3 +2,4 @@ pub mod Qos
 pub mod Container
 pub mod List
 pub mod Turns
+pub mod Open
