@@ -2,3 +2,4 @@ pub mod Goods
 pub mod Fields
 pub mod Lists
 pub mod Turns
+pub mod Opens

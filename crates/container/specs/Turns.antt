@@ -1,9 +1,10 @@
 -- How the code tests the rules of a list: one container after another, and each with the next. proofs/Turns.antt shows that these are
--- the rules of specs/List.antt. Assumes nothing.
+-- the rules of specs/List.antt, and proofs/Opens.antt those of specs/Open.antt. Assumes nothing.
 use mathlib.Core.Bool.{Bool, true, false, _&&_}
 use mathlib.Core.List.{List, [], _∷_}
 use Prim.Native.Nat.{ℕ}
 use lib.Dec.{leb, ltb, eqb}
+use Rattle.container.specs.declared.Qos.{Qos}
 use Rattle.container.specs.declared.Container.{Container}
 use Rattle.container.specs.Container.{containerOk}
 use Rattle.container.specs.List.{changes}
@@ -32,3 +33,7 @@ unfoldable pub lastEnds : List Container → Bool
 lastEnds [] = false
 lastEnds (c ∷ []) = eqb (c .condition) 2
 lastEnds (c ∷ d ∷ cs) = lastEnds (d ∷ cs)
+
+-- c may stand in an open record, before what has the QoS q and ends at t or later: as it must be, and it did not end the record
+unfoldable pub precedes : ℕ → Qos → ℕ → Container → Bool
+precedes z q t c = containerOk c && ltb (c .condition) 2 && eqb (c .time .zone) z && leb (c .time .seconds) t && changes c q

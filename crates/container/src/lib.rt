@@ -2,10 +2,11 @@
 // has. The S-CDR of the SGSN and the G-CDR of the gateway share them.
 //
 // profile has the QoS, stamp the time stamp under a tag, single one container, list the list as octets, rules what must hold between
-// the containers of a record, unused the places of an array after them.
+// the containers of a record, open those of a record that is not closed yet, unused the places of an array after them.
 //
 // No public function has a `requires`: each answers for every input.
 pub mod list;
+pub mod open;
 pub mod profile;
 pub mod rules;
 pub mod single;

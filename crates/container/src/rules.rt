@@ -1,5 +1,6 @@
 // The rules between the containers of a record.
 use crate::Container;
+use crate::Qos;
 use crate::profile;
 use crate::single;
 use calendar::Stamp;
@@ -8,7 +9,7 @@ ghost use mathlib.Core.Bool.{_&&_, Bool·beq};
 ghost use Prim.Native.Nat.{_≤_};
 ghost use lib.Dec.{leb};
 ghost use lib.ListN.{take};
-ghost use Rattle.container.specs.List.{listOk};
+ghost use Rattle.container.specs.List.{listOk, changes};
 ghost use Rattle.container.specs.Turns.{stands, allStand, follows, allFollow};
 
 // Do the first n containers of v keep the rules of a record that opened at a time?
@@ -75,11 +76,18 @@ fn all_follow(v: [Container; 15], n: usize) -> bool
 fn follows(c: Container, d: Container) -> bool
     ensures { λ r. ⌜ r ≡ follows c d ⌝ }
 {
-    let p = c.qos;
     let q = d.qos;
-    let same = profile::same_qos(p, q);
-    let right = alike(!same, c.condition == 0);
+    let right = changes(c, q);
     (c.condition < 2) & right
+}
+
+// Does the QoS after a container differ from its own exactly where a QoS change ended it?
+pub fn changes(c: Container, q: Qos) -> bool
+    ensures { λ r. ⌜ r ≡ changes c q ⌝ }
+{
+    let p = c.qos;
+    let same = profile::same_qos(p, q);
+    alike(!same, c.condition == 0)
 }
 
 // Are both true or both false?

@@ -1,0 +1,268 @@
+-- The containers of an open record: one more of them, the one that closes the record, what they leave of a limit, and the array that
+-- holds them. Assumes nothing.
+use mathlib.Core.Path.{_≡_, refl, sym, ap, _∙_}
+use mathlib.Core.Bool.{Bool, true, false, not, _&&_, and-true, and-false, and-assoc, and-eq-true-iff}
+use mathlib.Core.List.{List, [], _∷_, _++_}
+use Prim.Native.Nat.{ℕ, suc, _+_, _-_, _≤_, _<_}
+use native.Mathlib.Numerals.{add-one}
+use native.Mathlib.Omega.{arith}
+use lib.Dec.{leb, ltb, eqb}
+use lib.ListN.{length, take, drop, getD, set, length-append, length-take, length-drop, length-set, take-append-drop, drop-of-length-le}
+use lib.Seq.{take-suc, take-suc-set, drop-cons, drop-set-lt, getD-take, length-take-le, drop-append-seam}
+use borrow.Author.Tests.{not-true, not-false, leb-true, le-leb, lt-leb, lt-ltb, eq-eqb}
+use Rattle.container.specs.declared.Qos.{Qos}
+use Rattle.container.specs.declared.Container.{Container}
+use Rattle.container.specs.Container.{containerOk}
+use Rattle.container.specs.List.{eachOk, lastAlone, oneOffset, inOrder, changes, qosRule, listOk, noContainers, padded, blanks, isBlank}
+use Rattle.container.specs.Open.{midway, timesTo, qosRun, openOk, volumeOf}
+use Rattle.container.specs.Turns.{precedes}
+use Rattle.container.proofs.Turns.{blanks-are, are-blanks}
+
+-- ---- tests that pass together
+
+both : (a b : Bool) → (a && b) ≡ true → (a ≡ true) × (b ≡ true)
+both a b e = and-eq-true-iff a b .0 e
+
+-- five rules of a list, each with a rule of its last element
+medial : (a p b q : Bool) → ((a && p) && (b && q)) ≡ ((a && b) && (p && q))
+medial false p b q = refl
+medial true true b q = refl
+medial true false b q = sym (and-false b)
+
+paired : (a b c d e p q r s t : Bool)
+    → ((a && p) && (b && q) && (c && r) && (d && s) && (e && t)) ≡ ((a && b && c && d && e) && (p && q && r && s && t))
+paired a b c d e p q r s t =
+    rw (medial a p b q, medial (a && b) (p && q) c r, medial (a && b && c) (p && q && r) d s, medial (a && b && c && d) (p && q && r && s) e t)
+
+-- ---- the rules of one container more, at the end
+
+module _ (c : Container) where
+  -- a rule of each container by itself
+  each-more : (p : Container → Bool) (rule : List Container → Bool) → rule [] ≡ true → ((x : Container) (xs : List Container) → rule (x ∷ xs) ≡ (p x && rule xs))
+      → (cs : List Container) → rule (cs ++ (c ∷ [])) ≡ (rule cs && p c)
+  each-more p rule e f [] = f c [] ∙ rw (e, and-true (p c))
+  each-more p rule e f (x ∷ cs) =
+      f x (cs ++ (c ∷ [])) ∙ ap (λ (b : Bool). p x && b) (each-more p rule e f cs) ∙ sym (and-assoc (p x) (rule cs) (p c)) ∙ ap (λ (b : Bool). b && p c) (sym (f x cs))
+
+  values-more : (cs : List Container) → eachOk (cs ++ (c ∷ [])) ≡ (eachOk cs && containerOk c)
+  unfolding eachOk
+  values-more cs = each-more containerOk eachOk refl (λ x xs. refl) cs
+
+  midway-more : (cs : List Container) → midway (cs ++ (c ∷ [])) ≡ (midway cs && ltb (c .condition) 2)
+  unfolding midway
+  midway-more cs = each-more (λ x. ltb (x .condition) 2) midway refl (λ x xs. refl) cs
+
+  zone-more : (z : ℕ) (cs : List Container) → oneOffset z (cs ++ (c ∷ [])) ≡ (oneOffset z cs && eqb (c .time .zone) z)
+  unfolding oneOffset
+  zone-more z cs = each-more (λ x. eqb (x .time .zone) z) (oneOffset z) refl (λ x xs. refl) cs
+
+  times-more : (t : ℕ) (cs : List Container) (now : ℕ) → timesTo t (cs ++ (c ∷ [])) now ≡ (timesTo t cs (c .time .seconds) && leb (c .time .seconds) now)
+  unfolding timesTo
+  times-more t [] now = refl
+  times-more t (x ∷ cs) now =
+      ap (λ (b : Bool). leb t (x .time .seconds) && b) (times-more (x .time .seconds) cs now)
+      ∙ sym (and-assoc (leb t (x .time .seconds)) (timesTo (x .time .seconds) cs (c .time .seconds)) (leb (c .time .seconds) now))
+
+  qos-more : (cs : List Container) (q : Qos) → qosRun (cs ++ (c ∷ [])) q ≡ (qosRun cs (c .qos) && changes c q)
+  unfolding qosRun
+  qos-more [] q = refl
+  qos-more (x ∷ []) q = refl
+  qos-more (x ∷ y ∷ cs) q =
+      ap (λ (b : Bool). changes x (y .qos) && b) (qos-more (y ∷ cs) q) ∙ sym (and-assoc (changes x (y .qos)) (qosRun (y ∷ cs) (c .qos)) (changes c q))
+
+  open-snoc : (z o : ℕ) (q : Qos) (now : ℕ) (cs : List Container)
+      → openOk z o q now (cs ++ (c ∷ [])) ≡ (openOk z o (c .qos) (c .time .seconds) cs && precedes z q now c)
+  unfolding openOk precedes
+  open-snoc z o q now cs =
+      rw (values-more cs, midway-more cs, zone-more z cs, times-more o cs now, qos-more cs q)
+      (paired (eachOk cs) (midway cs) (oneOffset z cs) (timesTo o cs (c .time .seconds)) (qosRun cs (c .qos))
+      (containerOk c) (ltb (c .condition) 2) (eqb (c .time .zone) z) (leb (c .time .seconds) now) (changes c q))
+
+  -- the same of the one that closes the record
+  last-more : (cs : List Container) → lastAlone (cs ++ (c ∷ [])) ≡ (midway cs && eqb (c .condition) 2)
+  unfolding lastAlone midway
+  last-more [] = refl
+  last-more (x ∷ []) = ap (λ (b : Bool). b && eqb (c .condition) 2) (sym (and-true (ltb (x .condition) 2)))
+  last-more (x ∷ y ∷ cs) =
+      ap (λ (b : Bool). ltb (x .condition) 2 && b) (last-more (y ∷ cs)) ∙ sym (and-assoc (ltb (x .condition) 2) (midway (y ∷ cs)) (eqb (c .condition) 2))
+
+  order-more : (t : ℕ) (cs : List Container) → inOrder t (cs ++ (c ∷ [])) ≡ timesTo t cs (c .time .seconds)
+  unfolding inOrder timesTo
+  order-more t [] = and-true (leb t (c .time .seconds))
+  order-more t (x ∷ cs) = ap (λ (b : Bool). leb t (x .time .seconds) && b) (order-more (x .time .seconds) cs)
+
+  rule-more : (cs : List Container) → qosRule (cs ++ (c ∷ [])) ≡ qosRun cs (c .qos)
+  unfolding qosRule qosRun
+  rule-more [] = refl
+  rule-more (x ∷ []) = and-true (changes x (c .qos))
+  rule-more (x ∷ y ∷ cs) = ap (λ (b : Bool). changes x (y .qos) && b) (rule-more (y ∷ cs))
+
+  pub volume-more : (cs : List Container) → volumeOf (cs ++ (c ∷ [])) ≡ volumeOf cs + (c .uplink + c .downlink)
+  unfolding volumeOf
+  volume-more [] = omega arith
+  volume-more (x ∷ cs) = omega (arith, volume-more cs)
+
+-- ---- what an open record's containers are
+
+pub record Opened (z o : ℕ) (q : Qos) (now : ℕ) (cs : List Container) : Type 0 where
+  pub each : eachOk cs ≡ true
+  pub midway : midway cs ≡ true
+  pub zone : oneOffset z cs ≡ true
+  pub times : timesTo o cs now ≡ true
+  pub qos : qosRun cs q ≡ true
+
+module _ (z o : ℕ) (q : Qos) (now : ℕ) (cs : List Container) where
+  pub opened : openOk z o q now cs ≡ true → Opened z o q now cs
+  unfolding openOk
+  opened h =
+      let a = eachOk cs in
+      let b = midway cs in
+      let c = oneOffset z cs in
+      let d = timesTo o cs now in
+      let w = both (a && b && c && d) (qosRun cs q) h in
+      let x = both (a && b && c) d (w .0) in
+      let y = both (a && b) c (x .0) in
+      let v = both a b (y .0) in
+      record { each = v .0; midway = v .1; zone = y .1; times = x .1; qos = w .1 }
+
+  pub opened-is : Opened z o q now cs → openOk z o q now cs ≡ true
+  unfolding openOk
+  opened-is f = rw (f .each, f .midway, f .zone, f .times, f .qos)
+
+times-later : (t : ℕ) (cs : List Container) (now later : ℕ) → timesTo t cs now ≡ true → now ≤ later → timesTo t cs later ≡ true
+unfolding timesTo
+times-later t [] now later h k = le-leb t later (omega (arith, leb-true t now h))
+times-later t (c ∷ cs) now later h k =
+    let w = both (leb t (c .time .seconds)) (timesTo (c .time .seconds) cs now) h in
+    rw (w .0, times-later (c .time .seconds) cs now later (w .1) k)
+
+times-since : (t : ℕ) (cs : List Container) (now : ℕ) → timesTo t cs now ≡ true → t ≤ now
+unfolding timesTo
+times-since t [] now h = leb-true t now h
+times-since t (c ∷ cs) now h =
+    let w = both (leb t (c .time .seconds)) (timesTo (c .time .seconds) cs now) h in
+    omega (arith, leb-true t (c .time .seconds) (w .0), times-since (c .time .seconds) cs now (w .1))
+
+-- nothing has ended yet
+pub open-none : (z o : ℕ) (q : Qos) (now : ℕ) → o ≤ now → openOk z o q now [] ≡ true
+unfolding openOk eachOk midway oneOffset timesTo qosRun
+open-none z o q now h = rw (le-leb o now h)
+
+module _ (z o : ℕ) (q : Qos) (now : ℕ) (cs : List Container) (h : openOk z o q now cs ≡ true) where
+  pub open-later : (later : ℕ) → now ≤ later → openOk z o q later cs ≡ true
+  open-later later k =
+      let f = opened z o q now cs h in
+      opened-is z o q later cs (record { each = f .each; midway = f .midway; zone = f .zone; times = times-later o cs now later (f .times) k; qos = f .qos })
+
+  pub open-since : o ≤ now
+  open-since = times-since o cs now (opened z o q now cs h .times)
+
+  module _ (c : Container) (ok : containerOk c ≡ true) (same : c .qos ≡ q) (zone : c .time .zone ≡ z) (since : now ≤ c .time .seconds) where
+    upto : openOk z o (c .qos) (c .time .seconds) cs ≡ true
+    upto = rw same (open-later (c .time .seconds) since)
+
+    -- a change ends the running container, and another begins
+    pub open-more : c .condition < 2 → (q′ : Qos) (later : ℕ) → c .time .seconds ≤ later → changes c q′ ≡ true → openOk z o q′ later (cs ++ (c ∷ [])) ≡ true
+    unfolding precedes
+    open-more k q′ later l e =
+        rw (open-snoc c z o q′ later cs, upto, ok, lt-ltb (c .condition) 2 k, eq-eqb (c .time .zone) z zone, le-leb (c .time .seconds) later l, e)
+
+    -- the record closes, and the running container with it
+    pub open-closes : c .condition ≡ 2 → length cs ≤ 14 → listOk (record { seconds = o; zone = z }) (cs ++ (c ∷ [])) ≡ true
+    unfolding listOk
+    open-closes k l =
+        let f = opened z o (c .qos) (c .time .seconds) cs upto in
+        let n : length (cs ++ (c ∷ [])) ≡ length cs + 1 = length-append cs (c ∷ []) in
+        rw (
+          le-leb 1 (length (cs ++ (c ∷ []))) (omega arith),
+          le-leb (length (cs ++ (c ∷ []))) 15 (omega arith),
+          values-more c cs,
+          last-more c cs,
+          zone-more c z cs,
+          order-more c o cs,
+          rule-more c cs,
+          f .each,
+          f .midway,
+          f .zone,
+          f .times,
+          f .qos,
+          ok,
+          eq-eqb (c .condition) 2 k,
+          eq-eqb (c .time .zone) z zone,
+        )
+
+-- ---- the array that holds them
+
+module _ (v : List Container) (n : ℕ) (size : length v ≡ 15) where
+  pub padded-used : n ≤ 15 → blanks (drop n v) ≡ true → v ≡ padded (take n v)
+  padded-used h b =
+      let t : length (take n v) ≡ n = length-take-le n v (omega arith) in
+      let m : length (drop n v) ≡ 15 - n = length-drop n v ∙ rw size in
+      rw t (sym (take-append-drop n v) ∙ ap (λ (l : List Container). take n v ++ l) (blanks-are (drop n v) b ∙ ap noContainers m))
+
+pub padded-rest : (cs : List Container) → blanks (drop (length cs) (padded cs)) ≡ true
+padded-rest cs = rw (drop-append-seam cs (noContainers (15 - length cs))) (are-blanks (15 - length cs))
+
+pub padded-more : (v : List Container) (n : ℕ) (c : Container) → length v ≡ 15 → n < 15 → blanks (drop n v) ≡ true → set v n c ≡ padded (take n v ++ (c ∷ []))
+unfolding blanks
+padded-more v n c size h b =
+    let w = both (isBlank (getD v n c)) (blanks (drop (suc n) v)) (rw (drop-cons v n c (omega arith)) at b) in
+    padded-used (set v n c) (suc n) (length-set v n c ∙ size) (omega arith) (rw (drop-set-lt (suc n) v n c (omega arith)) (w .1))
+    ∙ ap padded (take-suc-set v n c (omega arith))
+
+-- ---- the loops
+
+-- the test goes from the last container to the first: those before i decide, where q′ follows them and they must not pass t
+pub record Before (v : List Container) (z o : ℕ) (q : Qos) (now n : ℕ) (q′ : Qos) (t i : ℕ) : Type 0 where
+  pub most : i ≤ n
+  pub same : openOk z o q′ t (take i v) ≡ openOk z o q now (take n v)
+
+pub before-all : {v : List Container} {z o : ℕ} {q : Qos} {now n : ℕ} → Before v z o q now n q now n
+before-all {v} {z} {o} {q} {now} {n} = record { most = omega arith; same = refl }
+
+pub too-many : (n : ℕ) (b : Bool) → 15 < n → false ≡ (leb n 15 && b)
+too-many n b h = rw (lt-leb n 15 h)
+
+module _ {v : List Container} {z o : ℕ} {q : Qos} {now n : ℕ} {q′ : Qos} {t i : ℕ} (s : Before v z o q now n q′ t i) (few : n ≤ 15) where
+  module _ (d : Container) (h : 0 < i) (long : n ≤ length v) where
+    here : openOk z o q′ t (take i v) ≡ (openOk z o (getD v (i - 1) d .qos) (getD v (i - 1) d .time .seconds) (take (i - 1) v) && precedes z q′ t (getD v (i - 1) d))
+    here =
+        let e : suc (i - 1) ≡ i = omega arith in
+        let w : take i v ≡ take (i - 1) v ++ (getD v (i - 1) d ∷ []) = ap (λ (j : ℕ). take j v) (sym e) ∙ take-suc v (i - 1) d (omega (arith, s .most)) in
+        ap (openOk z o q′ t) w ∙ open-snoc (getD v (i - 1) d) z o q′ t (take (i - 1) v)
+
+    pub before-no : {r : Bool} → r ≡ precedes z q′ t (getD v (i - 1) d) → not r ≡ true → false ≡ (leb n 15 && openOk z o q now (take n v))
+    before-no {r} e f =
+        rw (le-leb n 15 few)
+        (sym (sym (s .same) ∙ here ∙ rw (sym e ∙ not-true r f, and-false (openOk z o (getD v (i - 1) d .qos) (getD v (i - 1) d .time .seconds) (take (i - 1) v)))))
+
+    pub before-next : {r : Bool} → r ≡ precedes z q′ t (getD v (i - 1) d) → not r ≡ false → Before v z o q now n (getD v (i - 1) d .qos) (getD v (i - 1) d .time .seconds) (i - 1)
+    before-next {r} e f =
+        record {
+          most = omega (arith, s .most);
+          same = sym (sym (s .same) ∙ here ∙ rw (sym e ∙ not-false r f, and-true (openOk z o (getD v (i - 1) d .qos) (getD v (i - 1) d .time .seconds) (take (i - 1) v))));
+        }
+
+  pub before-end : i ≤ 0 → leb o t ≡ (leb n 15 && openOk z o q now (take n v))
+  unfolding openOk eachOk midway oneOffset timesTo qosRun
+  before-end h =
+      let e : i ≡ 0 = omega arith in
+      rw (le-leb n 15 few) (sym (and-true (leb o t)) ∙ ap (λ (j : ℕ). openOk z o q′ t (take j v)) (sym e) ∙ s .same)
+
+-- the volumes are spent from the first container to the last: those from i on have still to be
+pub record LeftRest (v : List Container) (n limit left i : ℕ) : Type 0 where
+  pub rest : left - volumeOf (drop i (take n v)) ≡ limit - volumeOf (take n v)
+
+pub left-all : {v : List Container} {n limit : ℕ} → LeftRest v n limit limit 0
+left-all = record { rest = refl }
+
+module _ {v : List Container} {n limit left i : ℕ} (s : LeftRest v n limit left i) where
+  pub left-next : (d : Container) {a b : ℕ} → i < n → i < length v → a ≡ left - getD v i d .uplink → b ≡ a - getD v i d .downlink → LeftRest v n limit b (i + 1)
+  unfolding volumeOf
+  left-next d h k e f =
+      let w : drop i (take n v) ≡ getD v i d ∷ drop (suc i) (take n v) = drop-cons (take n v) i d (omega (arith, length-take n v)) ∙ rw (getD-take n v i d h) in
+      record { rest = rw add-one (omega (arith, ap volumeOf w, s .rest)) }
+
+  pub left-end : length (take n v) ≤ i → left ≡ limit - volumeOf (take n v)
+  unfolding volumeOf
+  left-end h = omega (arith, ap volumeOf (drop-of-length-le (take n v) h), s .rest)

@@ -1,0 +1,24 @@
+-- `container::open::precedes` meets its contract: the code is the test. Assumes nothing.
+use mathlib.Core.Path.{ap₂}
+use mathlib.Core.Bool.{Bool, _&&_}
+use lib.Dec.{leb, ltb, eqb}
+use borrow.Author.Needs.{needs}
+use Rattle.container.specs.Turns.{precedes}
+use Rattle.container.proofs.open.precedes.Statement.{statement}
+use Rattle.container.proofs.open.precedes.Tie as tie
+
+container-ok-requires : tie.Need-container-ok-requires
+container-ok-requires c κs = search needs
+
+changes-requires : tie.Need-changes-requires
+changes-requires c κs = search needs
+
+returns : tie.Need-returns
+unfolding precedes
+returns c =
+    let a = c .before .before .before .before .before .before .args in
+    ap₂ {C = Bool} (λ x y. x && ltb (a .c .condition) 2 && eqb (a .c .time .zone) (a .zone) && leb (a .c .time .seconds) (a .until) && y)
+    (c .before .before .before .before .container-ok .ensures) (c .before .before .before .changes .ensures)
+
+pub precedes-spec : {M : Type 1} → statement M
+precedes-spec = tie.close (tie.spec container-ok-requires changes-requires returns)
