@@ -1,5 +1,11 @@
 // The names of the table's slots: looked for, and told apart.
+use crate::Context;
 use event::Name;
+ghost use mathlib.Core.Path.{_≡_};
+ghost use mathlib.Core.Bool.{_||_};
+ghost use mathlib.Core.List.{map};
+ghost use lib.ListN.{drop};
+ghost use Rattle.context.specs.Slots.{slotOf, sameName, isFree, bears, firstFrom, noneBears, distinct};
 
 // What names a slot: its first field is 1 where it is active.
 pub struct Slot {
@@ -11,4 +17,120 @@ pub struct Slot {
 pub enum Found {
     At(usize),
     Nothing,
+}
+
+// Do two names name the same context?
+pub fn same_name(a: Name, b: Name) -> bool
+    ensures { λ r. ⌜ r ≡ sameName a b ⌝ }
+{
+    (a.id == b.id) & (a.ggsn == b.ggsn)
+}
+
+// Is a slot active, with this name?
+fn bears(name: Name, s: Slot) -> bool
+    ensures { λ r. ⌜ r ≡ bears name s ⌝ }
+{
+    let other = s.name;
+    let same = same_name(name, other);
+    (s.active == 1) & same
+}
+
+fn is_free(s: Slot) -> bool
+    ensures { λ r. ⌜ r ≡ isFree s ⌝ }
+{
+    s.active != 1
+}
+
+// The slot of the active context with this name.
+pub fn find(slots: [Slot; 16], name: Name) -> Found
+    ensures { λ r. ⌜ r ≡ firstFrom (bears name) 0 slots ⌝ }
+{
+    let mut i: usize = 0;
+    while i < 16 {
+        let s = slots[i];
+        if bears(name, s) {
+            return Found::At(i);
+        }
+        i += 1;
+    }
+    Found::Nothing
+}
+
+// The slot that an activation fills.
+pub fn lowest_free(slots: [Slot; 16]) -> Found
+    ensures { λ r. ⌜ r ≡ firstFrom isFree 0 slots ⌝ }
+{
+    let mut i: usize = 0;
+    while i < 16 {
+        let s = slots[i];
+        if is_free(s) {
+            return Found::At(i);
+        }
+        i += 1;
+    }
+    Found::Nothing
+}
+
+// Has each active slot a name of its own?
+pub fn all_distinct(slots: [Slot; 16]) -> bool
+    ensures { λ r. ⌜ r ≡ distinct slots ⌝ }
+{
+    let mut i: usize = 0;
+    while i < 16 {
+        let s = slots[i];
+        if !is_alone(s, slots, i + 1) {
+            return false;
+        }
+        i += 1;
+    }
+    true
+}
+
+// Is a slot free, or does none from a place on have its name?
+fn is_alone(s: Slot, slots: [Slot; 16], from: usize) -> bool
+    ensures { λ r. ⌜ r ≡ (isFree s || noneBears (s .name) (drop from slots)) ⌝ }
+{
+    let name = s.name;
+    let free = is_free(s);
+    let none = none_bears(name, slots, from);
+    free | none
+}
+
+// Has no slot from a place on this name?
+fn none_bears(name: Name, slots: [Slot; 16], from: usize) -> bool
+    ensures { λ r. ⌜ r ≡ noneBears name (drop from slots) ⌝ }
+{
+    let mut i = from;
+    while i < 16 {
+        let s = slots[i];
+        if bears(name, s) {
+            return false;
+        }
+        i += 1;
+    }
+    true
+}
+
+// What names each slot of the table.
+pub fn slots_of(cs: [Context; 16]) -> [Slot; 16]
+    ensures { λ r. ⌜ r ≡ map slotOf cs ⌝ }
+{
+    let none = Slot {
+        active: 0,
+        name: Name { id: 0, ggsn: 0 },
+    };
+    let mut slots = [none; 16];
+    let mut i: usize = 0;
+    while i < 16 {
+        let s = Slot {
+            active: cs[i].active,
+            name: Name {
+                id: cs[i].name.id,
+                ggsn: cs[i].name.ggsn,
+            },
+        };
+        slots[i] = s;
+        i += 1;
+    }
+    slots
 }

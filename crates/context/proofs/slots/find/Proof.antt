@@ -1,0 +1,71 @@
+-- `context::slots::find` meets its contract. The loop's invariant: none before i passes. Assumes nothing.
+use mathlib.Core.Path.{_≡_}
+use Prim.Native.Nat.{_-_}
+use native.Mathlib.Omega.{arith}
+use lib.ListN.{length}
+use borrow.Author.Needs.{needs}
+use Rattle.scdr.proofs.Tails.{length-of-map}
+use Rattle.context.specs.Slots.{bears}
+use Rattle.context.proofs.Scans.{Scan, scan-all, scan-here, scan-next, scan-end}
+use Rattle.context.proofs.slots.find.Statement.{statement}
+use Rattle.context.proofs.slots.find.Tie as tie
+
+abbrev Inv-loop : tie.InvT-loop
+Inv-loop name slots i₀ i = Scan (bears name) slots i
+
+abbrev μ-loop : tie.MeasureT-loop
+μ-loop name slots i₀ i = 16 - i
+
+long : (c : tie.Start Inv-loop μ-loop) → length (c .args .t1) ≡ 16
+long c = search (needs, length-of-map)
+
+loop-holds : tie.Need-loop-holds Inv-loop μ-loop
+loop-holds c = scan-all
+
+mul-s : tie.Need-mul-s Inv-loop μ-loop
+mul-s c = search needs
+
+array-copy-out-s : tie.Need-array-copy-out-s Inv-loop μ-loop
+array-copy-out-s c = search needs
+
+bears-requires : tie.Need-bears-requires Inv-loop μ-loop
+bears-requires c κs = search needs
+
+returns : tie.Need-returns Inv-loop μ-loop
+returns c =
+    let s = c .before .before .before .before in
+    let l = long (s .before) in
+    scan-here (s .loop .inv) _ (omega arith) (c .before .bears .ensures) (c .if1 .taken)
+
+add-i : tie.Need-add-i Inv-loop μ-loop
+add-i c = search needs
+
+loop-less : tie.Need-loop-less Inv-loop μ-loop
+loop-less c = search needs
+
+loop-again : tie.Need-loop-again Inv-loop μ-loop
+loop-again c =
+    let s = c .before .before .before .before in
+    let l = long (s .before) in
+    scan-next (s .loop .inv) _ (omega arith) (c .before .bears .ensures) (c .if1 .left)
+
+returns-2 : tie.Need-returns-2 Inv-loop μ-loop
+returns-2 c =
+    let l = long (c .before .before) in
+    scan-end (c .before .loop .inv) (omega arith)
+
+pub find-spec : {M : Type 1} → statement M
+find-spec =
+    tie.close
+    (tie.spec
+    Inv-loop
+    μ-loop
+    loop-holds
+    mul-s
+    array-copy-out-s
+    bears-requires
+    returns
+    add-i
+    loop-less
+    loop-again
+    returns-2)

@@ -1,0 +1,12 @@
+-- `context::slots::is_free` meets its contract: the code is the test. Assumes nothing.
+use mathlib.Core.Path.{refl}
+use Rattle.context.specs.Slots.{isActive, isFree}
+use Rattle.context.proofs.slots.is_free.Statement.{statement}
+use Rattle.context.proofs.slots.is_free.Tie as tie
+
+returns : tie.Need-returns
+unfolding isActive isFree
+returns c = refl
+
+pub is-free-spec : {M : Type 1} → statement M
+is-free-spec = tie.close (tie.spec returns)

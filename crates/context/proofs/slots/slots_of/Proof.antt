@@ -1,0 +1,84 @@
+-- `context::slots::slots_of` meets its contract. The loop's invariant: the first i names are copied. Assumes nothing.
+use mathlib.Core.Path.{_≡_}
+use Prim.Native.Nat.{_-_}
+use native.Mathlib.Omega.{arith}
+use lib.ListN.{length}
+use borrow.Author.Needs.{needs}
+use Rattle.scdr.proofs.Tails.{length-of-map}
+use Rattle.context.proofs.Scans.{Copied, copied-none, copied-more, copied-all}
+use Rattle.context.proofs.slots.slots_of.Statement.{statement}
+use Rattle.context.proofs.slots.slots_of.Tie as tie
+
+abbrev Inv-loop : tie.InvT-loop
+Inv-loop cs slots₀ i₀ slots i = Copied cs slots i
+
+abbrev μ-loop : tie.MeasureT-loop
+μ-loop cs slots₀ i₀ slots i = 16 - i
+
+long : (c : tie.Start Inv-loop μ-loop) → length (c .args .t1) ≡ 16
+long c = search (needs, length-of-map)
+
+loop-holds : tie.Need-loop-holds Inv-loop μ-loop
+loop-holds c =
+    let l = long c in
+    copied-none (omega arith)
+
+mul-t9 : tie.Need-mul-t9 Inv-loop μ-loop
+mul-t9 c = search needs
+
+element-copy-out-t12 : tie.Need-element-copy-out-t12 Inv-loop μ-loop
+element-copy-out-t12 c = search needs
+
+mul-t13 : tie.Need-mul-t13 Inv-loop μ-loop
+mul-t13 c = search needs
+
+element-copy-out-t16 : tie.Need-element-copy-out-t16 Inv-loop μ-loop
+element-copy-out-t16 c = search needs
+
+mul-t17 : tie.Need-mul-t17 Inv-loop μ-loop
+mul-t17 c = search needs
+
+element-copy-out-t20 : tie.Need-element-copy-out-t20 Inv-loop μ-loop
+element-copy-out-t20 c = search needs
+
+mul-slots : tie.Need-mul-slots Inv-loop μ-loop
+mul-slots c = search needs
+
+array-set-from-slots : tie.Need-array-set-from-slots Inv-loop μ-loop
+array-set-from-slots c = search needs
+
+add-i : tie.Need-add-i Inv-loop μ-loop
+add-i c = search needs
+
+loop-less : tie.Need-loop-less Inv-loop μ-loop
+loop-less c = search needs
+
+loop-again : tie.Need-loop-again Inv-loop μ-loop
+loop-again c =
+    let l = long (c .before .before) in
+    copied-more (c .before .loop .inv) _ (omega arith)
+
+returns : tie.Need-returns Inv-loop μ-loop
+returns c =
+    let l = long (c .before .before) in
+    copied-all (c .before .loop .inv) (omega arith)
+
+pub slots-of-spec : {M : Type 1} → statement M
+slots-of-spec =
+    tie.close
+    (tie.spec
+    Inv-loop
+    μ-loop
+    loop-holds
+    mul-t9
+    element-copy-out-t12
+    mul-t13
+    element-copy-out-t16
+    mul-t17
+    element-copy-out-t20
+    mul-slots
+    array-set-from-slots
+    add-i
+    loop-less
+    loop-again
+    returns)
