@@ -1,9 +1,10 @@
 // A PDP context as the node stores it, and when it is as it must be (01, "A sound node").
 //
-// slots has the names of the table's slots.
+// slots has the names of the table's slots, sound the test of a slot and of all of them.
 //
 // No public function has a `requires`: each answers for every input.
 pub mod slots;
+pub mod sound;
 
 use calendar::Stamp;
 use container::Container;

@@ -1,0 +1,72 @@
+-- `context::sound::slots_ok` meets its contract. The loop's invariant: what is left to look at decides. Assumes nothing.
+use mathlib.Core.Path.{_≡_}
+use Prim.Native.Nat.{_-_}
+use native.Mathlib.Omega.{arith}
+use lib.ListN.{length}
+use borrow.Author.Needs.{needs}
+use borrow.Author.Tests.{not-true, not-false}
+use Rattle.scdr.proofs.Tails.{length-of-map}
+use Rattle.context.specs.Sound.{slotsOk}
+use Rattle.context.proofs.Scans.{Rest, rest-all, rest-no, rest-next, rest-end, slots-ask}
+use Rattle.context.proofs.sound.slots_ok.Statement.{statement}
+use Rattle.context.proofs.sound.slots_ok.Tie as tie
+
+abbrev Inv-loop : tie.InvT-loop
+Inv-loop limits zone clock accepted cs i₀ i = Rest (slotsOk limits zone clock accepted) cs 0 i
+
+abbrev μ-loop : tie.MeasureT-loop
+μ-loop limits zone clock accepted cs i₀ i = 16 - i
+
+long : (c : tie.Start Inv-loop μ-loop) → length (c .args .t5) ≡ 16
+long c = search (needs, length-of-map)
+
+loop-holds : tie.Need-loop-holds Inv-loop μ-loop
+loop-holds c = rest-all
+
+mul-c : tie.Need-mul-c Inv-loop μ-loop
+mul-c c = search needs
+
+array-copy-out-c : tie.Need-array-copy-out-c Inv-loop μ-loop
+array-copy-out-c c = search needs
+
+slot-ok-requires : tie.Need-slot-ok-requires Inv-loop μ-loop
+slot-ok-requires c κs = search needs
+
+returns : tie.Need-returns Inv-loop μ-loop
+returns c =
+    let s = c .before .before .before .before in
+    let l = long (s .before) in
+    rest-no (slots-ask (s .before .args .limits) (s .before .args .zone) (s .before .args .clock) (s .before .args .accepted)) (s .loop .inv) _ (omega arith) (c .before .slot-ok .ensures) (not-true _ (c .if1 .taken))
+
+add-i : tie.Need-add-i Inv-loop μ-loop
+add-i c = search needs
+
+loop-less : tie.Need-loop-less Inv-loop μ-loop
+loop-less c = search needs
+
+loop-again : tie.Need-loop-again Inv-loop μ-loop
+loop-again c =
+    let s = c .before .before .before .before in
+    let l = long (s .before) in
+    rest-next (slots-ask (s .before .args .limits) (s .before .args .zone) (s .before .args .clock) (s .before .args .accepted)) (s .loop .inv) _ (omega arith) (c .before .slot-ok .ensures) (not-false _ (c .if1 .left))
+
+returns-2 : tie.Need-returns-2 Inv-loop μ-loop
+returns-2 c =
+    let l = long (c .before .before) in
+    rest-end (slots-ask (c .before .before .args .limits) (c .before .before .args .zone) (c .before .before .args .clock) (c .before .before .args .accepted)) (c .before .loop .inv) (omega arith)
+
+pub slots-ok-spec : {M : Type 1} → statement M
+slots-ok-spec =
+    tie.close
+    (tie.spec
+    Inv-loop
+    μ-loop
+    loop-holds
+    mul-c
+    array-copy-out-c
+    slot-ok-requires
+    returns
+    add-i
+    loop-less
+    loop-again
+    returns-2)

@@ -1,0 +1,143 @@
+// A slot as it must be: what 01's "A sound node" says of each context, a function for each rule.
+use crate::Context;
+use ber::imsi;
+use container::open;
+use container::unused;
+use profile::Limits;
+use scdr::names;
+use scdr::text;
+ghost use mathlib.Core.Path.{_≡_};
+ghost use Rattle.context.specs.Sound.{fieldsOk, unusedOk, closedOk, countOk, containersOk, volumeOk, contextOk, zeroOk, slotOk, slotsOk};
+
+// Are the stored fields in range, and the octets zero that they do not use?
+pub fn fields_ok(c: Context) -> bool
+    ensures { λ r. ⌜ r ≡ fieldsOk c ⌝ }
+{
+    let digits = c.imsi;
+    let apn = c.apn;
+    let q = c.qos;
+    let a = imsi::imsi_size(&digits) != 0;
+    let b = names::apn_ok(apn, c.apnlen);
+    let d = container::profile::qos_ok(q);
+    (c.flags <= 3) & a & b & d
+}
+
+// Is every container place zero that is not used?
+pub fn unused_ok(c: Context) -> bool
+    ensures { λ r. ⌜ r ≡ unusedOk c ⌝ }
+{
+    let v = c.containers;
+    unused::unused_blank(v, c.count)
+}
+
+// Are there fewer closed records than accepted events?
+pub fn closed_ok(accepted: u64, c: Context) -> bool
+    ensures { λ r. ⌜ r ≡ closedOk accepted c ⌝ }
+{
+    c.closed < accepted
+}
+
+// Did each change end a container, and are there fewer than the limit?
+pub fn count_ok(limit: u8, c: Context) -> bool
+    ensures { λ r. ⌜ r ≡ countOk limit c ⌝ }
+{
+    (c.count == c.changes as usize) & (c.changes < limit)
+}
+
+// Do the containers keep the rules of an open record, in the zone? More than 15 places are not there, so a count above is all of them.
+pub fn containers_ok(zone: u16, clock: u32, c: Context) -> bool
+    ensures { λ r. ⌜ r ≡ containersOk zone clock c ⌝ }
+{
+    let v = c.containers;
+    let q = c.qos;
+    let t = c.opening;
+    let n = c.count;
+    if 15 < n {
+        let all = open::open_ok(v, 15, zone, t.seconds, q, clock);
+        return (t.zone == zone) & all;
+    }
+    let used = open::open_ok(v, n, zone, t.seconds, q, clock);
+    (t.zone == zone) & used
+}
+
+// Is something left of the limit, once all volumes of the open record are spent?
+pub fn volume_ok(limit: u64, c: Context) -> bool
+    ensures { λ r. ⌜ r ≡ volumeOk limit c ⌝ }
+{
+    let v = c.containers;
+    let left = open::left_after(v, c.count, limit);
+    let less = open::spend(left, c.uplink);
+    let least = open::spend(less, c.downlink);
+    0 < least
+}
+
+// Is an active context as it must be?
+pub fn context_ok(limits: Limits, zone: u16, clock: u32, accepted: u64, c: Context) -> bool
+    ensures { λ r. ⌜ r ≡ contextOk limits zone clock accepted c ⌝ }
+{
+    let a = fields_ok(c);
+    let b = unused_ok(c);
+    let d = closed_ok(accepted, c);
+    let e = count_ok(limits.changes, c);
+    let f = containers_ok(zone, clock, c);
+    let g = volume_ok(limits.volume, c);
+    a & b & d & e & f & g
+}
+
+// Is every field of a slot zero?
+pub fn zero_ok(c: Context) -> bool
+    ensures { λ r. ⌜ r ≡ zeroOk c ⌝ }
+{
+    let digits = c.imsi;
+    let apn = c.apn;
+    let q = c.qos;
+    let v = c.containers;
+    let none = container::profile::no_qos();
+    let a = text::zeros(&digits);
+    let b = text::zeros(&apn);
+    let d = container::profile::same_qos(q, none);
+    let e = unused::unused_blank(v, 0);
+    (c.active == 0)
+        & (c.flags == 0)
+        & (c.name.id == 0)
+        & (c.name.ggsn == 0)
+        & a
+        & b
+        & (c.apnlen == 0)
+        & (c.pdptype == 0)
+        & (c.address == 0)
+        & d
+        & (c.uplink == 0)
+        & (c.downlink == 0)
+        & (c.opening.seconds == 0)
+        & (c.opening.zone == 0)
+        & (c.changes == 0)
+        & e
+        & (c.count == 0)
+        & (c.closed == 0)
+}
+
+// Is a slot as it must be: an active context, or a free one?
+pub fn slot_ok(limits: Limits, zone: u16, clock: u32, accepted: u64, c: Context) -> bool
+    ensures { λ r. ⌜ r ≡ slotOk limits zone clock accepted c ⌝ }
+{
+    if c.active == 1 {
+        return context_ok(limits, zone, clock, accepted, c);
+    }
+    zero_ok(c)
+}
+
+// Is every slot of the table?
+pub fn slots_ok(limits: Limits, zone: u16, clock: u32, accepted: u64, cs: [Context; 16]) -> bool
+    ensures { λ r. ⌜ r ≡ slotsOk limits zone clock accepted cs ⌝ }
+{
+    let mut i: usize = 0;
+    while i < 16 {
+        let c = cs[i];
+        if !slot_ok(limits, zone, clock, accepted, c) {
+            return false;
+        }
+        i += 1;
+    }
+    true
+}
