@@ -8,7 +8,7 @@ use native.Mathlib.Omega.{arith}
 use lib.Dec.{T, leb, eqb}
 use lib.ListN.{length, take, drop}
 use borrow.Author.Tests.{le-leb, lt-leb, lt-ltb, eq-eqb, ne-eqb}
-use Rattle.format.proofs.Tests.{by, either, true-T}
+use Rattle.format.proofs.Tests.{by, either, true-T, and-i}
 use Rattle.ber.specs.Imsi.{imsiOk, imsiRoom, imsiSize}
 use Rattle.ber.specs.Tlv.{tlvEnc, tlvForm}
 use Rattle.ber.specs.Read.{nowhere}
@@ -20,7 +20,7 @@ use Rattle.container.specs.List.{listOk, blanks}
 use Rattle.scdr.specs.declared.Record.{Record}
 use Rattle.scdr.specs.Rules.{apnOk, nodeOk, listRule, causeOk, numberOk, changeOk, shaped, within}
 use Rattle.scdr.specs.Layout.{body, ofRecord, rules, inside, scdr}
-use Rattle.scdr.specs.Answers.{writeOf, Writes}
+use Rattle.scdr.specs.Answers.{writeOf, Writes, sizeOf, Sizes}
 use Rattle.scdr.proofs.Theorems.{at-most-1024}
 
 -- ---- the rules
@@ -95,3 +95,17 @@ module _ (r : Record) (t : T (rules r)) where
         let l : b′ ≡ scdr .enc r ++ drop (length (scdr .enc r)) b = ap (λ (y : List ℕ × ℕ). y .0) q ∙ ap (λ (j : ℕ). scdr .enc r ++ drop j b) z in
         record { is = rw (w, le-leb (length (scdr .enc r)) (length b) k) (λ i. (0, (m i, l i))) })
         (λ k. absurd (e (ap (λ (y : List ℕ × ℕ). y .1) (rw (lt-leb (0 + length (scdr .enc r)) (length b) (omega arith)) at (p .is)))))
+
+-- ---- the size: what the writer answers where every record has room
+
+pub sizes : (r : Record) {b b′ : List ℕ} {a n : ℕ} → T (shaped r) → length b ≡ 1024 → Writes r b b′ a n → Sizes r n
+unfolding writeOf sizeOf
+sizes r {b} {b′} {a} {n} t l p =
+    by (within r)
+    (λ w.
+    let m = at-most-1024 r (and-i (shaped r) (within r) t (true-T (within r) w)) in
+    let e : n ≡ length (scdr .enc r) = ap (λ (y : ℕ × (ℕ × List ℕ)). y .1 .0) (rw (w, le-leb (length (scdr .enc r)) (length b) (omega arith)) at (p .is)) in
+    record { is = rw w e; most = omega arith })
+    (λ w.
+    let e : n ≡ 0 = ap (λ (y : ℕ × (ℕ × List ℕ)). y .1 .0) (rw w at (p .is)) in
+    record { is = rw w e; most = omega arith })

@@ -35,6 +35,14 @@ writeOf r b =
 pub record Writes (r : Record) (b b′ : List ℕ) (answer n : ℕ) : Type 0 where
   pub is : _≡_ {A = ℕ × (ℕ × List ℕ)} (answer, (n, b′)) (writeOf r b)
 
+-- how many octets a record has, without its mark; 0 for one outside the rules, which has none
+unfoldable pub sizeOf : Record → ℕ
+sizeOf r = cond (within r) (length (scdr .enc r)) 0
+
+pub record Sizes (r : Record) (n : ℕ) : Type 0 where
+  pub is : n ≡ sizeOf r
+  pub most : n ≤ 1024
+
 -- ---- the reader: the record, or 20 and a record that is all zero
 
 abbrev pub blankRecord : Record

@@ -4,7 +4,7 @@ use crate::body;
 use crate::rules;
 use ber::tlv;
 ghost use mathlib.Core.Path.{_≡_};
-ghost use Rattle.scdr.specs.Answers.{Writes};
+ghost use Rattle.scdr.specs.Answers.{Writes, Sizes};
 
 // 0 where the record was written, and how many octets it has; 24 or 11, and 0, where it was not.
 pub struct Written {
@@ -27,4 +27,13 @@ pub fn write_record(r: Record, out: &mut [u8]) -> Written
         return Written { answer: 11, n: 0 };
     }
     Written { answer: 0, n: end }
+}
+
+// How many octets a record has, without its mark; 0 for one outside the rules.
+pub fn record_size(r: Record) -> usize
+    ensures { λ n. ⌜ Sizes r n ⌝ }
+{
+    let mut b = [0u8; 1024];
+    let w = write_record(r, &mut b);
+    w.n
 }

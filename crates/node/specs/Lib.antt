@@ -1,0 +1,5 @@
+pub mod Hear
+pub mod Sound
+pub mod Step
+pub mod Told
+pub mod Range

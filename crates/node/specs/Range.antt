@@ -1,0 +1,44 @@
+-- Some of the table's slots, from one place up to another: what is done there, and what that writes. Assumes nothing.
+use mathlib.Core.Path.{_≡_}
+use mathlib.Core.Bool.{cond}
+use mathlib.Core.List.{List, [], _∷_, _++_}
+use Prim.Native.Nat.{ℕ, zero, suc, _≤_}
+use lib.Dec.{eqb}
+use lib.ListN.{length}
+use Rattle.ber.proofs.Writers.{Put}
+use Rattle.profile.specs.declared.Profile.{Profile}
+use Rattle.context.specs.declared.Context.{Context}
+use Rattle.node.specs.declared.Heard.{Heard}
+use Rattle.node.specs.Hear.{hear}
+use Rattle.node.specs.Step.{stood, octetsOf}
+
+-- f of each element from the place a up to b, the others as they are
+unfoldable pub across : {A : Type 0} → ℕ → ℕ → (A → A) → List A → List A
+across a zero f xs = xs
+across a (suc b) f [] = []
+across zero (suc b) f (x ∷ xs) = f x ∷ across zero b f xs
+across (suc a) (suc b) f (x ∷ xs) = x ∷ across a b f xs
+
+-- what those yield, in order
+unfoldable pub along : {A B : Type 0} → ℕ → ℕ → (A → List B) → List A → List B
+along a zero g xs = []
+along a (suc b) g [] = []
+along zero (suc b) g (x ∷ xs) = g x ++ along zero b g xs
+along (suc a) (suc b) g (x ∷ xs) = along a b g xs
+
+-- a slot whose context, if it has one, hears h at t: what then stands in it, and what it writes
+unfoldable pub slotNext : Profile → ℕ → Heard → Context → Context
+slotNext p t h c = cond (eqb (c .active) 1) (stood (hear p c t h .next)) c
+
+unfoldable pub slotOut : Profile → ℕ → Heard → Context → List ℕ
+slotOut p t h c = cond (eqb (c .active) 1) (octetsOf (hear p c t h .out)) []
+
+-- a number of octets, few enough to add up
+pub record Counts (x : List ℕ) (n : ℕ) : Type 0 where
+  pub is : n ≡ length x
+  pub most : n ≤ 1026
+
+-- what stands, and what was written at a place
+pub record Turns {A : Type 0} (want : A) (x b b′ : List ℕ) (at : ℕ) (got : A) (next : ℕ) : Type 0 where
+  pub value : got ≡ want
+  pub written : Put x b b′ at next

@@ -1,0 +1,45 @@
+-- "A sound node" (01), and a fresh one. Assumes nothing.
+use mathlib.Core.Bool.{Bool, cond, _&&_}
+use mathlib.Core.List.{[], map}
+use Prim.Native.Nat.{ℕ, _^_}
+use lib.Dec.{leb}
+use lib.ListN.{replicate}
+use Rattle.scdr.specs.Layout.{fillTo}
+use Rattle.profile.specs.declared.Profile.{Profile}
+use Rattle.profile.specs.Profile.{profileOk}
+use Rattle.context.specs.Context.{noContext}
+use Rattle.context.specs.Sound.{slotsOk}
+use Rattle.context.specs.Slots.{slotOf, distinct}
+use Rattle.node.specs.declared.Node.{Node}
+
+-- the last second of 2099
+abbrev pub latest : ℕ
+latest = 3155759999
+
+-- so many events and no more
+abbrev pub mostAccepted : ℕ
+mostAccepted = 10 ^ 15
+
+-- "Profile in range; clock and accepted count in range; active names distinct", and what each slot must be
+unfoldable pub sound : Node → Bool
+sound n =
+    profileOk (n .profile)
+    && leb (n .clock) latest
+    && leb (n .accepted) mostAccepted
+    && distinct (map slotOf (n .contexts))
+    && slotsOk (n .profile .limits) (n .profile .zone) (n .clock) (n .accepted) (n .contexts)
+
+-- "Fresh node: clock 0, no contexts, no accepted events."
+abbrev pub freshNode : Profile → Node
+freshNode p = record { profile = p; clock = 0; accepted = 0; contexts = replicate 16 noContext }
+
+abbrev pub noProfile : Profile
+noProfile = record { sgsn = 0; limits = record { volume = 0; seconds = 0; changes = 0 }; zone = 0; nodeid = fillTo 20 0 []; nodelen = 0 }
+
+-- all zero, which is unsound
+abbrev pub noNode : Node
+noNode = freshNode noProfile
+
+-- "12: a fresh node asked for with a bad profile; no node is made"
+unfoldable pub freshOf : Profile → ℕ × Node
+freshOf p = cond (profileOk p) (0, freshNode p) (12, noNode)

@@ -1,0 +1,186 @@
+-- One call: the refusal table, and what an accepted event does to the node. Assumes nothing.
+use mathlib.Core.Path.{_≡_}
+use mathlib.Core.Bool.{Bool, true, false, not, cond, _||_}
+use mathlib.Core.Option.{Option, none, some}
+use mathlib.Core.List.{List, [], _∷_, _++_, map}
+use Prim.Native.Nat.{ℕ, _+_}
+use lib.Dec.{leb, ltb, eqb}
+use lib.ListN.{length, drop}
+use Rattle.container.specs.declared.Qos.{Qos}
+use Rattle.container.specs.List.{padded}
+use Rattle.scdr.specs.declared.Record.{Record}
+use Rattle.scdr.specs.Layout.{scdr, fillTo}
+use Rattle.profile.specs.declared.Profile.{Profile}
+use Rattle.event.specs.declared.Name.{Name}
+use Rattle.event.specs.declared.Activation.{Activation}
+use Rattle.event.specs.declared.Event.{Event}
+use Rattle.event.specs.declared.Event.the-variants as E
+use Rattle.event.specs.Fields.{kindOf, timeOf, flagsOf, imsiOf, apnOf}
+use Rattle.event.specs.Rows.{Row, row, firstFit, rows}
+use Rattle.event.specs.Event.{eventOf}
+use Rattle.context.specs.declared.Context.{Context}
+use Rattle.context.specs.Context.{noContext}
+use Rattle.context.specs.Slots.{sameName}
+use Rattle.history.specs.Lists.{each}
+use Rattle.history.specs.Log.{Said, activates, tells, tellsAll, nothing}
+use Rattle.history.specs.Table.{Handling, free, active, slotsAfter, writes}
+use Rattle.node.specs.declared.Node.{Node}
+use Rattle.node.specs.declared.Heard.{Heard}
+use Rattle.node.specs.declared.Heard.the-variants as H
+use Rattle.node.specs.Hear.{timeAt, hear}
+use Rattle.node.specs.Sound.{sound, latest, mostAccepted}
+
+-- ---- what an event says to whom
+
+-- what an activation brings: all of a context that is not the node's own doing
+pub record Brought : Type 0 where
+  pub flags : ℕ
+  pub imsi : List ℕ
+  pub apn : List ℕ
+  pub pdptype : ℕ
+  pub address : ℕ
+  pub qos : Qos
+
+abbrev pub broughtBy : Activation → List ℕ → Brought
+broughtBy a s = record { flags = flagsOf s; imsi = imsiOf s; apn = apnOf s; pdptype = a .pdptype; address = a .address; qos = a .qos }
+
+-- An activate names a context that is to be; traffic, QoS, release and management name one; a tariff and a tick are for all.
+abbrev pub takes : Event → List ℕ → Said (Unit {0}) Name Brought Heard
+takes (E.Activate a) s = activates (a .name) (λ g. broughtBy a s)
+takes (E.Traffic n up down) s = tells n (H.Traffic up down)
+takes (E.Profile n q) s = tells n (H.Profile q)
+takes E.Tariff s = tellsAll H.Tariff
+takes (E.Release n cause) s = tells n (H.Release cause)
+takes E.Tick s = tellsAll H.Tick
+takes (E.Management n) s = tells n H.Management
+
+-- "opens a record now with empty counters, no containers, change count 0"
+unfoldable pub activated : Profile → ℕ → Name → Brought → Context
+activated p t n b = record {
+  active = 1;
+  flags = b .flags;
+  name = n;
+  imsi = b .imsi;
+  apn = fillTo 63 0 (b .apn);
+  apnlen = length (b .apn);
+  pdptype = b .pdptype;
+  address = b .address;
+  qos = b .qos;
+  uplink = 0;
+  downlink = 0;
+  opening = timeAt p t;
+  changes = 0;
+  containers = padded [];
+  count = 0;
+  closed = 0;
+}
+
+-- How the node handles contexts: a named event is heard by the context of that name, a tariff and a tick by all in slot order,
+-- "activation takes the lowest free slot", "a freed slot is used again" (`slotsAfter`, `writes` of history's specs/Table.antt).
+abbrev pub handling : Profile → Handling (Unit {0}) Name Brought Heard (Event × List ℕ) Context Record
+handling p = record {
+  same = sameName;
+  name = λ c. c .name;
+  says = λ w. takes (w .0) (w .1);
+  settles = λ g w. g;
+  opening = λ t n b. activated p t n b;
+  hear = λ g c t h. hear p c t h;
+}
+
+-- a slot of the table, and what stands in it
+abbrev pub seen : Context → Option Context
+seen c = cond (eqb (c .active) 1) (some c) none
+
+abbrev pub stood : Option Context → Context
+stood none = noContext
+stood (some c) = c
+
+abbrev pub slots : Node → List (Option Context)
+slots n = map seen (n .contexts)
+
+-- ---- what is written: "each record follows the mark C3 5A"
+
+unfoldable pub markedOctets : Record → List ℕ
+markedOctets r = 0xC3 ∷ 0x5A ∷ scdr .enc r
+
+unfoldable pub octetsOf : List Record → List ℕ
+octetsOf rs = each markedOctets rs
+
+-- ---- an event that is accepted
+
+module _ (n : Node) (t : ℕ) (w : Said (Unit {0}) Name Brought Heard) where
+  unfoldable pub nodeAfter : Node
+  nodeAfter = record {
+    profile = n .profile;
+    clock = t;
+    accepted = n .accepted + 1;
+    contexts = map stood (slotsAfter (handling (n .profile)) tt t w (slots n));
+  }
+
+  unfoldable pub recordsOf : List Record
+  recordsOf = writes (handling (n .profile)) tt t w (slots n)
+
+  unfoldable pub output : List ℕ
+  output = octetsOf recordsOf
+
+-- ---- the refusal table
+
+-- of kinds 2, 3, 5, 7: name not active
+unfoldable pub notActive : Profile → Said (Unit {0}) Name Brought Heard → List (Option Context) → Bool
+notActive p (activates m b) os = false
+notActive p (tells m h) os = not (active (handling p) m os)
+notActive p (tellsAll h) os = false
+notActive p nothing os = false
+
+-- of kind 1: name active
+unfoldable pub isActive : Profile → Said (Unit {0}) Name Brought Heard → List (Option Context) → Bool
+isActive p (activates m b) os = active (handling p) m os
+isActive p (tells m h) os = false
+isActive p (tellsAll h) os = false
+isActive p nothing os = false
+
+-- of kind 1: all 16 slots taken
+unfoldable pub allTaken : Said (Unit {0}) Name Brought Heard → List (Option Context) → Bool
+allTaken (activates m b) os = not (free os)
+allTaken (tells m h) os = false
+allTaken (tellsAll h) os = false
+allTaken nothing os = false
+
+-- 8 to 11
+unfoldable pub tableRows : Node → ℕ → Said (Unit {0}) Name Brought Heard → List ℕ → List Row
+tableRows n t w b =
+    row 8 (notActive (n .profile) w (slots n))
+    ∷ row 9 (isActive (n .profile) w (slots n))
+    ∷ row 10 (allTaken w (slots n))
+    ∷ row 11 (ltb (length b) (length (output n t w)))
+    ∷ []
+
+-- 6 and 7, and what follows
+unfoldable pub laterRows : Node → ℕ → Said (Unit {0}) Name Brought Heard → List ℕ → List Row
+laterRows n t w b =
+    row 6 (ltb latest t || ltb t (n .clock))
+    ∷ row 7 (leb mostAccepted (n .accepted))
+    ∷ tableRows n t w b
+
+-- what the octets of an event say, as they stand
+abbrev pub saidOf : List ℕ → Said (Unit {0}) Name Brought Heard
+saidOf s = takes (eventOf (kindOf s) s) s
+
+-- 13, then 1 to 5 of the event's octets, then 6 to 11
+unfoldable pub refusals : Node → List ℕ → List ℕ → List Row
+refusals n s b = row 13 (not (sound n)) ∷ (rows s ++ laterRows n (timeOf s) (saidOf s) b)
+
+-- ---- the whole call: answer, node, written length, buffer
+
+-- with the number of a refusal, or 0 where none fits
+unfoldable pub outcome : ℕ → Node → ℕ → Said (Unit {0}) Name Brought Heard → List ℕ → ℕ × (Node × (ℕ × List ℕ))
+outcome k n t w b =
+    cond (eqb k 0)
+    (0, (nodeAfter n t w, (length (output n t w), output n t w ++ drop (length (output n t w)) b)))
+    (k, (n, (0, b)))
+
+unfoldable pub stepOf : Node → List ℕ → List ℕ → ℕ × (Node × (ℕ × List ℕ))
+stepOf n s b = outcome (firstFit (refusals n s b)) n (timeOf s) (saidOf s) b
+
+pub record Steps (n : Node) (s b b′ : List ℕ) (answer : ℕ) (n′ : Node) (written : ℕ) : Type 0 where
+  pub is : _≡_ {A = ℕ × (Node × (ℕ × List ℕ))} (answer, (n′, (written, b′))) (stepOf n s b)

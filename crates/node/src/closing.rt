@@ -1,0 +1,152 @@
+// What an event is to a context that hears it: a report, a change, a closing.
+use crate::Heard;
+use container::Qos;
+use container::open;
+use container::profile as qos;
+use context::Context;
+use profile::Limits;
+ghost use mathlib.Core.Path.{_≡_};
+ghost use Prim.Native.Nat.{_+_, _-_};
+ghost use lib.Dec.{leb};
+ghost use Rattle.container.specs.Open.{volumeOf};
+ghost use Rattle.context.specs.Context.{used};
+ghost use Rattle.history.specs.Lists.{test};
+ghost use Rattle.node.specs.Hear.{counted, reported, qosAfter, changeOf, reached, closing, isRelease};
+ghost use Rattle.node.specs.Told.{toldBy, Ample};
+
+// A condition or a cause, if there is one.
+pub enum Told {
+    With(u8),
+    Not,
+}
+
+// A context with one report more.
+fn counted(c: Context, up: u32, down: u32) -> Context
+    requires { ⌜ Ample c ⌝ }
+    ensures { λ r. ⌜ r ≡ counted c (c .uplink + up) (c .downlink + down) ⌝ }
+{
+    let mut n = c;
+    n.uplink = c.uplink + up as u64;
+    n.downlink = c.downlink + down as u64;
+    n
+}
+
+// The context after the report, if the event is one.
+pub fn reported(c: Context, h: Heard) -> Context
+    requires { ⌜ Ample c ⌝ }
+    ensures { λ r. ⌜ r ≡ reported c h ⌝ }
+{
+    match h {
+        Heard::Traffic(up, down) => counted(c, up, down),
+        Heard::Profile(_) => c,
+        Heard::Tariff => c,
+        Heard::Release(_) => c,
+        Heard::Tick => c,
+        Heard::Management => c,
+    }
+}
+
+// The QoS in force after it.
+pub fn qos_after(c: Context, h: Heard) -> Qos
+    ensures { λ r. ⌜ r ≡ qosAfter c h ⌝ }
+{
+    let old = c.qos;
+    match h {
+        Heard::Traffic(_, _) => old,
+        Heard::Profile(q) => q,
+        Heard::Tariff => old,
+        Heard::Release(_) => old,
+        Heard::Tick => old,
+        Heard::Management => old,
+    }
+}
+
+// The condition with which it ends the container, if it is a change.
+pub fn change_of(c: Context, h: Heard) -> Told
+    ensures { λ r. ⌜ r ≡ toldBy (changeOf c h) ⌝ }
+{
+    let old = c.qos;
+    match h {
+        Heard::Traffic(_, _) => Told::Not,
+        Heard::Profile(q) => {
+            if qos::same_qos(old, q) {
+                return Told::Not;
+            }
+            Told::With(0)
+        }
+        Heard::Tariff => Told::With(1),
+        Heard::Release(_) => Told::Not,
+        Heard::Tick => Told::Not,
+        Heard::Management => Told::Not,
+    }
+}
+
+// 16: is what was counted since the record opened, with this report, at least the limit?
+fn by_volume(l: Limits, c: Context, up: u32, down: u32) -> Told
+    ensures { λ r. ⌜ r ≡ toldBy (test (leb (l .volume) (volumeOf (used c) + (c .uplink + up) + (c .downlink + down))) 16) ⌝ }
+{
+    let v = c.containers;
+    let a = open::left_after(v, c.count, l.volume);
+    let b = open::spend(open::spend(a, c.uplink), up as u64);
+    let d = open::spend(open::spend(b, c.downlink), down as u64);
+    if d == 0 {
+        return Told::With(16);
+    }
+    Told::Not
+}
+
+// 17: has the record been open for at least the limit?
+fn by_time(l: Limits, c: Context, t: u32) -> Told
+    ensures { λ r. ⌜ r ≡ toldBy (test (leb (l .seconds) (t - c .opening .seconds)) 17) ⌝ }
+{
+    let opening = c.opening;
+    let open = open::spend(t as u64, opening.seconds as u64);
+    if l.seconds as u64 <= open {
+        return Told::With(17);
+    }
+    Told::Not
+}
+
+// 19: does one change more reach the limit?
+fn by_changes(l: Limits, c: Context) -> Told
+    ensures { λ r. ⌜ r ≡ toldBy (reached l c) ⌝ }
+{
+    if l.changes as u32 <= c.changes as u32 + 1 {
+        return Told::With(19);
+    }
+    Told::Not
+}
+
+// The cause with which it closes the record, if it does.
+pub fn cause_of(l: Limits, c: Context, t: u32, h: Heard) -> Told
+    ensures { λ r. ⌜ r ≡ toldBy (closing l c t h) ⌝ }
+{
+    let old = c.qos;
+    match h {
+        Heard::Traffic(up, down) => by_volume(l, c, up, down),
+        Heard::Profile(q) => {
+            if qos::same_qos(old, q) {
+                return Told::Not;
+            }
+            by_changes(l, c)
+        }
+        Heard::Tariff => by_changes(l, c),
+        Heard::Release(cause) => Told::With(cause),
+        Heard::Tick => by_time(l, c, t),
+        Heard::Management => Told::With(20),
+    }
+}
+
+// Does it release the context?
+pub fn is_release(h: Heard) -> bool
+    ensures { λ r. ⌜ r ≡ isRelease h ⌝ }
+{
+    match h {
+        Heard::Traffic(_, _) => false,
+        Heard::Profile(_) => false,
+        Heard::Tariff => false,
+        Heard::Release(_) => true,
+        Heard::Tick => false,
+        Heard::Management => false,
+    }
+}

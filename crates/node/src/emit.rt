@@ -1,0 +1,98 @@
+// What a context writes when it hears something: nothing, or one record after its mark.
+use crate::Heard;
+use crate::closing;
+use crate::closing::Told;
+use crate::turn;
+use ber::tlv;
+use context::Context;
+use profile::Profile;
+use scdr::Record;
+use scdr::write;
+ghost use mathlib.Core.Path.{_≡_};
+ghost use mathlib.Core.Bool.{true};
+ghost use Prim.Native.Nat.{_+_, _≤_};
+ghost use lib.ListN.{length};
+ghost use Rattle.ber.proofs.Writers.{Put};
+ghost use Rattle.scdr.specs.Rules.{within};
+ghost use Rattle.node.specs.Hear.{hear};
+ghost use Rattle.node.specs.Step.{stood, markedOctets, octetsOf};
+ghost use Rattle.node.specs.Told.{Fair, Apt, Slotted};
+ghost use Rattle.node.specs.Range.{Counts, Turns, slotNext, slotOut};
+
+// What stands in a slot, and the place after what was written.
+pub struct Turned {
+    pub context: Context,
+    pub at: usize,
+}
+
+// A record after its mark, into the part of out that begins at a place.
+fn put_record(r: Record, out: &mut [u8], at: usize) -> usize
+    requires { ⌜ (within r ≡ true) × (at + length (markedOctets r) ≤ length (now out)) ⌝ }
+    ensures { λ z. ⌜ Put (markedOctets r) (now (out .entry)) (now (out .exit)) at z ⌝ }
+{
+    let mark = [0xC3u8, 0x5A];
+    let a = tlv::put_all(out, at, &mark);
+    let w = write::write_record(r, &mut out[a..]);
+    a + w.n
+}
+
+// How many octets an active context writes.
+fn size_of(p: Profile, c: Context, t: u32, h: Heard) -> usize
+    requires { ⌜ Apt p t c ⌝ }
+    requires { ⌜ Fair h ⌝ }
+    ensures { λ r. ⌜ Counts (octetsOf (hear p c t h .out)) r ⌝ }
+{
+    let l = p.limits;
+    let k = closing::cause_of(l, c, t, h);
+    match k {
+        Told::With(cause) => 2 + write::record_size(turn::closed_by(p, c, t, h, cause)),
+        Told::Not => 0,
+    }
+}
+
+// An active context hears something, and writes at a place.
+fn hear(p: Profile, c: Context, t: u32, h: Heard, out: &mut [u8], at: usize) -> Turned
+    requires { ⌜ Apt p t c ⌝ }
+    requires { ⌜ Fair h ⌝ }
+    requires { ⌜ at + length (octetsOf (hear p c t h .out)) ≤ length (now out) ⌝ }
+    ensures { λ r. ⌜ Turns (stood (hear p c t h .next)) (octetsOf (hear p c t h .out)) (now (out .entry)) (now (out .exit)) at (r .context) (r .at) ⌝ }
+{
+    let l = p.limits;
+    let k = closing::cause_of(l, c, t, h);
+    match k {
+        Told::With(cause) => {
+            let r = turn::closed_by(p, c, t, h, cause);
+            let next = put_record(r, out, at);
+            let context = turn::after_closing(p, c, t, h);
+            Turned { context, at: next }
+        }
+        Told::Not => {
+            let context = turn::goes_on(p, c, t, h);
+            Turned { context, at }
+        }
+    }
+}
+
+// The same of a slot, which may be free.
+pub fn slot_size(p: Profile, c: Context, t: u32, h: Heard) -> usize
+    requires { ⌜ Slotted p t c ⌝ }
+    requires { ⌜ Fair h ⌝ }
+    ensures { λ r. ⌜ Counts (slotOut p t h c) r ⌝ }
+{
+    if c.active == 1 {
+        return size_of(p, c, t, h);
+    }
+    0
+}
+
+pub fn hear_slot(p: Profile, c: Context, t: u32, h: Heard, out: &mut [u8], at: usize) -> Turned
+    requires { ⌜ Slotted p t c ⌝ }
+    requires { ⌜ Fair h ⌝ }
+    requires { ⌜ at + length (slotOut p t h c) ≤ length (now out) ⌝ }
+    ensures { λ r. ⌜ Turns (slotNext p t h c) (slotOut p t h c) (now (out .entry)) (now (out .exit)) at (r .context) (r .at) ⌝ }
+{
+    if c.active == 1 {
+        return hear(p, c, t, h, out, at);
+    }
+    Turned { context: c, at }
+}

@@ -1,0 +1,36 @@
+// The node: its profile, clock and sixteen contexts as one value; when it is sound; and what an event does to it.
+//
+// hear has what one context does when it hears something.
+//
+// No public function has a `requires`: each answers for every input.
+mod closing;
+mod emit;
+mod table;
+mod turn;
+
+use container::Qos;
+use context::Context;
+use profile::Profile;
+
+// The whole node. Once it is handed back, nothing of it is kept anywhere else.
+#[repr(C)]
+pub struct Node {
+    pub profile: Profile,
+    // local seconds since 2000-01-01 00:00:00
+    pub clock: u32,
+    // events accepted so far
+    pub accepted: u64,
+    pub contexts: [Context; 16],
+}
+
+// What a context hears of an event: one that names it, or one that all hear.
+pub enum Heard {
+    // octets up and down
+    Traffic(u32, u32),
+    Profile(Qos),
+    Tariff,
+    // the cause
+    Release(u8),
+    Tick,
+    Management,
+}

@@ -1,0 +1,63 @@
+// The table: some of its slots hear something, one after another, each writing where the last ended.
+use crate::Heard;
+use crate::emit;
+use context::Context;
+use profile::Profile;
+ghost use mathlib.Core.Path.{_≡_};
+ghost use Prim.Native.Nat.{_≤_};
+ghost use lib.ListN.{length};
+ghost use Rattle.node.specs.Told.{Fair, Ready};
+ghost use Rattle.node.specs.Range.{across, along, slotNext, slotOut, Turns};
+
+// The table after it, and the place after what was written.
+pub struct Heard16 {
+    pub contexts: [Context; 16],
+    pub at: usize,
+}
+
+// How many octets the slots from one place up to another write.
+pub fn size_from(p: Profile, cs: [Context; 16], from: usize, to: usize, t: u32, h: Heard) -> usize
+    requires { ⌜ Ready p t cs ⌝ }
+    requires { ⌜ Fair h ⌝ }
+    requires { ⌜ (from ≤ to) × (to ≤ 16) ⌝ }
+    ensures { λ r. ⌜ r ≡ length (along from to (slotOut p t h) cs) ⌝ }
+{
+    let mut i = from;
+    let mut n: usize = 0;
+    while i < to {
+        let c = cs[i];
+        n += emit::slot_size(p, c, t, h);
+        i += 1;
+    }
+    n
+}
+
+// These slots hear h at t, and write from the start of out.
+pub fn hear_from(
+    p: Profile,
+    cs: [Context; 16],
+    from: usize,
+    to: usize,
+    t: u32,
+    h: Heard,
+    out: &mut [u8],
+) -> Heard16
+    requires { ⌜ Ready p t cs ⌝ }
+    requires { ⌜ Fair h ⌝ }
+    requires { ⌜ (from ≤ to) × (to ≤ 16) ⌝ }
+    requires { ⌜ length (along from to (slotOut p t h) cs) ≤ length (now out) ⌝ }
+    ensures { λ r. ⌜ Turns (across from to (slotNext p t h) cs) (along from to (slotOut p t h) cs) (now (out .entry)) (now (out .exit)) 0 (r .contexts) (r .at) ⌝ }
+{
+    let mut contexts = cs;
+    let mut i = from;
+    let mut at: usize = 0;
+    while i < to {
+        let c = contexts[i];
+        let e = emit::hear_slot(p, c, t, h, out, at);
+        let d = e.context;
+        contexts[i] = d;
+        at = e.at;
+        i += 1;
+    }
+    Heard16 { contexts, at }
+}
