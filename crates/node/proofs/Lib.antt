@@ -4,3 +4,9 @@ pub mod Fits
 pub mod Closed
 pub mod Emits
 pub mod Ranges
+pub mod Shapes
+pub mod Found
+pub mod Heards
+pub mod Served
+pub mod Copied
+pub mod Calls

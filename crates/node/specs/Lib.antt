@@ -3,3 +3,4 @@ pub mod Sound
 pub mod Step
 pub mod Told
 pub mod Range
+pub mod Shape

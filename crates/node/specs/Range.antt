@@ -2,12 +2,13 @@
 use mathlib.Core.Path.{_≡_}
 use mathlib.Core.Bool.{cond}
 use mathlib.Core.List.{List, [], _∷_, _++_}
-use Prim.Native.Nat.{ℕ, zero, suc, _≤_}
-use lib.Dec.{eqb}
-use lib.ListN.{length}
+use Prim.Native.Nat.{ℕ, zero, suc, _+_, _≤_}
+use lib.Dec.{leb, eqb}
+use lib.ListN.{length, drop}
 use Rattle.ber.proofs.Writers.{Put}
 use Rattle.profile.specs.declared.Profile.{Profile}
 use Rattle.context.specs.declared.Context.{Context}
+use Rattle.node.specs.declared.Node.{Node}
 use Rattle.node.specs.declared.Heard.{Heard}
 use Rattle.node.specs.Hear.{hear}
 use Rattle.node.specs.Step.{stood, octetsOf}
@@ -42,3 +43,18 @@ pub record Counts (x : List ℕ) (n : ℕ) : Type 0 where
 pub record Turns {A : Type 0} (want : A) (x b b′ : List ℕ) (at : ℕ) (got : A) (next : ℕ) : Type 0 where
   pub value : got ≡ want
   pub written : Put x b b′ at next
+
+-- the node at a time, one event on, with this table
+abbrev pub advanced : Node → ℕ → List Context → Node
+advanced n t cs = record { profile = n .profile; clock = t; accepted = n .accepted + 1; contexts = cs }
+
+-- what is answered where the slots from one place up to another hear h: 11 where there is no room for what they write
+unfoldable pub servedOf : Node → ℕ → ℕ → ℕ → Heard → List ℕ → ℕ × (Node × (ℕ × List ℕ))
+servedOf n from to t h b =
+    let x = along from to (slotOut (n .profile) t h) (n .contexts) in
+    cond (leb (length x) (length b))
+    (0, (advanced n t (across from to (slotNext (n .profile) t h) (n .contexts)), (length x, x ++ drop (length x) b)))
+    (11, (n, (0, b)))
+
+pub record Serves (n : Node) (from to t : ℕ) (h : Heard) (b b′ : List ℕ) (answer : ℕ) (n′ : Node) (written : ℕ) : Type 0 where
+  pub is : _≡_ {A = ℕ × (Node × (ℕ × List ℕ))} (answer, (n′, (written, b′))) (servedOf n from to t h b)

@@ -1,4 +1,5 @@
 -- "A sound node" (01), and a fresh one. Assumes nothing.
+use mathlib.Core.Path.{_≡_}
 use mathlib.Core.Bool.{Bool, cond, _&&_}
 use mathlib.Core.List.{[], map}
 use Prim.Native.Nat.{ℕ, _^_}
@@ -43,3 +44,6 @@ noNode = freshNode noProfile
 -- "12: a fresh node asked for with a bad profile; no node is made"
 unfoldable pub freshOf : Profile → ℕ × Node
 freshOf p = cond (profileOk p) (0, freshNode p) (12, noNode)
+
+pub record Makes (p : Profile) (answer : ℕ) (n : Node) : Type 0 where
+  pub is : _≡_ {A = ℕ × Node} (answer, n) (freshOf p)

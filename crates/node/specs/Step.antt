@@ -184,3 +184,9 @@ stepOf n s b = outcome (firstFit (refusals n s b)) n (timeOf s) (saidOf s) b
 
 pub record Steps (n : Node) (s b b′ : List ℕ) (answer : ℕ) (n′ : Node) (written : ℕ) : Type 0 where
   pub is : _≡_ {A = ℕ × (Node × (ℕ × List ℕ))} (answer, (n′, (written, b′))) (stepOf n s b)
+
+-- ---- the parts of a call
+
+-- what a call answers by some rows of the table
+pub record Outs (rs : List Row) (n : Node) (t : ℕ) (w : Said (Unit {0}) Name Brought Heard) (b b′ : List ℕ) (answer : ℕ) (n′ : Node) (written : ℕ) : Type 0 where
+  pub is : _≡_ {A = ℕ × (Node × (ℕ × List ℕ))} (answer, (n′, (written, b′))) (outcome (firstFit rs) n t w b)

@@ -2,7 +2,7 @@
 use mathlib.Core.Path.{_≡_}
 use mathlib.Core.Bool.{true}
 use mathlib.Core.Option.{Option, none, some}
-use mathlib.Core.List.{List}
+use mathlib.Core.List.{List, map}
 use Prim.Native.Nat.{ℕ, _^_, _≤_, _<_}
 use lib.ListN.{drop}
 use Rattle.container.specs.Qos.{qosOk}
@@ -12,11 +12,14 @@ use Rattle.profile.specs.declared.Profile.{Profile}
 use Rattle.profile.specs.Profile.{profileOk}
 use Rattle.context.specs.declared.Context.{Context}
 use Rattle.context.specs.Sound.{contextOk, slotOk, slotsOk}
+use Rattle.context.specs.declared.slots.Slot.{Slot}
+use Rattle.context.specs.Slots.{slotOf}
+use Rattle.node.specs.declared.Node.{Node}
 use Rattle.node.specs.declared.Heard.{Heard}
 use Rattle.node.specs.declared.Heard.the-variants as H
 use Rattle.node.specs.declared.closing.Told.{Told}
 use Rattle.node.specs.declared.closing.Told.the-variants.{With, Not}
-use Rattle.node.specs.Sound.{latest, mostAccepted}
+use Rattle.node.specs.Sound.{sound, latest, mostAccepted}
 
 -- a condition or a cause, if there is one
 abbrev pub toldBy : Option ℕ → Told
@@ -65,3 +68,15 @@ pub record Slotted (p : Profile) (t : ℕ) (c : Context) : Type 0 where
 pub record Ready (p : Profile) (t : ℕ) (cs : List Context) : Type 0 where
   pub due : Due p t
   pub sound : slotsOk (p .limits) (p .zone) (due .clock) (due .accepted) cs ≡ true
+
+-- a sound node, at a time that it takes, with room for one accepted event more
+pub record Sounding (n : Node) (t : ℕ) : Type 0 where
+  pub sound : sound n ≡ true
+  pub since : n .clock ≤ t
+  pub until : t ≤ latest
+  pub few : n .accepted < mostAccepted
+
+-- and the names of its slots
+pub record Named (n : Node) (t : ℕ) (names : List Slot) : Type 0 where
+  pub sounding : Sounding n t
+  pub are : names ≡ map slotOf (n .contexts)

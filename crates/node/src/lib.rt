@@ -5,6 +5,8 @@
 // No public function has a `requires`: each answers for every input.
 mod closing;
 mod emit;
+pub mod sound;
+pub mod step;
 mod table;
 mod turn;
 

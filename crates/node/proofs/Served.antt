@@ -1,0 +1,175 @@
+-- What a call answers, by what the table did. Assumes nothing.
+use mathlib.Core.Path.{_≡_, refl, sym, ap, _∙_}
+use mathlib.Core.Bool.{Bool, true, false, not, cond, _&&_}
+use mathlib.Core.List.{List, [], _∷_, _++_, map}
+use Prim.Native.Nat.{ℕ, suc, _+_, _≤_, _<_}
+use native.Mathlib.Numerals.{add-one}
+use native.Mathlib.Omega.{arith}
+use lib.Dec.{leb, ltb, eqb}
+use lib.ListN.{length, take, drop, set}
+use borrow.Author.Tests.{le-leb, lt-leb, le-ltb, lt-ltb, ne-eqb, leb-true}
+use Rattle.format.proofs.Tests.{either}
+use Rattle.ber.proofs.Writers.{Put}
+use Rattle.profile.specs.declared.Profile.{Profile}
+use Rattle.profile.specs.Profile.{profileOk}
+use Rattle.event.specs.declared.Name.{Name}
+use Rattle.event.specs.Rows.{Row, firstFit}
+use Rattle.context.specs.declared.Context.{Context}
+use Rattle.context.specs.Sound.{slotsOk}
+use Rattle.context.specs.Slots.{slotOf, isFree, bears, distinct}
+use Rattle.history.specs.Lists.{All}
+use Rattle.history.specs.Log.{Said, activates, tells, tellsAll, nothing}
+use Rattle.history.specs.Table.{active, free, slotsAfter}
+use Rattle.node.specs.declared.Node.{Node}
+use Rattle.node.specs.declared.Heard.{Heard}
+use Rattle.node.specs.Sound.{sound, latest, mostAccepted}
+use Rattle.node.specs.Step.{Brought, handling, seen, stood, slots, octetsOf, activated, nodeAfter, recordsOf, output, notActive, isActive, allTaken, tableRows, outcome, Outs}
+use Rattle.node.specs.Shape.{Shaped}
+use Rattle.node.specs.Told.{Due, Ready, Sounding, Named}
+use Rattle.node.specs.Range.{across, along, slotNext, slotOut, Turns, advanced, servedOf, Serves}
+use Rattle.node.proofs.Fits.{both}
+use Rattle.node.proofs.Found.{First}
+use Rattle.node.proofs.Heards.{Settled, all-settled, all-after, all-outs, tells-after, tells-outs, found-active, none-active, found-free, none-free, filled}
+
+-- ---- a sound node
+
+module _ (n : Node) (t : ℕ) (s : Sounding n t) where
+  record Parts : Type 0 where
+    profile : profileOk (n .profile) ≡ true
+    names : distinct (map slotOf (n .contexts)) ≡ true
+    slots : slotsOk (n .profile .limits) (n .profile .zone) (n .clock) (n .accepted) (n .contexts) ≡ true
+
+  parts : Parts
+  unfolding sound
+  parts =
+      let a = profileOk (n .profile) in
+      let b = leb (n .clock) latest in
+      let c = leb (n .accepted) mostAccepted in
+      let d = distinct (map slotOf (n .contexts)) in
+      let w = both (a && b && c && d) (slotsOk (n .profile .limits) (n .profile .zone) (n .clock) (n .accepted) (n .contexts)) (s .sound) in
+      let x = both (a && b && c) d (w .0) in
+      let y = both (a && b) c (x .0) in
+      record { profile = both a b (y .0) .0; names = x .1; slots = w .1 }
+
+  pub ready : Ready (n .profile) t (n .contexts)
+  ready = record {
+    due = record { clock = n .clock; accepted = n .accepted; profile = parts .profile; since = s .since; until = s .until; few = s .few };
+    sound = parts .slots;
+  }
+
+  pub apart : distinct (map slotOf (n .contexts)) ≡ true
+  apart = parts .names
+
+  pub settleds : All Shaped (n .contexts) → All Settled (n .contexts)
+  settleds z = all-settled (n .profile .limits) (n .profile .zone) (n .clock) (n .accepted) (n .contexts) z (parts .slots)
+
+-- ---- some slots heard
+
+module _ (n : Node) (from to t : ℕ) (h : Heard) (b : List ℕ) where
+  abbrev x : List ℕ
+  x = along from to (slotOut (n .profile) t h) (n .contexts)
+
+  pub serves-full : {size a k : ℕ} {m : Node} → size ≡ length x → length b < size → a ≡ 11 → m ≡ n → k ≡ 0 → Serves n from to t h b b a m k
+  unfolding servedOf
+  serves-full e l p q r = record { is = rw (lt-leb (length x) (length b) (omega arith)) (λ i. (p i, (q i, (r i, b)))) }
+
+  pub serves-done : {b′ : List ℕ} {a at k : ℕ} {cs : List Context} {m : Node} → length x ≤ length b
+      → Turns (across from to (slotNext (n .profile) t h) (n .contexts)) x b b′ 0 cs at
+      → a ≡ 0 → m ≡ advanced n t cs → k ≡ at → Serves n from to t h b b′ a m k
+  unfolding servedOf
+  serves-done {b′} {a} {at} {k} {cs} {m} l w p q r =
+      let e = w .written .end in
+      let z : at ≡ length x = omega arith in
+      let y : k ≡ length x = r ∙ z in
+      let v : m ≡ advanced n t (across from to (slotNext (n .profile) t h) (n .contexts)) = q ∙ ap (λ (l : List Context). advanced n t l) (w .value) in
+      let u : b′ ≡ x ++ drop (length x) b = w .written .buf ∙ ap (λ (j : ℕ). x ++ drop j b) z in
+      record { is = rw (le-leb (length x) (length b) l) (λ i. (p i, (v i, (y i, u i)))) }
+
+-- ---- what the call answers then
+
+module _ (n : Node) (t : ℕ) (w : Said (Unit {0}) Name Brought Heard) (b : List ℕ) where
+  pub outs-refused : (rs : List Row) (j : ℕ) {a k : ℕ} {m : Node} → firstFit rs ≡ j → (j ≡ 0 → ⊥) → a ≡ j → m ≡ n → k ≡ 0 → Outs rs n t w b b a m k
+  unfolding outcome
+  outs-refused rs j e z p q r = record { is = rw (e, ne-eqb j 0 z) (λ i. (p i, (q i, (r i, b)))) }
+
+  -- none of 8, 9 and 10 fits
+  record Admitted : Type 0 where
+    known : notActive (n .profile) w (slots n) ≡ false
+    new : isActive (n .profile) w (slots n) ≡ false
+    room : allTaken w (slots n) ≡ false
+
+  fits-none : Admitted → length (output n t w) ≤ length b → firstFit (tableRows n t w b) ≡ 0
+  unfolding tableRows firstFit
+  fits-none a l = rw (a .known, a .new, a .room, le-ltb (length b) (length (output n t w)) l)
+
+  fits-11 : Admitted → length b < length (output n t w) → firstFit (tableRows n t w b) ≡ 11
+  unfolding tableRows firstFit
+  fits-11 a l = rw (a .known, a .new, a .room, lt-ltb (length b) (length (output n t w)) l)
+
+  outs-done : Admitted → {b′ : List ℕ} {cs : List Context} {a k : ℕ} {m : Node} → length (output n t w) ≤ length b
+      → cs ≡ map stood (slotsAfter (handling (n .profile)) tt t w (slots n)) → a ≡ 0 → m ≡ advanced n t cs → k ≡ length (output n t w)
+      → b′ ≡ output n t w ++ drop (length (output n t w)) b → Outs (tableRows n t w b) n t w b b′ a m k
+  unfolding outcome nodeAfter
+  outs-done ad {b′} {cs} {a} {k} {m} l e p q r u =
+      let v : m ≡ nodeAfter n t w = q ∙ ap (λ (l : List Context). advanced n t l) e in
+      record { is = rw (fits-none ad l) (λ i. (p i, (v i, (r i, u i)))) }
+
+  outs-served : Admitted → (from to : ℕ) (h : Heard) → map stood (slotsAfter (handling (n .profile)) tt t w (slots n)) ≡ across from to (slotNext (n .profile) t h) (n .contexts)
+      → output n t w ≡ along from to (slotOut (n .profile) t h) (n .contexts)
+      → {b′ : List ℕ} {a k : ℕ} {m : Node} → Serves n from to t h b b′ a m k → Outs (tableRows n t w b) n t w b b′ a m k
+  unfolding servedOf
+  outs-served ad from to h e o {b′} {a} {k} {m} s =
+      let y = along from to (slotOut (n .profile) t h) (n .contexts) in
+      either (length y) (length b)
+      (λ l.
+      let q = rw (le-leb (length y) (length b) l) at (s .is) in
+      outs-done ad (rw o l) (sym e) (ap (λ (z : ℕ × (Node × (ℕ × List ℕ))). z .0) q) (ap (λ (z : ℕ × (Node × (ℕ × List ℕ))). z .1 .0) q)
+      (rw o (ap (λ (z : ℕ × (Node × (ℕ × List ℕ))). z .1 .1 .0) q)) (rw o (ap (λ (z : ℕ × (Node × (ℕ × List ℕ))). z .1 .1 .1) q)))
+      (λ l.
+      let q = rw (lt-leb (length y) (length b) l) at (s .is) in
+      let z : b′ ≡ b = ap (λ (z : ℕ × (Node × (ℕ × List ℕ))). z .1 .1 .1) q in
+      rw z (outs-refused (tableRows n t w b) 11 (fits-11 ad (rw o l)) (λ i. omega arith) (ap (λ (z : ℕ × (Node × (ℕ × List ℕ))). z .0) q)
+      (ap (λ (z : ℕ × (Node × (ℕ × List ℕ))). z .1 .0) q) (ap (λ (z : ℕ × (Node × (ℕ × List ℕ))). z .1 .1 .0) q)))
+
+-- ---- the three kinds of events
+
+module _ (n : Node) (t : ℕ) (b : List ℕ) (s : Sounding n t) (z : All Shaped (n .contexts)) where
+  pub outs-tell : (m : Name) (h : Heard) {i : ℕ} → First (λ c. bears m (slotOf c)) (n .contexts) i
+      → {b′ : List ℕ} {a k : ℕ} {r : Node} → Serves n i (i + 1) t h b b′ a r k → Outs (tableRows n t (tells m h) b) n t (tells m h) b b′ a r k
+  unfolding notActive isActive allTaken output recordsOf
+  outs-tell m h {i} f {b′} {a} {k} {r} v =
+      outs-served n t (tells m h) b (record { known = rw (found-active (n .profile) t m f); new = refl; room = refl }) i (suc i) h
+      (tells-after (n .profile) t h m f (settleds n t s z) (apart n t s)) (tells-outs (n .profile) t h m f (settleds n t s z) (apart n t s)) (rw (add-one i) at v)
+
+  pub outs-all : (h : Heard) → length (n .contexts) ≡ 16 → {b′ : List ℕ} {a k : ℕ} {r : Node} → Serves n 0 16 t h b b′ a r k
+      → Outs (tableRows n t (tellsAll h) b) n t (tellsAll h) b b′ a r k
+  unfolding notActive isActive allTaken output recordsOf
+  outs-all h l {b′} {a} {k} {r} v =
+      outs-served n t (tellsAll h) b (record { known = refl; new = refl; room = refl }) 0 16 h
+      (rw l at (all-after (n .profile) t h (n .contexts) (settleds n t s z))) (rw l at (all-outs (n .profile) t h (n .contexts) (settleds n t s z))) v
+
+  module _ (m : Name) (f : Unit {0} → Brought) where
+    pub outs-activate : {i : ℕ} → All (λ c. bears m (slotOf c) ≡ false) (n .contexts) → First (λ c. isFree (slotOf c)) (n .contexts) i
+        → {c : Context} {a k : ℕ} {r : Node} → c ≡ activated (n .profile) t m (f tt) → a ≡ 0 → r ≡ advanced n t (set (n .contexts) i c) → k ≡ 0
+        → Outs (tableRows n t (activates m f) b) n t (activates m f) b b a r k
+    unfolding notActive isActive allTaken output recordsOf octetsOf
+    outs-activate {i} none free {c} {a} {k} {r} e p q u =
+        let g : set (n .contexts) i c ≡ map stood (slotsAfter (handling (n .profile)) tt t (activates m f) (slots n)) =
+        ap (λ (d : Context). set (n .contexts) i d) e ∙ sym (filled (activated (n .profile) t m (f tt)) free (settleds n t s z)) in
+        outs-done n t (activates m f) b (record { known = refl; new = none-active (n .profile) t m (n .contexts) none; room = rw (found-free free) }) (omega arith) g p q u refl
+
+module _ (n : Node) (t : ℕ) (b : List ℕ) (m : Name) {a k : ℕ} {r : Node} (q : r ≡ n) (u : k ≡ 0) where
+  pub outs-8 : (h : Heard) → All (λ c. bears m (slotOf c) ≡ false) (n .contexts) → a ≡ 8 → Outs (tableRows n t (tells m h) b) n t (tells m h) b b a r k
+  unfolding tableRows firstFit notActive
+  outs-8 h none p = outs-refused n t (tells m h) b (tableRows n t (tells m h) b) 8 (rw (none-active (n .profile) t m (n .contexts) none)) (λ i. omega arith) p q u
+
+  module _ (f : Unit {0} → Brought) where
+    pub outs-9 : {i : ℕ} → First (λ c. bears m (slotOf c)) (n .contexts) i → a ≡ 9 → Outs (tableRows n t (activates m f) b) n t (activates m f) b b a r k
+    unfolding tableRows firstFit notActive isActive
+    outs-9 g p = outs-refused n t (activates m f) b (tableRows n t (activates m f) b) 9 (rw (found-active (n .profile) t m g)) (λ i. omega arith) p q u
+
+    pub outs-10 : All (λ c. bears m (slotOf c) ≡ false) (n .contexts) → All (λ c. isFree (slotOf c) ≡ false) (n .contexts) → a ≡ 10
+        → Outs (tableRows n t (activates m f) b) n t (activates m f) b b a r k
+    unfolding tableRows firstFit notActive isActive allTaken
+    outs-10 none full p =
+        outs-refused n t (activates m f) b (tableRows n t (activates m f) b) 10 (rw (none-active (n .profile) t m (n .contexts) none, none-free (n .contexts) full)) (λ i. omega arith) p q u

@@ -1,0 +1,18 @@
+-- `node::sound::is_sound` meets its contract. Assumes nothing.
+use Rattle.node.specs.Sound.{sound}
+use borrow.Author.Needs.{needs}
+use Rattle.node.proofs.sound.is_sound.Statement.{statement}
+use Rattle.node.proofs.sound.is_sound.Tie as tie
+
+slots-of-requires : tie.Need-slots-of-requires
+slots-of-requires c κs = search needs
+
+keeps-rules-requires : tie.Need-keeps-rules-requires
+keeps-rules-requires c κs = search needs
+
+returns : tie.Need-returns
+unfolding sound
+returns c = rw (c .keeps-rules .ensures, c .before .slots-of .ensures)
+
+pub is-sound-spec : {M : Type 1} → statement M
+is-sound-spec = tie.close (tie.spec slots-of-requires keeps-rules-requires returns)

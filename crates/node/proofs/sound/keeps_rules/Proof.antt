@@ -1,0 +1,20 @@
+-- `node::sound::keeps_rules` meets its contract. Assumes nothing.
+use borrow.Author.Needs.{needs}
+use Rattle.node.proofs.sound.keeps_rules.Statement.{statement}
+use Rattle.node.proofs.sound.keeps_rules.Tie as tie
+
+profile-ok-requires : tie.Need-profile-ok-requires
+profile-ok-requires c κs = search needs
+
+all-distinct-requires : tie.Need-all-distinct-requires
+all-distinct-requires c κs = search needs
+
+slots-ok-requires : tie.Need-slots-ok-requires
+slots-ok-requires c κs = search needs
+
+returns : tie.Need-returns
+returns c = rw (c .before .before .before .before .profile-ok .ensures, c .before .before .before .all-distinct .ensures, c .before .before .slots-ok .ensures)
+
+pub keeps-rules-spec : {M : Type 1} → statement M
+keeps-rules-spec =
+    tie.close (tie.spec profile-ok-requires all-distinct-requires slots-ok-requires returns)

@@ -1,0 +1,79 @@
+// A sound node, and a fresh one.
+use crate::Node;
+use context::slots;
+use context::slots::Slot;
+use context::sound;
+use profile::Limits;
+use profile::Profile;
+ghost use mathlib.Core.Path.{_≡_};
+ghost use mathlib.Core.Bool.{_&&_};
+ghost use lib.Dec.{leb};
+ghost use Rattle.profile.specs.Profile.{profileOk};
+ghost use Rattle.context.specs.Sound.{slotsOk};
+ghost use Rattle.context.specs.Slots.{distinct};
+ghost use Rattle.node.specs.Sound.{sound, latest, mostAccepted, Makes};
+
+// Does a node whose slots have these names keep every rule?
+pub fn keeps_rules(node: Node, names: [Slot; 16]) -> bool
+    ensures { λ r. ⌜ r ≡ (profileOk (node .profile) && leb (node .clock) latest && leb (node .accepted) mostAccepted && distinct names && slotsOk (node .profile .limits) (node .profile .zone) (node .clock) (node .accepted) (node .contexts)) ⌝ }
+{
+    let p = node.profile;
+    let l = p.limits;
+    let cs = node.contexts;
+    let a = profile::profile_ok(p);
+    let b = slots::all_distinct(names);
+    let c = sound::slots_ok(l, p.zone, node.clock, node.accepted, cs);
+    a & (node.clock <= 3155759999) & (node.accepted <= 1000000000000000) & b & c
+}
+
+// Is a node sound?
+pub fn is_sound(node: Node) -> bool
+    ensures { λ r. ⌜ r ≡ sound node ⌝ }
+{
+    let cs = node.contexts;
+    let names = slots::slots_of(cs);
+    keeps_rules(node, names)
+}
+
+// 0 and a node, or 12 and one that is all zero.
+pub struct Made {
+    pub answer: u8,
+    pub node: Node,
+}
+
+// A fresh node: clock 0, no contexts, no accepted events. A bad profile makes none.
+pub fn fresh(p: Profile) -> Made
+    ensures { λ r. ⌜ Makes p (r .answer) (r .node) ⌝ }
+{
+    let free = context::no_context();
+    let contexts = [free; 16];
+    if profile::profile_ok(p) {
+        let node = Node {
+            profile: p,
+            clock: 0,
+            accepted: 0,
+            contexts,
+        };
+        return Made { answer: 0, node };
+    }
+    let limits = Limits {
+        volume: 0,
+        seconds: 0,
+        changes: 0,
+    };
+    let nodeid = [0u8; 20];
+    let none = Profile {
+        sgsn: 0,
+        limits,
+        zone: 0,
+        nodeid,
+        nodelen: 0,
+    };
+    let node = Node {
+        profile: none,
+        clock: 0,
+        accepted: 0,
+        contexts,
+    };
+    Made { answer: 12, node }
+}
