@@ -1,0 +1,5 @@
+pub mod Cuts
+pub mod Numbers
+pub mod Nodes
+pub mod Zones
+pub mod Readings
