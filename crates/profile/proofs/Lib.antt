@@ -3,3 +3,4 @@ pub mod Numbers
 pub mod Nodes
 pub mod Zones
 pub mod Readings
+pub mod Printed

@@ -7,3 +7,5 @@ pub mod Offset
 pub mod Node
 pub mod Line
 pub mod Text
+pub mod Print
+pub mod Sample
