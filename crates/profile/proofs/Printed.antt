@@ -8,10 +8,10 @@ use Rattle.profile.specs.Fault.{given, orElse, orBad}
 use Rattle.profile.specs.Cut.{has, upTo, past, begins}
 use Rattle.profile.specs.Number.{digit, padded, numberFault, numeral, atMost}
 use Rattle.profile.specs.Address.{octetOk, octetOf, addressOk, addressOf}
-use Rattle.profile.specs.Offset.{westFault, offsetFault, east, west, zoneOf}
+use Rattle.profile.specs.Offset.{minus, westFault, offsetFault, east, west, zoneOf}
 use Rattle.profile.specs.Node.{nodeOctets}
 use Rattle.profile.specs.Line.{headFault, tailOf, valueOf, oneSpace, nodeSpace, valueFault, numberLine, addressLine, offsetLine, nodeLine}
-use Rattle.profile.specs.Text.{linesFrom3, firstBad, limitsOf, profileOf, noProfile, readBy, readOf}
+use Rattle.profile.specs.Text.{sgsnName, volumeName, timeName, changeName, offsetName, nodeName, linesFrom3, firstBad, limitsOf, profileOf, noProfile, readBy, readOf}
 use Rattle.profile.specs.Print.{digitsIn, addressText, offsetText, lineText, nodeText, textOf}
 use Rattle.profile.specs.Sample.{line1, line2, line3, line4, line5, line6, sessionText, session}
 use Rattle.profile.specs.declared.text.Fault.{Fault}
@@ -24,7 +24,7 @@ badly n f = record { line = n; fault = f; profile = noProfile }
 -- ---- "One session, whole"
 
 pub session-read : readOf sessionText ≡ record { line = 0; fault = None; profile = session }
-unfolding readOf readBy firstBad linesFrom3 orBad orElse given addressLine numberLine offsetLine nodeLine valueFault headFault tailOf valueOf oneSpace nodeSpace has upTo past begins numberFault padded digit allOf numeral atMost addressOk octetOk westFault offsetFault profileOf limitsOf addressOf octetOf zoneOf east west nodeOctets
+unfolding readOf readBy firstBad linesFrom3 orBad orElse given addressLine numberLine offsetLine nodeLine valueFault headFault tailOf valueOf oneSpace nodeSpace has upTo past begins numberFault padded digit allOf numeral atMost addressOk octetOk minus westFault offsetFault profileOf limitsOf addressOf octetOf zoneOf east west nodeOctets
 session-read = refl
 
 pub session-text : textOf session ≡ sessionText
@@ -35,7 +35,7 @@ session-text = refl
 
 pub record Faults : Type 0 where
   -- no text at all
-  pub nothing : readOf ([]) ≡ badly 1 Missing
+  pub nothing : readOf [] ≡ badly 1 Missing
   -- the sixth line is missing
   pub five-lines : readOf (line1 ++ line2 ++ line3 ++ line4 ++ line5) ≡ badly 6 Missing
   -- the last line feed is missing
@@ -45,34 +45,34 @@ pub record Faults : Type 0 where
   -- lines 2 and 3 swapped
   pub swapped : readOf (line1 ++ line3 ++ line2 ++ line4 ++ line5 ++ line6) ≡ badly 2 Name
   -- volume-limit  1000
-  pub two-spaces : readOf (line1 ++ (0x76 ∷ 0x6F ∷ 0x6C ∷ 0x75 ∷ 0x6D ∷ 0x65 ∷ 0x2D ∷ 0x6C ∷ 0x69 ∷ 0x6D ∷ 0x69 ∷ 0x74 ∷ 0x20 ∷ 0x20 ∷ 0x31 ∷ 0x30 ∷ 0x30 ∷ 0x30 ∷ 10 ∷ []) ++ line3 ++ line4 ++ line5 ++ line6) ≡ badly 2 Space
+  pub two-spaces : readOf (line1 ++ (volumeName ++ 0x20 ∷ 0x20 ∷ 0x31 ∷ 0x30 ∷ 0x30 ∷ 0x30 ∷ 10 ∷ []) ++ line3 ++ line4 ++ line5 ++ line6) ≡ badly 2 Space
   -- time-limit60
-  pub no-space : readOf (line1 ++ line2 ++ (0x74 ∷ 0x69 ∷ 0x6D ∷ 0x65 ∷ 0x2D ∷ 0x6C ∷ 0x69 ∷ 0x6D ∷ 0x69 ∷ 0x74 ∷ 0x36 ∷ 0x30 ∷ 10 ∷ []) ++ line4 ++ line5 ++ line6) ≡ badly 3 Space
-  -- node-id
-  pub node-space : readOf (line1 ++ line2 ++ line3 ++ line4 ++ line5 ++ (0x6E ∷ 0x6F ∷ 0x64 ∷ 0x65 ∷ 0x2D ∷ 0x69 ∷ 0x64 ∷ 0x20 ∷ 10 ∷ [])) ≡ badly 6 Space
-  -- change-limit
-  pub no-number : readOf (line1 ++ line2 ++ line3 ++ (0x63 ∷ 0x68 ∷ 0x61 ∷ 0x6E ∷ 0x67 ∷ 0x65 ∷ 0x2D ∷ 0x6C ∷ 0x69 ∷ 0x6D ∷ 0x69 ∷ 0x74 ∷ 0x20 ∷ 10 ∷ []) ++ line5 ++ line6) ≡ badly 4 Number
-  -- time-limit 60and a carriage return
-  pub return : readOf (line1 ++ line2 ++ (0x74 ∷ 0x69 ∷ 0x6D ∷ 0x65 ∷ 0x2D ∷ 0x6C ∷ 0x69 ∷ 0x6D ∷ 0x69 ∷ 0x74 ∷ 0x20 ∷ 0x36 ∷ 0x30 ∷ 0x0D ∷ 10 ∷ []) ++ line4 ++ line5 ++ line6) ≡ badly 3 Number
+  pub no-space : readOf (line1 ++ line2 ++ (timeName ++ 0x36 ∷ 0x30 ∷ 10 ∷ []) ++ line4 ++ line5 ++ line6) ≡ badly 3 Space
+  -- node-id and a space
+  pub node-space : readOf (line1 ++ line2 ++ line3 ++ line4 ++ line5 ++ (nodeName ++ 0x20 ∷ 10 ∷ [])) ≡ badly 6 Space
+  -- change-limit and a space
+  pub no-number : readOf (line1 ++ line2 ++ line3 ++ (changeName ++ 0x20 ∷ 10 ∷ []) ++ line5 ++ line6) ≡ badly 4 Number
+  -- time-limit 60 and a carriage return
+  pub return : readOf (line1 ++ line2 ++ (timeName ++ 0x20 ∷ 0x36 ∷ 0x30 ∷ 0x0D ∷ 10 ∷ []) ++ line4 ++ line5 ++ line6) ≡ badly 3 Number
   -- volume-limit 01000
-  pub leading-zero : readOf (line1 ++ (0x76 ∷ 0x6F ∷ 0x6C ∷ 0x75 ∷ 0x6D ∷ 0x65 ∷ 0x2D ∷ 0x6C ∷ 0x69 ∷ 0x6D ∷ 0x69 ∷ 0x74 ∷ 0x20 ∷ 0x30 ∷ 0x31 ∷ 0x30 ∷ 0x30 ∷ 0x30 ∷ 10 ∷ []) ++ line3 ++ line4 ++ line5 ++ line6) ≡ badly 2 Zero
+  pub leading-zero : readOf (line1 ++ (volumeName ++ 0x20 ∷ 0x30 ∷ 0x31 ∷ 0x30 ∷ 0x30 ∷ 0x30 ∷ 10 ∷ []) ++ line3 ++ line4 ++ line5 ++ line6) ≡ badly 2 Zero
   -- offset +90
-  pub plus : readOf (line1 ++ line2 ++ line3 ++ line4 ++ (0x6F ∷ 0x66 ∷ 0x66 ∷ 0x73 ∷ 0x65 ∷ 0x74 ∷ 0x20 ∷ 0x2B ∷ 0x39 ∷ 0x30 ∷ 10 ∷ []) ++ line6) ≡ badly 5 Number
+  pub plus : readOf (line1 ++ line2 ++ line3 ++ line4 ++ (offsetName ++ 0x20 ∷ 0x2B ∷ 0x39 ∷ 0x30 ∷ 10 ∷ []) ++ line6) ≡ badly 5 Number
   -- offset -0
-  pub minus-zero : readOf (line1 ++ line2 ++ line3 ++ line4 ++ (0x6F ∷ 0x66 ∷ 0x66 ∷ 0x73 ∷ 0x65 ∷ 0x74 ∷ 0x20 ∷ 0x2D ∷ 0x30 ∷ 10 ∷ []) ++ line6) ≡ badly 5 Zero
+  pub minus-zero : readOf (line1 ++ line2 ++ line3 ++ line4 ++ (offsetName ++ 0x20 ∷ 0x2D ∷ 0x30 ∷ 10 ∷ []) ++ line6) ≡ badly 5 Zero
   -- offset -
-  pub minus-alone : readOf (line1 ++ line2 ++ line3 ++ line4 ++ (0x6F ∷ 0x66 ∷ 0x66 ∷ 0x73 ∷ 0x65 ∷ 0x74 ∷ 0x20 ∷ 0x2D ∷ 10 ∷ []) ++ line6) ≡ badly 5 Number
+  pub minus-alone : readOf (line1 ++ line2 ++ line3 ++ line4 ++ (offsetName ++ 0x20 ∷ 0x2D ∷ 10 ∷ []) ++ line6) ≡ badly 5 Number
   -- sgsn 10.0.0.256
-  pub octet-256 : readOf ((0x73 ∷ 0x67 ∷ 0x73 ∷ 0x6E ∷ 0x20 ∷ 0x31 ∷ 0x30 ∷ 0x2E ∷ 0x30 ∷ 0x2E ∷ 0x30 ∷ 0x2E ∷ 0x32 ∷ 0x35 ∷ 0x36 ∷ 10 ∷ []) ++ line2 ++ line3 ++ line4 ++ line5 ++ line6) ≡ badly 1 Address
+  pub octet-256 : readOf ((sgsnName ++ 0x20 ∷ 0x31 ∷ 0x30 ∷ 0x2E ∷ 0x30 ∷ 0x2E ∷ 0x30 ∷ 0x2E ∷ 0x32 ∷ 0x35 ∷ 0x36 ∷ 10 ∷ []) ++ line2 ++ line3 ++ line4 ++ line5 ++ line6) ≡ badly 1 Address
   -- sgsn 10.0.0
-  pub three-numbers : readOf ((0x73 ∷ 0x67 ∷ 0x73 ∷ 0x6E ∷ 0x20 ∷ 0x31 ∷ 0x30 ∷ 0x2E ∷ 0x30 ∷ 0x2E ∷ 0x30 ∷ 10 ∷ []) ++ line2 ++ line3 ++ line4 ++ line5 ++ line6) ≡ badly 1 Address
+  pub three-numbers : readOf ((sgsnName ++ 0x20 ∷ 0x31 ∷ 0x30 ∷ 0x2E ∷ 0x30 ∷ 0x2E ∷ 0x30 ∷ 10 ∷ []) ++ line2 ++ line3 ++ line4 ++ line5 ++ line6) ≡ badly 1 Address
   -- sgsn 10.0.0.1.2
-  pub five-numbers : readOf ((0x73 ∷ 0x67 ∷ 0x73 ∷ 0x6E ∷ 0x20 ∷ 0x31 ∷ 0x30 ∷ 0x2E ∷ 0x30 ∷ 0x2E ∷ 0x30 ∷ 0x2E ∷ 0x31 ∷ 0x2E ∷ 0x32 ∷ 10 ∷ []) ++ line2 ++ line3 ++ line4 ++ line5 ++ line6) ≡ badly 1 Address
+  pub five-numbers : readOf ((sgsnName ++ 0x20 ∷ 0x31 ∷ 0x30 ∷ 0x2E ∷ 0x30 ∷ 0x2E ∷ 0x30 ∷ 0x2E ∷ 0x31 ∷ 0x2E ∷ 0x32 ∷ 10 ∷ []) ++ line2 ++ line3 ++ line4 ++ line5 ++ line6) ≡ badly 1 Address
   -- sgsn 10.0.0.01
-  pub octet-leading-zero : readOf ((0x73 ∷ 0x67 ∷ 0x73 ∷ 0x6E ∷ 0x20 ∷ 0x31 ∷ 0x30 ∷ 0x2E ∷ 0x30 ∷ 0x2E ∷ 0x30 ∷ 0x2E ∷ 0x30 ∷ 0x31 ∷ 10 ∷ []) ++ line2 ++ line3 ++ line4 ++ line5 ++ line6) ≡ badly 1 Address
+  pub octet-leading-zero : readOf ((sgsnName ++ 0x20 ∷ 0x31 ∷ 0x30 ∷ 0x2E ∷ 0x30 ∷ 0x2E ∷ 0x30 ∷ 0x2E ∷ 0x30 ∷ 0x31 ∷ 10 ∷ []) ++ line2 ++ line3 ++ line4 ++ line5 ++ line6) ≡ badly 1 Address
 
 pub faults : Faults
-unfolding readOf readBy firstBad linesFrom3 orBad orElse given addressLine numberLine offsetLine nodeLine valueFault headFault tailOf valueOf oneSpace nodeSpace has upTo past begins numberFault padded digit allOf numeral atMost addressOk octetOk westFault offsetFault noProfile
+unfolding readOf readBy firstBad linesFrom3 orBad orElse given addressLine numberLine offsetLine nodeLine valueFault headFault tailOf valueOf oneSpace nodeSpace has upTo past begins numberFault padded digit allOf numeral atMost addressOk octetOk minus westFault offsetFault noProfile
 faults =
     record {
       nothing = refl;
@@ -99,11 +99,11 @@ faults =
 
 -- -90 and -721
 pub offset-90 : zoneOf (0x2D ∷ 0x39 ∷ 0x30 ∷ []) ≡ 630
-unfolding zoneOf west numeral
+unfolding zoneOf minus west numeral
 offset-90 = refl
 
 pub offset-721 : zoneOf (0x2D ∷ 0x37 ∷ 0x32 ∷ 0x31 ∷ []) ≡ 65535
-unfolding zoneOf west numeral
+unfolding zoneOf minus west numeral
 offset-721 = refl
 
 -- 256 changes in one octet, and 2 ^ 64 octets in eight

@@ -10,7 +10,7 @@ use Rattle.profile.specs.declared.text.Fault.{Fault}
 use Rattle.profile.specs.declared.text.Fault.the-variants.{Zero}
 
 -- '-' at the front
-abbrev pub minus : List ℕ → Bool
+unfoldable pub minus : List ℕ → Bool
 minus v = eqb (getD v 0 0) 45
 
 unfoldable pub westFault : List ℕ → Fault

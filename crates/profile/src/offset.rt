@@ -4,7 +4,14 @@ use crate::fault;
 use crate::number;
 use crate::text::Fault;
 ghost use mathlib.Core.Path.{_≡_};
-ghost use Rattle.profile.specs.Offset.{westFault, offsetFault, east, west, zoneOf};
+ghost use Rattle.profile.specs.Offset.{minus, westFault, offsetFault, east, west, zoneOf};
+
+// A minus sign at the front.
+fn is_minus(v: &[u8]) -> bool
+    ensures { λ r. ⌜ r ≡ minus (now (v .entry)) ⌝ }
+{
+    cut::octet(v, 0) == 45
+}
 
 // What is wrong with the digits after a sign.
 fn west_fault(v: &[u8]) -> Fault
@@ -19,7 +26,7 @@ fn west_fault(v: &[u8]) -> Fault
 pub fn offset_fault(v: &[u8]) -> Fault
     ensures { λ r. ⌜ r ≡ offsetFault (now (v .entry)) ⌝ }
 {
-    if cut::octet(v, 0) == 45 {
+    if is_minus(v) {
         return west_fault(cut::rest(v, 1));
     }
     number::number_fault(v)
@@ -49,7 +56,7 @@ fn west(n: u64) -> u16
 pub fn zone(v: &[u8]) -> u16
     ensures { λ r. ⌜ r ≡ zoneOf (now (v .entry)) ⌝ }
 {
-    if cut::octet(v, 0) == 45 {
+    if is_minus(v) {
         return west(number::number(cut::rest(v, 1)));
     }
     east(number::number(v))

@@ -1,9 +1,5 @@
 -- `profile::address::octet_ok` meets its contract. Assumes nothing.
-use Prim.Native.Nat.{_-_, _^_}
-use native.Mathlib.Omega.{arith}
-use Rattle.profile.specs.Address.{octetOk}
-use Rattle.profile.specs.Number.{numeral}
-use Rattle.profile.proofs.Numbers.{most-leb}
+use Rattle.profile.proofs.Octets.{octet-test}
 use borrow.Author.Needs.{needs}
 use Rattle.profile.proofs.address.octet_ok.Statement.{statement}
 use Rattle.profile.proofs.address.octet_ok.Tie as tie
@@ -18,8 +14,7 @@ is-none-requires : tie.Need-is-none-requires
 is-none-requires c κs = search needs
 
 returns : tie.Need-returns
-unfolding octetOk
-returns c = rw (c .is-none .ensures, c .before .number-fault .ensures, c .before .before .number .ensures, most-leb 255 (2 ^ 64 - 1) (numeral 0 (c .before .before .before .before .args .v .now)) (omega arith))
+returns c = octet-test (c .before .before .before .before .args .v .now) (c .is-none .ensures) (c .before .number-fault .ensures) (c .before .before .number .ensures)
 
 pub octet-ok-spec : {M : Type 1} → statement M
 octet-ok-spec = tie.close (tie.spec number-requires number-fault-requires is-none-requires returns)

@@ -1,13 +1,12 @@
 -- `profile::offset::offset_fault` meets its contract. Assumes nothing.
 use mathlib.Core.Path.{_∙_, sym}
-use borrow.Author.Tests.{eq-eqb, ne-eqb}
 use Rattle.profile.specs.Offset.{offsetFault}
 use borrow.Author.Needs.{needs}
 use Rattle.profile.proofs.offset.offset_fault.Statement.{statement}
 use Rattle.profile.proofs.offset.offset_fault.Tie as tie
 
-octet-requires : tie.Need-octet-requires
-octet-requires c κs = search needs
+is-minus-requires : tie.Need-is-minus-requires
+is-minus-requires c κs = search needs
 
 rest-requires : tie.Need-rest-requires
 rest-requires c κs = search needs
@@ -17,20 +16,20 @@ west-fault-requires c κs = search needs
 
 returns : tie.Need-returns
 unfolding offsetFault
-returns c = rw (c .west-fault .ensures, c .before .rest .ensures, eq-eqb _ 45 (sym (c .before .before .before .octet .ensures) ∙ c .before .before .if1 .taken))
+returns c = rw (c .west-fault .ensures, c .before .rest .ensures, sym (c .before .before .before .is-minus .ensures) ∙ c .before .before .if1 .taken)
 
 number-fault-requires : tie.Need-number-fault-requires
 number-fault-requires c κs = search needs
 
 returns-2 : tie.Need-returns-2
 unfolding offsetFault
-returns-2 c = rw (c .number-fault .ensures, ne-eqb _ 45 (λ e. c .before .if1 .left (c .before .before .octet .ensures ∙ e)))
+returns-2 c = rw (c .number-fault .ensures, sym (c .before .before .is-minus .ensures) ∙ c .before .if1 .left)
 
 pub offset-fault-spec : {M : Type 1} → statement M
 offset-fault-spec =
     tie.close
     (tie.spec
-    octet-requires
+    is-minus-requires
     rest-requires
     west-fault-requires
     returns

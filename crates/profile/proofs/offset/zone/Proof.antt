@@ -2,7 +2,6 @@
 use mathlib.Core.Path.{_∙_, sym}
 use Prim.Native.Nat.{_-_, _^_}
 use native.Mathlib.Omega.{arith}
-use borrow.Author.Tests.{eq-eqb, ne-eqb}
 use lib.ListN.{drop}
 use Rattle.profile.specs.Offset.{zoneOf}
 use Rattle.profile.specs.Number.{numeral}
@@ -11,8 +10,8 @@ use borrow.Author.Needs.{needs}
 use Rattle.profile.proofs.offset.zone.Statement.{statement}
 use Rattle.profile.proofs.offset.zone.Tie as tie
 
-octet-requires : tie.Need-octet-requires
-octet-requires c κs = search needs
+is-minus-requires : tie.Need-is-minus-requires
+is-minus-requires c κs = search needs
 
 rest-requires : tie.Need-rest-requires
 rest-requires c κs = search needs
@@ -25,7 +24,7 @@ west-requires c κs = search needs
 
 returns : tie.Need-returns
 unfolding zoneOf
-returns c = rw (c .west .ensures, c .before .number .ensures, c .before .before .rest .ensures, west-most (2 ^ 64 - 1) (numeral 0 (drop 1 (c .before .before .before .before .before .before .args .v .now))) (omega arith), eq-eqb _ 45 (sym (c .before .before .before .before .octet .ensures) ∙ c .before .before .before .if1 .taken))
+returns c = rw (c .west .ensures, c .before .number .ensures, c .before .before .rest .ensures, west-most (2 ^ 64 - 1) (numeral 0 (drop 1 (c .before .before .before .before .before .before .args .v .now))) (omega arith), sym (c .before .before .before .before .is-minus .ensures) ∙ c .before .before .before .if1 .taken)
 
 number-requires-2 : tie.Need-number-requires-2
 number-requires-2 c κs = search needs
@@ -35,13 +34,13 @@ east-requires c κs = search needs
 
 returns-2 : tie.Need-returns-2
 unfolding zoneOf
-returns-2 c = rw (c .east .ensures, c .before .number2 .ensures, east-most (2 ^ 64 - 1) (numeral 0 (c .before .before .before .before .before .args .v .now)) (omega arith), ne-eqb _ 45 (λ e. c .before .before .if1 .left (c .before .before .before .octet .ensures ∙ e)))
+returns-2 c = rw (c .east .ensures, c .before .number2 .ensures, east-most (2 ^ 64 - 1) (numeral 0 (c .before .before .before .before .before .args .v .now)) (omega arith), sym (c .before .before .before .is-minus .ensures) ∙ c .before .before .if1 .left)
 
 pub zone-spec : {M : Type 1} → statement M
 zone-spec =
     tie.close
     (tie.spec
-    octet-requires
+    is-minus-requires
     rest-requires
     number-requires
     west-requires
