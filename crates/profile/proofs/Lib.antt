@@ -6,4 +6,8 @@ pub mod Octets
 pub mod Zones
 pub mod Readings
 pub mod Digits
+pub mod Marks
+pub mod Lines
+pub mod Values
+pub mod Theorems
 pub mod Printed

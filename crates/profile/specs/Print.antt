@@ -21,9 +21,9 @@ numberText n = digitsIn 20 n
 unfoldable pub addressText : ℕ → List ℕ
 addressText a =
     numberText (a / 2 ^ 24)
-    ++ dot ∷ numberText (a / 2 ^ 16 % 256)
-    ++ dot ∷ numberText (a / 2 ^ 8 % 256)
-    ++ dot ∷ numberText (a % 256)
+    ++ dot ∷ (numberText (a / 2 ^ 16 % 256)
+    ++ dot ∷ (numberText (a / 2 ^ 8 % 256)
+    ++ dot ∷ numberText (a % 256)))
 
 -- the offset is kept as 720 more
 unfoldable pub offsetText : ℕ → List ℕ
