@@ -1,18 +1,19 @@
 -- Decimal digits: what is printed reads, and what reads without a leading zero is what is printed. Assumes nothing.
 use mathlib.Core.Path.{_≡_, refl, sym, _∙_}
-use mathlib.Core.Bool.{Bool, true, false, _&&_}
-use mathlib.Core.List.{List, [], _∷_, _++_}
+use mathlib.Core.Bool.{Bool, true, false, not, _&&_}
+use mathlib.Core.List.{List, [], _∷_, _++_, append-assoc, append-nil}
 use Prim.Native.Nat.{ℕ, zero, suc, _+_, _-_, _*_, _/_, _%_, _^_, _≤_, _<_}
 use native.Mathlib.Omega.{arith}
 use lib.Dec.{leb, ltb, eqb}
 use lib.ListN.{length, getD, length-append, List·getD-append}
-use borrow.Author.Tests.{leb-true, ltb-true, ltb-false, le-leb, lt-ltb, ne-eqb}
+use borrow.Author.Tests.{leb-true, leb-false, ltb-true, ltb-false, le-leb, lt-ltb, le-ltb, eq-eqb, ne-eqb}
 use Rattle.scdr.specs.Rules.{allOf}
+use Rattle.profile.specs.Fault.{given}
 use Rattle.profile.specs.Number.{digit, padded, numberFault, numeral}
 use Rattle.profile.specs.Print.{digitsIn, numberText}
-use Rattle.profile.specs.declared.text.Fault.the-variants.{None}
-use Rattle.profile.proofs.Numbers.{by}
-use Rattle.profile.proofs.Firsts.{both, both-is, or-none, given-met}
+use Rattle.profile.specs.declared.text.Fault.the-variants.{None, Number, Zero}
+use Rattle.profile.proofs.Numbers.{by, numeral-le}
+use Rattle.profile.proofs.Firsts.{both, both-is, or-none, given-met, met-given, none-or}
 
 -- ---- one digit more at the end
 
@@ -112,3 +113,76 @@ spells (suc k) n h =
 pub number-spells : (n : ℕ) → n < 2 ^ 64 → Spells (numberText n) n
 unfolding tenTo
 number-spells n h = spells 19 n (omega arith)
+
+-- ---- what reads is what is printed
+
+pub fault-plain : (v : List ℕ) → numberFault v ≡ None → Plain v
+unfolding numberFault padded
+fault-plain v e =
+    let (f, g) = none-or (given (allOf digit v && leb 1 (length v)) Number) (given (not (eqb (getD v 0 0) 48 && ltb 1 (length v))) Zero) e in
+    let (a, b) = both (allOf digit v) (leb 1 (length v)) (met-given (allOf digit v && leb 1 (length v)) Number refl f) in
+    let n = not-not (eqb (getD v 0 0) 48 && ltb 1 (length v)) (met-given (not (eqb (getD v 0 0) 48 && ltb 1 (length v))) Zero refl g) in
+    record {
+      each = a;
+      some = leb-true 1 (length v) b;
+      lead = λ h z. let y : (eqb (getD v 0 0) 48 && ltb 1 (length v)) ≡ true = both-is (eq-eqb (getD v 0 0) 48 z) (lt-ltb 1 (length v) h) in let w : true ≡ false = sym y ∙ n in let o : _≡_ {A = ℕ} 0 1 = cc in omega arith;
+    }
+  where
+    not-not : (b : Bool) → not b ≡ true → b ≡ false
+    not-not true e = sym e
+    not-not false e = refl
+
+-- what holds of no octets, and of s and one more where it holds of s, holds of all
+snoc-elim : (P : List ℕ → Type 0) → P [] → ((s : List ℕ) (y : ℕ) → P s → P (s ++ y ∷ [])) → (s : List ℕ) → P s
+snoc-elim P z f s = go [] s z
+  where
+    go : (p s : List ℕ) → P p → P (p ++ s)
+    go p [] h = rw (append-nil p) h
+    go p (y ∷ s) h = rw (← append-assoc p (y ∷ []) s) (go (p ++ y ∷ []) s (f p y h))
+
+abbrev Back : List ℕ → Type 0
+Back v = (k : ℕ) → Plain v → numeral 0 v < tenTo (suc k) → digitsIn (suc k) (numeral 0 v) ≡ v
+
+pub numeral-some : (w : List ℕ) → allOf digit w ≡ true → 1 ≤ length w → (getD w 0 0 ≡ 48 → ⊥) → 1 ≤ numeral 0 w
+unfolding allOf numeral
+numeral-some [] a h z = absurd (omega arith)
+numeral-some (y ∷ w) a h z =
+    let d = digit-low y (both (digit y) (allOf digit w) a .0) in
+    by (leb 49 y)
+    (λ t. omega (arith, leb-true 49 y t, numeral-le (0 * 10 + (y - 48)) w))
+    (λ t. absurd (z (omega (arith, leb-false 49 y t, d .0))))
+
+-- one digit more
+module _ (w : List ℕ) (x : ℕ) (s : 1 ≤ length w) (b : Back w) (f : Plain (w ++ x ∷ [])) where
+  lead-front : getD w 0 0 ≡ 48 → ⊥
+  lead-front e = f .lead (omega (arith, length-append w (x ∷ []))) (front-same w x s ∙ e)
+
+  plain-front : Plain w
+  plain-front = record { each = all-front digit w x (f .each) .0; some = s; lead = λ h. lead-front }
+
+  more : (k n : ℕ) → n ≡ numeral 0 w * 10 + (x - 48) → n < tenTo (suc k) → digitsIn (suc k) n ≡ w ++ x ∷ []
+  unfolding tenTo digitsIn
+  more zero n e h = absurd (omega (arith, numeral-some w (plain-front .each) s lead-front))
+  more (suc k) n e h =
+      let g = numeral-some w (plain-front .each) s lead-front in
+      let d = digit-low x (all-front digit w x (f .each) .1) in
+      let q : n / 10 ≡ numeral 0 w = omega arith in
+      let r : n % 10 + 48 ≡ x = omega (arith, d .0, d .1) in
+      rw (le-ltb n 10 (omega arith), q, r, b k plain-front (omega arith))
+
+numeral-one : (x : ℕ) → numeral 0 (x ∷ []) ≡ x - 48
+unfolding numeral
+numeral-one x = omega arith
+
+back-more : (w : List ℕ) (x : ℕ) → Back w → Back (w ++ x ∷ [])
+unfolding digitsIn
+back-more [] x b k f h =
+    let d = digit-low x (all-front digit [] x (f .each) .1) in
+    let e = numeral-one x in
+    let r : x - 48 + 48 ≡ x = omega (arith, d .0) in
+    rw (e, lt-ltb (x - 48) 10 (omega (arith, d .1)), r)
+back-more (y ∷ w) x b k f h = rw (numeral-snoc 0 (y ∷ w) x) (more (y ∷ w) x (omega arith) b f k (numeral 0 (y ∷ w) * 10 + (x - 48)) refl (rw (numeral-snoc 0 (y ∷ w) x) at h))
+
+pub number-back : (v : List ℕ) → Plain v → numeral 0 v < 10 ^ 20 → numberText (numeral 0 v) ≡ v
+unfolding tenTo
+number-back v f h = snoc-elim Back (λ k f h. absurd (omega (arith, f .some))) back-more v 19 f (omega arith)

@@ -9,5 +9,6 @@ pub mod Digits
 pub mod Marks
 pub mod Lines
 pub mod Values
+pub mod Backs
 pub mod Theorems
 pub mod Printed

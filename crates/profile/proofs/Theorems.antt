@@ -1,13 +1,13 @@
--- A profile in range has a text that reads as itself. Assumes nothing.
+-- A profile in range has one text: that text reads as the profile, and no other does. Assumes nothing.
 use mathlib.Core.Path.{_≡_, refl, ap, _∙_}
 use mathlib.Core.Bool.{true, false, _&&_}
 use mathlib.Core.List.{List, [], _∷_, _++_}
 use Prim.Native.Nat.{ℕ, _+_, _-_, _^_, _≤_, _<_}
 use native.Mathlib.Omega.{arith}
-use lib.Dec.{leb}
+use lib.Dec.{leb, eqb}
 use lib.ListN.{length, take, drop}
-use borrow.Author.Tests.{leb-true}
-use Rattle.scdr.specs.Rules.{nodeOk}
+use borrow.Author.Tests.{leb-true, eqb-true, eq-eqb}
+use Rattle.scdr.specs.Rules.{allOf, nodeChar, isZero, nodeOk}
 use Rattle.profile.specs.Profile.{limitsOk, profileOk}
 use Rattle.profile.specs.Fault.{given, orBad}
 use Rattle.profile.specs.Cut.{has, past}
@@ -16,14 +16,15 @@ use Rattle.profile.specs.Address.{addressOf}
 use Rattle.profile.specs.Offset.{zoneOf}
 use Rattle.profile.specs.Node.{nodeOctets}
 use Rattle.profile.specs.Line.{feed, space, valueOf, numberLine, addressLine, offsetLine, nodeLine}
-use Rattle.profile.specs.Text.{sgsnName, volumeName, timeName, changeName, offsetName, nodeName, noBad, linesFrom3, firstBad, limitsOf, profileOf, readBy, readOf}
+use Rattle.profile.specs.Text.{sgsnName, volumeName, timeName, changeName, offsetName, nodeName, after, noBad, linesFrom3, firstBad, limitsOf, profileOf, readBy, readOf}
 use Rattle.profile.specs.Print.{numberText, addressText, offsetText, lineText, nodeText, textOf}
 use Rattle.profile.specs.declared.Profile.{Profile}
-use Rattle.profile.specs.declared.text.Fault.the-variants.{None}
+use Rattle.profile.specs.declared.text.Fault.the-variants.{None, More}
 use Rattle.profile.specs.declared.text.Read.{Read}
-use Rattle.profile.proofs.Firsts.{both}
+use Rattle.profile.proofs.Firsts.{both, none-bad, met-given}
 use Rattle.profile.proofs.Digits.{number-spells, plain-fault}
 use Rattle.profile.proofs.Lines.{stands, Lined, lined, number-lined, address-lined, offset-lined, node-lined}
+use Rattle.profile.proofs.Backs.{number-told, address-told, offset-told, node-back, address-back, capped-back, offset-back}
 use Rattle.profile.proofs.Values.{no-mark, first-is-not, not-feed, not-space, number-same, address-ok, address-same, address-feed, address-first, offset-is, node-is}
 
 -- ---- what a profile in range is
@@ -33,10 +34,11 @@ pub record InRange (p : Profile) : Type 0 where
   pub seconds : p .limits .seconds ≤ 604800
   pub changes : p .limits .changes ≤ 15
   pub zone : p .zone ≤ 1560
+  pub few : p .nodelen ≤ 20
   pub node : nodeOk (p .nodeid) (p .nodelen) ≡ true
 
 pub in-range : (p : Profile) → profileOk p ≡ true → InRange p
-unfolding profileOk limitsOk
+unfolding profileOk limitsOk nodeOk
 in-range p e =
     let l = p .limits in
     let (a, n) = both (limitsOk (p .limits) && leb (p .zone) 1560) (nodeOk (p .nodeid) (p .nodelen)) e in
@@ -51,6 +53,7 @@ in-range p e =
       seconds = leb-true (l .seconds) 604800 w;
       changes = leb-true (l .changes) 15 u;
       zone = leb-true (p .zone) 1560 z;
+      few = leb-true (p .nodelen) 20 (both (leb (p .nodelen) 20) (allOf nodeChar (take (p .nodelen) (p .nodeid))) (both (leb (p .nodelen) 20 && allOf nodeChar (take (p .nodelen) (p .nodeid))) (allOf isZero (drop (p .nodelen) (p .nodeid))) n .0) .0);
       node = n;
     }
 
@@ -128,3 +131,96 @@ text-read p ok shape =
     (ap nodeOctets id ∙ fn .octets)
     (ap length id ∙ fn .many) in
     rw (bad, values)
+
+-- ---- and back
+
+-- each line is at the front of what is left
+joined : {s r1 r2 r3 r4 r5 t : List ℕ} (v1 v2 v3 v4 v5 : List ℕ) → s ≡ lineText sgsnName v1 r1 → r1 ≡ lineText volumeName v2 r2 → r2 ≡ lineText timeName v3 r3
+    → r3 ≡ lineText changeName v4 r4 → r4 ≡ lineText offsetName v5 r5 → r5 ≡ t
+    → s ≡ lineText sgsnName v1 (lineText volumeName v2 (lineText timeName v3 (lineText changeName v4 (lineText offsetName v5 t))))
+joined v1 v2 v3 v4 v5 a b c d e f = rw (← f, ← e, ← d, ← c, ← b, ← a)
+
+-- no line of the text is bad
+record Clean (s : List ℕ) : Type 0 where
+  line1 : addressLine sgsnName s ≡ None
+  line2 : numberLine volumeName (after s) ≡ None
+  line3 : numberLine timeName (after (after s)) ≡ None
+  line4 : numberLine changeName (after (after (after s))) ≡ None
+  line5 : offsetLine offsetName (after (after (after (after s)))) ≡ None
+  line6 : nodeLine nodeName (after (after (after (after (after s))))) ≡ None
+  end : after (after (after (after (after (after s))))) ≡ []
+
+empty : (l : List ℕ) → eqb (length l) 0 ≡ true → l ≡ []
+empty [] e = refl
+empty (x ∷ l) e = absurd (omega (arith, eqb-true (length (x ∷ l)) 0 e))
+
+clean-3 : (s : List ℕ) → linesFrom3 s .line ≡ 0
+    → (numberLine timeName s ≡ None) × (numberLine changeName (after s) ≡ None) × (offsetLine offsetName (after (after s)) ≡ None)
+    × (nodeLine nodeName (after (after (after s))) ≡ None) × (after (after (after (after s))) ≡ [])
+unfolding linesFrom3
+clean-3 s e =
+    let e7 = given (eqb (length (after (after (after (after s))))) 0) More in
+    let f6 = nodeLine nodeName (after (after (after s))) in
+    let f5 = offsetLine offsetName (after (after s)) in
+    let f4 = numberLine changeName (after s) in
+    let b6 = orBad 7 e7 noBad in
+    let b5 = orBad 6 f6 b6 in
+    let b4 = orBad 5 f5 b5 in
+    let b3 = orBad 4 f4 b4 in
+    let (a, x) = none-bad 3 (numberLine timeName s) b3 (omega arith) e in
+    let (b, y) = none-bad 4 f4 b4 (omega arith) x in
+    let (c, z) = none-bad 5 f5 b5 (omega arith) y in
+    let (d, u) = none-bad 6 f6 b6 (omega arith) z in
+    let (f, w) = none-bad 7 e7 noBad (omega arith) u in
+    (a, b, c, d, empty (after (after (after (after s)))) (met-given (eqb (length (after (after (after (after s))))) 0) More refl f))
+
+clean : (s : List ℕ) → firstBad s .line ≡ 0 → Clean s
+unfolding firstBad
+clean s e =
+    let f2 = numberLine volumeName (after s) in
+    let b2 = linesFrom3 (after (after s)) in
+    let (a, x) = none-bad 1 (addressLine sgsnName s) (orBad 2 f2 b2) (omega arith) e in
+    let (b, y) = none-bad 2 f2 b2 (omega arith) x in
+    let (c, d, f, g, h) = clean-3 (after (after s)) y in
+    record { line1 = a; line2 = b; line3 = c; line4 = d; line5 = f; line6 = g; end = h }
+
+-- six lines that read are what is printed for what they say
+module _ (s : List ℕ) (f : Clean s) (i : InRange (profileOf s)) where
+  printed : s ≡ textOf (profileOf s)
+  unfolding textOf profileOf limitsOf
+  printed =
+      let r1 = after s in
+      let r2 = after r1 in
+      let r3 = after r2 in
+      let r4 = after r3 in
+      let r5 = after r4 in
+      let (l1, a) = address-told sgsnName s (f .line1) in
+      let (l2, b) = number-told volumeName r1 (f .line2) in
+      let (l3, c) = number-told timeName r2 (f .line3) in
+      let (l4, d) = number-told changeName r3 (f .line4) in
+      let (l5, e) = offset-told offsetName r4 (f .line5) in
+      let l6 = node-back nodeName r5 (f .line6) (f .end) (i .few) in
+      let va = address-back (valueOf 4 s) a in
+      let vb = capped-back (2 ^ 64 - 1) (valueOf 12 r1) b (omega arith) (omega (arith, i .volume)) in
+      let vc = capped-back (2 ^ 32 - 1) (valueOf 10 r2) c (omega arith) (omega (arith, i .seconds)) in
+      let vd = capped-back 255 (valueOf 12 r3) d (omega arith) (omega (arith, i .changes)) in
+      let ve = offset-back (valueOf 6 r4) e (i .zone) in
+      joined (valueOf 4 s) (valueOf 12 r1) (valueOf 10 r2) (valueOf 12 r3) (valueOf 6 r4) l1 l2 l3 l4 l5 l6
+      ∙ rw (va, vb, vc, vd, ve)
+
+-- ---- the theorems back
+
+-- where no line is bad, nothing is wrong
+pub read-whole : (s : List ℕ) → readOf s .line ≡ 0 → readOf s ≡ reading (profileOf s)
+unfolding readOf readBy
+read-whole s e =
+    let f = clean s e in
+    let b = six-lines s (after s) (after (after s)) (after (after (after s))) (after (after (after (after s)))) (after (after (after (after (after s))))) refl refl refl refl refl (f .end) (f .line1) (f .line2) (f .line3) (f .line4) (f .line5) (f .line6) in
+    rw b
+
+-- a text that reads as a profile in range is the text of that profile
+pub read-text : (s : List ℕ) (p : Profile) → readOf s .line ≡ 0 → readOf s .profile ≡ p → profileOk p ≡ true → s ≡ textOf p
+unfolding readOf readBy
+read-text s p z e ok =
+    let q : profileOf s ≡ p = rw (eq-eqb (firstBad s .line) 0 z) at e in
+    printed s (clean s z) (in-range (profileOf s) (ap profileOk q ∙ ok)) ∙ ap textOf q
