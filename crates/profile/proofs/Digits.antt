@@ -8,12 +8,12 @@ use lib.Dec.{leb, ltb, eqb}
 use lib.ListN.{length, getD, length-append, List·getD-append}
 use borrow.Author.Tests.{leb-true, leb-false, ltb-true, ltb-false, le-leb, lt-ltb, le-ltb, eq-eqb, ne-eqb}
 use Rattle.scdr.specs.Rules.{allOf}
-use Rattle.profile.specs.Fault.{given}
+use Rattle.profile.specs.Fault.{unless}
 use Rattle.profile.specs.Number.{digit, padded, numberFault, numeral}
 use Rattle.profile.specs.Print.{digitsIn, numberText}
 use Rattle.profile.specs.declared.text.Fault.the-variants.{None, Number, Zero}
 use Rattle.profile.proofs.Numbers.{by, numeral-le}
-use Rattle.profile.proofs.Firsts.{both, both-is, or-none, given-met, met-given, none-or}
+use Rattle.profile.proofs.Firsts.{both, both-is, or-none, unless-met, met-unless, none-or}
 
 -- ---- one digit more at the end
 
@@ -57,8 +57,8 @@ pub record Plain (v : List ℕ) : Type 0 where
 pub plain-fault : {v : List ℕ} → Plain v → numberFault v ≡ None
 unfolding numberFault padded
 plain-fault {v} f =
-    or-none (given-met _ (both-is (f .each) (le-leb 1 _ (f .some))))
-    (given-met _
+    or-none (unless-met _ (both-is (f .each) (le-leb 1 _ (f .some))))
+    (unless-met _
     (by (ltb 1 (length v))
     (λ t. rw (ne-eqb (getD v 0 0) 48 (f .lead (ltb-true 1 (length v) t))))
     (λ t. let z : (eqb (getD v 0 0) 48 && false) ≡ false = and-false (eqb (getD v 0 0) 48) in rw (t, z))))
@@ -119,9 +119,9 @@ number-spells n h = spells 19 n (omega arith)
 pub fault-plain : (v : List ℕ) → numberFault v ≡ None → Plain v
 unfolding numberFault padded
 fault-plain v e =
-    let (f, g) = none-or (given (allOf digit v && leb 1 (length v)) Number) (given (not (eqb (getD v 0 0) 48 && ltb 1 (length v))) Zero) e in
-    let (a, b) = both (allOf digit v) (leb 1 (length v)) (met-given (allOf digit v && leb 1 (length v)) Number refl f) in
-    let n = not-not (eqb (getD v 0 0) 48 && ltb 1 (length v)) (met-given (not (eqb (getD v 0 0) 48 && ltb 1 (length v))) Zero refl g) in
+    let (f, g) = none-or (unless (allOf digit v && leb 1 (length v)) Number) (unless (not (eqb (getD v 0 0) 48 && ltb 1 (length v))) Zero) e in
+    let (a, b) = both (allOf digit v) (leb 1 (length v)) (met-unless (allOf digit v && leb 1 (length v)) Number refl f) in
+    let n = not-not (eqb (getD v 0 0) 48 && ltb 1 (length v)) (met-unless (not (eqb (getD v 0 0) 48 && ltb 1 (length v))) Zero refl g) in
     record {
       each = a;
       some = leb-true 1 (length v) b;

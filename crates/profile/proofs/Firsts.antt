@@ -3,7 +3,7 @@ use mathlib.Core.Path.{_≡_, refl, sym, ap, _∙_}
 use mathlib.Core.Bool.{Bool, true, false, _&&_}
 use Prim.Native.Nat.{ℕ, _≤_}
 use native.Mathlib.Omega.{arith}
-use Rattle.profile.specs.Fault.{isNone, given, orElse, orBad}
+use Rattle.profile.specs.Fault.{isNone, unless, orElse, orBad}
 use Rattle.profile.specs.declared.text.Fault.{Fault}
 use Rattle.profile.specs.declared.text.Fault.the-variants.{None, Missing, End, Name, Space, Number, Zero, Address, More}
 use Rattle.profile.specs.declared.fault.Bad.{Bad}
@@ -19,9 +19,9 @@ both-is e f = rw (e, f)
 
 -- where no fault is found, each test is met
 
-pub given-met : {t : Bool} (f : Fault) → t ≡ true → given t f ≡ None
-unfolding given
-given-met f e = rw e
+pub unless-met : {t : Bool} (f : Fault) → t ≡ true → unless t f ≡ None
+unfolding unless
+unless-met f e = rw e
 
 pub or-none : {f g : Fault} → f ≡ None → g ≡ None → orElse f g ≡ None
 unfolding orElse
@@ -44,10 +44,10 @@ is-none Zero e = cc
 is-none Address e = cc
 is-none More e = cc
 
-pub met-given : (t : Bool) (f : Fault) → isNone f ≡ false → given t f ≡ None → t ≡ true
-unfolding given
-met-given true f n e = refl
-met-given false f n e = sym n ∙ ap isNone e
+pub met-unless : (t : Bool) (f : Fault) → isNone f ≡ false → unless t f ≡ None → t ≡ true
+unfolding unless
+met-unless true f n e = refl
+met-unless false f n e = sym n ∙ ap isNone e
 
 pub none-or : (f g : Fault) → orElse f g ≡ None → (f ≡ None) × (g ≡ None)
 unfolding orElse

@@ -14,7 +14,7 @@ use Rattle.profile.specs.Offset.{offsetFault}
 use Rattle.profile.specs.Line.{feed, space, headFault, tailOf, valueOf, oneSpace, valueFault, nodeSpace, numberLine, addressLine, offsetLine, nodeLine}
 use Rattle.profile.specs.Print.{lineText}
 use Rattle.profile.specs.declared.text.Fault.the-variants.{None, Missing, End, Name, Space, Address}
-use Rattle.profile.proofs.Firsts.{given-met, or-none}
+use Rattle.profile.proofs.Firsts.{unless-met, or-none}
 use Rattle.profile.proofs.Marks.{absent-both, has-here, up-to-here, past-here, begins-here}
 
 -- the line of a name and t at the front of s, with r after it
@@ -33,7 +33,7 @@ module _ (name t r : List ℕ) where
       let k : 1 ≤ length ((name ++ t) ++ feed ∷ r) = omega (arith, length-append (name ++ t) (feed ∷ r)) in
       record {
         after = past-here feed r (name ++ t) a;
-        fault = or-none (given-met Missing (le-leb 1 _ k)) (or-none (given-met End (has-here feed r (name ++ t))) (given-met Name (ap (begins name) u ∙ begins-here name t)));
+        fault = or-none (unless-met Missing (le-leb 1 _ k)) (or-none (unless-met End (has-here feed r (name ++ t))) (unless-met Name (ap (begins name) u ∙ begins-here name t)));
         tail = ap (drop (length name)) u ∙ drop-append-seam name t;
       }
 
@@ -50,7 +50,7 @@ module _ (name v r : List ℕ) where
       let w = stands name (space ∷ v) r e f in
       record {
         after = w .after;
-        fault = or-none (w .fault) (given-met Space (rw (w .tail, ne-eqb (getD v 0 0) space n)));
+        fault = or-none (w .fault) (unless-met Space (rw (w .tail, ne-eqb (getD v 0 0) space n)));
         value = ap (drop 1) (w .tail);
       }
 
@@ -61,7 +61,7 @@ module _ {name v r s : List ℕ} (f : Lined name v r s) where
 
   pub address-lined : addressOk v ≡ true → addressLine name s ≡ None
   unfolding addressLine
-  address-lined e = or-none (f .fault) (given-met Address (ap addressOk (f .value) ∙ e))
+  address-lined e = or-none (f .fault) (unless-met Address (ap addressOk (f .value) ∙ e))
 
   pub offset-lined : offsetFault v ≡ None → offsetLine name s ≡ None
   unfolding offsetLine
@@ -70,4 +70,4 @@ module _ {name v r s : List ℕ} (f : Lined name v r s) where
 module _ {name t r s : List ℕ} (f : Stands name t r s) where
   pub node-lined : nodeSpace t ≡ true → nodeLine name s ≡ None
   unfolding nodeLine
-  node-lined e = or-none (f .fault) (given-met Space (ap nodeSpace (f .tail) ∙ e))
+  node-lined e = or-none (f .fault) (unless-met Space (ap nodeSpace (f .tail) ∙ e))

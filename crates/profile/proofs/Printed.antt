@@ -4,14 +4,14 @@ use mathlib.Core.List.{[], _∷_, _++_}
 use Prim.Native.Nat.{ℕ, _-_, _^_}
 use lib.ListN.{take}
 use Rattle.scdr.specs.Rules.{allOf}
-use Rattle.profile.specs.Fault.{given, orElse, orBad}
+use Rattle.profile.specs.Fault.{unless, orElse, orBad}
 use Rattle.profile.specs.Cut.{has, upTo, past, begins}
 use Rattle.profile.specs.Number.{digit, padded, numberFault, numeral, atMost}
 use Rattle.profile.specs.Address.{octetOk, octetOf, addressOk, addressOf}
 use Rattle.profile.specs.Offset.{minus, westFault, offsetFault, east, west, zoneOf}
 use Rattle.profile.specs.Node.{nodeOctets}
 use Rattle.profile.specs.Line.{headFault, tailOf, valueOf, oneSpace, nodeSpace, valueFault, numberLine, addressLine, offsetLine, nodeLine}
-use Rattle.profile.specs.Text.{sgsnName, volumeName, timeName, changeName, offsetName, nodeName, linesFrom3, firstBad, limitsOf, profileOf, noProfile, readBy, readOf}
+use Rattle.profile.specs.Text.{sgsnName, volumeName, timeName, changeName, offsetName, nodeName, badFrom3, firstBad, limitsOf, profileOf, noProfile, readBy, readOf}
 use Rattle.profile.specs.Print.{digitsIn, addressText, offsetText, lineText, nodeText, textOf}
 use Rattle.profile.specs.Sample.{line1, line2, line3, line4, line5, line6, sessionText, session}
 use Rattle.profile.specs.declared.text.Fault.{Fault}
@@ -24,7 +24,7 @@ badly n f = record { line = n; fault = f; profile = noProfile }
 -- ---- "One session, whole"
 
 pub session-read : readOf sessionText ≡ record { line = 0; fault = None; profile = session }
-unfolding readOf readBy firstBad linesFrom3 orBad orElse given addressLine numberLine offsetLine nodeLine valueFault headFault tailOf valueOf oneSpace nodeSpace has upTo past begins numberFault padded digit allOf numeral atMost addressOk octetOk minus westFault offsetFault profileOf limitsOf addressOf octetOf zoneOf east west nodeOctets
+unfolding readOf readBy firstBad badFrom3 orBad orElse unless addressLine numberLine offsetLine nodeLine valueFault headFault tailOf valueOf oneSpace nodeSpace has upTo past begins numberFault padded digit allOf numeral atMost addressOk octetOk minus westFault offsetFault profileOf limitsOf addressOf octetOf zoneOf east west nodeOctets
 session-read = refl
 
 pub session-text : textOf session ≡ sessionText
@@ -72,7 +72,7 @@ pub record Faults : Type 0 where
   pub octet-leading-zero : readOf ((sgsnName ++ 0x20 ∷ 0x31 ∷ 0x30 ∷ 0x2E ∷ 0x30 ∷ 0x2E ∷ 0x30 ∷ 0x2E ∷ 0x30 ∷ 0x31 ∷ 10 ∷ []) ++ line2 ++ line3 ++ line4 ++ line5 ++ line6) ≡ badly 1 Address
 
 pub faults : Faults
-unfolding readOf readBy firstBad linesFrom3 orBad orElse given addressLine numberLine offsetLine nodeLine valueFault headFault tailOf valueOf oneSpace nodeSpace has upTo past begins numberFault padded digit allOf numeral atMost addressOk octetOk minus westFault offsetFault noProfile
+unfolding readOf readBy firstBad badFrom3 orBad orElse unless addressLine numberLine offsetLine nodeLine valueFault headFault tailOf valueOf oneSpace nodeSpace has upTo past begins numberFault padded digit allOf numeral atMost addressOk octetOk minus westFault offsetFault noProfile
 faults =
     record {
       nothing = refl;

@@ -9,19 +9,19 @@ use lib.ListN.{length, take, drop}
 use borrow.Author.Tests.{leb-true, eqb-true, eq-eqb}
 use Rattle.scdr.specs.Rules.{allOf, nodeChar, isZero, nodeOk}
 use Rattle.profile.specs.Profile.{limitsOk, profileOk}
-use Rattle.profile.specs.Fault.{given, orBad}
+use Rattle.profile.specs.Fault.{unless, orBad}
 use Rattle.profile.specs.Cut.{has, past}
 use Rattle.profile.specs.Number.{numeral, atMost}
 use Rattle.profile.specs.Address.{addressOf}
 use Rattle.profile.specs.Offset.{zoneOf}
 use Rattle.profile.specs.Node.{nodeOctets}
 use Rattle.profile.specs.Line.{feed, space, valueOf, numberLine, addressLine, offsetLine, nodeLine}
-use Rattle.profile.specs.Text.{sgsnName, volumeName, timeName, changeName, offsetName, nodeName, after, noBad, linesFrom3, firstBad, limitsOf, profileOf, readBy, readOf}
+use Rattle.profile.specs.Text.{sgsnName, volumeName, timeName, changeName, offsetName, nodeName, after, noBad, badFrom3, firstBad, limitsOf, profileOf, readBy, readOf}
 use Rattle.profile.specs.Print.{numberText, addressText, offsetText, lineText, nodeText, textOf}
 use Rattle.profile.specs.declared.Profile.{Profile}
 use Rattle.profile.specs.declared.text.Fault.the-variants.{None, More}
 use Rattle.profile.specs.declared.text.Read.{Read}
-use Rattle.profile.proofs.Firsts.{both, none-bad, met-given}
+use Rattle.profile.proofs.Firsts.{both, none-bad, met-unless}
 use Rattle.profile.proofs.Digits.{number-spells, plain-fault}
 use Rattle.profile.proofs.Lines.{stands, Lined, lined, number-lined, address-lined, offset-lined, node-lined}
 use Rattle.profile.proofs.Backs.{number-told, address-told, offset-told, node-back, address-back, capped-back, offset-back}
@@ -67,7 +67,7 @@ pub record Shaped (p : Profile) : Type 0 where
 module _ (s t2 t3 t4 t5 t6 : List ℕ) (e1 : past feed s ≡ t2) (e2 : past feed t2 ≡ t3) (e3 : past feed t3 ≡ t4) (e4 : past feed t4 ≡ t5) (e5 : past feed t5 ≡ t6) where
   pub six-lines : past feed t6 ≡ [] → addressLine sgsnName s ≡ None → numberLine volumeName t2 ≡ None → numberLine timeName t3 ≡ None
       → numberLine changeName t4 ≡ None → offsetLine offsetName t5 ≡ None → nodeLine nodeName t6 ≡ None → firstBad s ≡ noBad
-  unfolding firstBad linesFrom3 orBad given
+  unfolding firstBad badFrom3 orBad unless
   six-lines e6 a b c d f g = rw (e1, e2, e3, e4, e5, e6, a, b, c, d, f, g)
 
   pub six-values : (p : Profile) → addressOf (valueOf 4 s) ≡ p .sgsn
@@ -154,12 +154,12 @@ empty : (l : List ℕ) → eqb (length l) 0 ≡ true → l ≡ []
 empty [] e = refl
 empty (x ∷ l) e = absurd (omega (arith, eqb-true (length (x ∷ l)) 0 e))
 
-clean-3 : (s : List ℕ) → linesFrom3 s .line ≡ 0
+clean-3 : (s : List ℕ) → badFrom3 s .line ≡ 0
     → (numberLine timeName s ≡ None) × (numberLine changeName (after s) ≡ None) × (offsetLine offsetName (after (after s)) ≡ None)
     × (nodeLine nodeName (after (after (after s))) ≡ None) × (after (after (after (after s))) ≡ [])
-unfolding linesFrom3
+unfolding badFrom3
 clean-3 s e =
-    let e7 = given (eqb (length (after (after (after (after s))))) 0) More in
+    let e7 = unless (eqb (length (after (after (after (after s))))) 0) More in
     let f6 = nodeLine nodeName (after (after (after s))) in
     let f5 = offsetLine offsetName (after (after s)) in
     let f4 = numberLine changeName (after s) in
@@ -172,13 +172,13 @@ clean-3 s e =
     let (c, z) = none-bad 5 f5 b5 (omega arith) y in
     let (d, u) = none-bad 6 f6 b6 (omega arith) z in
     let (f, w) = none-bad 7 e7 noBad (omega arith) u in
-    (a, b, c, d, empty (after (after (after (after s)))) (met-given (eqb (length (after (after (after (after s))))) 0) More refl f))
+    (a, b, c, d, empty (after (after (after (after s)))) (met-unless (eqb (length (after (after (after (after s))))) 0) More refl f))
 
 clean : (s : List ℕ) → firstBad s .line ≡ 0 → Clean s
 unfolding firstBad
 clean s e =
     let f2 = numberLine volumeName (after s) in
-    let b2 = linesFrom3 (after (after s)) in
+    let b2 = badFrom3 (after (after s)) in
     let (a, x) = none-bad 1 (addressLine sgsnName s) (orBad 2 f2 b2) (omega arith) e in
     let (b, y) = none-bad 2 f2 b2 (omega arith) x in
     let (c, d, f, g, h) = clean-3 (after (after s)) y in

@@ -17,7 +17,7 @@ use Rattle.profile.specs.Node.{nodeOctets}
 use Rattle.profile.specs.Line.{feed, space, nodeSpace}
 use Rattle.profile.specs.Print.{numberText, addressText, offsetText, nodeText}
 use Rattle.profile.specs.declared.text.Fault.the-variants.{None, Zero}
-use Rattle.profile.proofs.Firsts.{both, given-met, or-none}
+use Rattle.profile.proofs.Firsts.{both, unless-met, or-none}
 use Rattle.profile.proofs.Numbers.{by, most-is}
 use Rattle.profile.proofs.Marks.{absent, absent-both, up-to-here, past-here}
 use Rattle.profile.proofs.Digits.{Plain, plain-fault, Spells, number-spells}
@@ -161,7 +161,7 @@ unfolding offsetFault zoneOf minus westFault west has
 behind z v h f =
     let b : leb (720 - z) 720 ≡ true = le-leb (720 - z) 720 (omega arith) in
     record {
-      fault = or-none (plain-fault (f .plain)) (given-met Zero (rw (ne-eqb (getD v 0 0) 48 (f .first (omega arith)))));
+      fault = or-none (plain-fault (f .plain)) (unless-met Zero (rw (ne-eqb (getD v 0 0) 48 (f .first (omega arith)))));
       zone = rw (f .same, b) (omega arith);
       clear = no-mark (f .plain) feed not-feed;
       first = λ e. omega arith;

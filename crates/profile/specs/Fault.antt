@@ -17,8 +17,8 @@ isNone Address = false
 isNone More = false
 
 -- the fault, unless the test is met
-unfoldable pub given : Bool → Fault → Fault
-given met f = cond met None f
+unfoldable pub unless : Bool → Fault → Fault
+unless met f = cond met None f
 
 -- a fault, and where there is none another
 unfoldable pub orElse : Fault → Fault → Fault

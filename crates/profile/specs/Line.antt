@@ -6,7 +6,7 @@ use Prim.Native.Nat.{ℕ}
 use lib.Dec.{leb, eqb}
 use lib.ListN.{length, getD, drop}
 use Rattle.profile.specs.Cut.{has, upTo, begins}
-use Rattle.profile.specs.Fault.{given, orElse}
+use Rattle.profile.specs.Fault.{unless, orElse}
 use Rattle.profile.specs.Number.{numberFault}
 use Rattle.profile.specs.Address.{addressOk}
 use Rattle.profile.specs.Offset.{offsetFault}
@@ -21,7 +21,7 @@ space = 32
 
 -- the line is there, it has a line feed, it begins with its name
 unfoldable pub headFault : List ℕ → List ℕ → Fault
-headFault name s = orElse (given (leb 1 (length s)) Missing) (orElse (given (has feed s) End) (given (begins name (upTo feed s)) Name))
+headFault name s = orElse (unless (leb 1 (length s)) Missing) (orElse (unless (has feed s) End) (unless (begins name (upTo feed s)) Name))
 
 -- what follows a name of n octets, and what follows the space after it
 unfoldable pub tailOf : ℕ → List ℕ → List ℕ
@@ -35,13 +35,13 @@ unfoldable pub oneSpace : List ℕ → Bool
 oneSpace t = eqb (getD t 0 0) space && not (eqb (getD t 1 0) space)
 
 unfoldable pub valueFault : List ℕ → List ℕ → Fault
-valueFault name s = orElse (headFault name s) (given (oneSpace (tailOf (length name) s)) Space)
+valueFault name s = orElse (headFault name s) (unless (oneSpace (tailOf (length name) s)) Space)
 
 unfoldable pub numberLine : List ℕ → List ℕ → Fault
 numberLine name s = orElse (valueFault name s) (numberFault (valueOf (length name) s))
 
 unfoldable pub addressLine : List ℕ → List ℕ → Fault
-addressLine name s = orElse (valueFault name s) (given (addressOk (valueOf (length name) s)) Address)
+addressLine name s = orElse (valueFault name s) (unless (addressOk (valueOf (length name) s)) Address)
 
 unfoldable pub offsetLine : List ℕ → List ℕ → Fault
 offsetLine name s = orElse (valueFault name s) (offsetFault (valueOf (length name) s))
@@ -51,4 +51,4 @@ unfoldable pub nodeSpace : List ℕ → Bool
 nodeSpace t = eqb (length t) 0 || (eqb (getD t 0 0) space && leb 2 (length t))
 
 unfoldable pub nodeLine : List ℕ → List ℕ → Fault
-nodeLine name s = orElse (headFault name s) (given (nodeSpace (tailOf (length name) s)) Space)
+nodeLine name s = orElse (headFault name s) (unless (nodeSpace (tailOf (length name) s)) Space)

@@ -5,7 +5,7 @@ use Prim.Native.Nat.{ℕ, _+_, _-_, _*_}
 use lib.Dec.{leb, ltb, eqb}
 use lib.ListN.{length, getD}
 use Rattle.scdr.specs.Rules.{allOf}
-use Rattle.profile.specs.Fault.{given, orElse}
+use Rattle.profile.specs.Fault.{unless, orElse}
 use Rattle.profile.specs.declared.text.Fault.{Fault}
 use Rattle.profile.specs.declared.text.Fault.the-variants.{Number, Zero}
 
@@ -19,7 +19,7 @@ padded v = eqb (getD v 0 0) 48 && ltb 1 (length v)
 
 -- one digit or more and nothing else, without a leading zero
 unfoldable pub numberFault : List ℕ → Fault
-numberFault v = orElse (given (allOf digit v && leb 1 (length v)) Number) (given (not (padded v)) Zero)
+numberFault v = orElse (unless (allOf digit v && leb 1 (length v)) Number) (unless (not (padded v)) Zero)
 
 -- the number that digits spell, after n
 unfoldable pub numeral : ℕ → List ℕ → ℕ

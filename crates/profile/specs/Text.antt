@@ -5,7 +5,7 @@ use Prim.Native.Nat.{ℕ, _-_, _^_}
 use lib.Dec.{eqb}
 use lib.ListN.{length, replicate}
 use Rattle.profile.specs.Cut.{past}
-use Rattle.profile.specs.Fault.{given, orBad}
+use Rattle.profile.specs.Fault.{unless, orBad}
 use Rattle.profile.specs.Number.{numeral, atMost}
 use Rattle.profile.specs.Address.{addressOf}
 use Rattle.profile.specs.Offset.{zoneOf}
@@ -54,17 +54,17 @@ abbrev pub noBad : Bad
 noBad = record { line = 0; fault = None }
 
 -- the text from the third line on
-unfoldable pub linesFrom3 : List ℕ → Bad
-linesFrom3 s =
+unfoldable pub badFrom3 : List ℕ → Bad
+badFrom3 s =
     orBad 3 (numberLine timeName s)
     (orBad 4 (numberLine changeName (after s))
     (orBad 5 (offsetLine offsetName (after (after s)))
     (orBad 6 (nodeLine nodeName (after (after (after s))))
-    (orBad 7 (given (eqb (length (after (after (after (after s))))) 0) More)
+    (orBad 7 (unless (eqb (length (after (after (after (after s))))) 0) More)
     noBad))))
 
 unfoldable pub firstBad : List ℕ → Bad
-firstBad s = orBad 1 (addressLine sgsnName s) (orBad 2 (numberLine volumeName (after s)) (linesFrom3 (after (after s))))
+firstBad s = orBad 1 (addressLine sgsnName s) (orBad 2 (numberLine volumeName (after s)) (badFrom3 (after (after s))))
 
 -- ---- the profile
 
@@ -72,19 +72,19 @@ firstBad s = orBad 1 (addressLine sgsnName s) (orBad 2 (numberLine volumeName (a
 unfoldable pub limitsOf : List ℕ → Limits
 limitsOf s =
     record {
-      volume = atMost (2 ^ 64 - 1) (numeral 0 (valueOf 12 s));
-      seconds = atMost (2 ^ 32 - 1) (numeral 0 (valueOf 10 (after s)));
-      changes = atMost 255 (numeral 0 (valueOf 12 (after (after s))));
+      volume = atMost (2 ^ 64 - 1) (numeral 0 (valueOf (length volumeName) s));
+      seconds = atMost (2 ^ 32 - 1) (numeral 0 (valueOf (length timeName) (after s)));
+      changes = atMost 255 (numeral 0 (valueOf (length changeName) (after (after s))));
     }
 
 unfoldable pub profileOf : List ℕ → Profile
 profileOf s =
     record {
-      sgsn = addressOf (valueOf 4 s);
+      sgsn = addressOf (valueOf (length sgsnName) s);
       limits = limitsOf (after s);
-      zone = zoneOf (valueOf 6 (after (after (after (after s)))));
-      nodeid = nodeOctets (valueOf 7 (after (after (after (after (after s))))));
-      nodelen = length (valueOf 7 (after (after (after (after (after s))))));
+      zone = zoneOf (valueOf (length offsetName) (after (after (after (after s)))));
+      nodeid = nodeOctets (valueOf (length nodeName) (after (after (after (after (after s))))));
+      nodelen = length (valueOf (length nodeName) (after (after (after (after (after s))))));
     }
 
 -- all zero

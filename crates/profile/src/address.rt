@@ -26,12 +26,12 @@ fn octet_of(v: &[u8]) -> u32
 pub fn address_ok(v: &[u8]) -> bool
     ensures { λ r. ⌜ r ≡ addressOk (now (v .entry)) ⌝ }
 {
-    let w = cut::past(v, 46);
-    let x = cut::past(w, 46);
-    let a = octet_ok(cut::up_to(v, 46));
-    let b = octet_ok(cut::up_to(w, 46));
-    let c = octet_ok(cut::up_to(x, 46));
-    let d = octet_ok(cut::past(x, 46));
+    let w = cut::past(v, b'.');
+    let x = cut::past(w, b'.');
+    let a = octet_ok(cut::up_to(v, b'.'));
+    let b = octet_ok(cut::up_to(w, b'.'));
+    let c = octet_ok(cut::up_to(x, b'.'));
+    let d = octet_ok(cut::past(x, b'.'));
     a & b & c & d
 }
 
@@ -39,11 +39,11 @@ pub fn address_ok(v: &[u8]) -> bool
 pub fn address(v: &[u8]) -> u32
     ensures { λ r. ⌜ r ≡ addressOf (now (v .entry)) ⌝ }
 {
-    let w = cut::past(v, 46);
-    let x = cut::past(w, 46);
-    let a = octet_of(cut::up_to(v, 46));
-    let b = octet_of(cut::up_to(w, 46));
-    let c = octet_of(cut::up_to(x, 46));
-    let d = octet_of(cut::past(x, 46));
+    let w = cut::past(v, b'.');
+    let x = cut::past(w, b'.');
+    let a = octet_of(cut::up_to(v, b'.'));
+    let b = octet_of(cut::up_to(w, b'.'));
+    let c = octet_of(cut::up_to(x, b'.'));
+    let d = octet_of(cut::past(x, b'.'));
     ((a * 256 + b) * 256 + c) * 256 + d
 }

@@ -1,7 +1,7 @@
 // The first fault.
 use crate::text::Fault;
 ghost use mathlib.Core.Path.{_≡_};
-ghost use Rattle.profile.specs.Fault.{isNone, given, orElse, orBad};
+ghost use Rattle.profile.specs.Fault.{isNone, unless, orElse, orBad};
 
 // A line's number and what is wrong there; 0 where no line is bad.
 pub struct Bad {
@@ -27,8 +27,8 @@ pub fn is_none(f: Fault) -> bool
 }
 
 // The fault f, unless the test is met.
-pub fn given(met: bool, f: Fault) -> Fault
-    ensures { λ r. ⌜ r ≡ given met f ⌝ }
+pub fn unless(met: bool, f: Fault) -> Fault
+    ensures { λ r. ⌜ r ≡ unless met f ⌝ }
 {
     if met {
         return Fault::None;

@@ -21,13 +21,13 @@ fn head_fault(s: &[u8], name: &[u8]) -> Fault
     ensures { λ r. ⌜ r ≡ headFault (now (name .entry)) (now (s .entry)) ⌝ }
 {
     let there = 1 <= s.len();
-    let ended = has(s, 10);
-    let named = cut::begins(cut::up_to(s, 10), name);
+    let ended = has(s, b'\n');
+    let named = cut::begins(cut::up_to(s, b'\n'), name);
     fault::or_else(
-        fault::given(there, Fault::Missing),
+        fault::unless(there, Fault::Missing),
         fault::or_else(
-            fault::given(ended, Fault::End),
-            fault::given(named, Fault::Name),
+            fault::unless(ended, Fault::End),
+            fault::unless(named, Fault::Name),
         ),
     )
 }
@@ -36,7 +36,7 @@ fn head_fault(s: &[u8], name: &[u8]) -> Fault
 fn tail(s: &[u8], n: usize) -> &[u8]
     ensures { λ r. ⌜ now r ≡ tailOf n (now (s .entry)) ⌝ }
 {
-    cut::rest(cut::up_to(s, 10), n)
+    cut::rest(cut::up_to(s, b'\n'), n)
 }
 
 // The value in the line, whose name has n octets.
@@ -50,14 +50,14 @@ pub fn value(s: &[u8], n: usize) -> &[u8]
 fn one_space(t: &[u8]) -> bool
     ensures { λ r. ⌜ r ≡ oneSpace (now (t .entry)) ⌝ }
 {
-    (cut::octet(t, 0) == 32) & !(cut::octet(t, 1) == 32)
+    (cut::octet(t, 0) == b' ') & !(cut::octet(t, 1) == b' ')
 }
 
 // Nothing, or a space and something after it.
 fn node_space(t: &[u8]) -> bool
     ensures { λ r. ⌜ r ≡ nodeSpace (now (t .entry)) ⌝ }
 {
-    (t.len() == 0) | ((cut::octet(t, 0) == 32) & (2 <= t.len()))
+    (t.len() == 0) | ((cut::octet(t, 0) == b' ') & (2 <= t.len()))
 }
 
 // What is wrong with the line before its value.
@@ -66,7 +66,7 @@ fn value_fault(s: &[u8], name: &[u8]) -> Fault
 {
     let f = head_fault(s, name);
     let spaced = one_space(tail(s, name.len()));
-    fault::or_else(f, fault::given(spaced, Fault::Space))
+    fault::or_else(f, fault::unless(spaced, Fault::Space))
 }
 
 // What is wrong with a line that has a number.
@@ -84,7 +84,7 @@ pub fn address_line(s: &[u8], name: &[u8]) -> Fault
 {
     let f = value_fault(s, name);
     let met = address::address_ok(value(s, name.len()));
-    fault::or_else(f, fault::given(met, Fault::Address))
+    fault::or_else(f, fault::unless(met, Fault::Address))
 }
 
 // What is wrong with a line that has an offset.
@@ -102,5 +102,5 @@ pub fn node_line(s: &[u8], name: &[u8]) -> Fault
 {
     let f = head_fault(s, name);
     let spaced = node_space(tail(s, name.len()));
-    fault::or_else(f, fault::given(spaced, Fault::Space))
+    fault::or_else(f, fault::unless(spaced, Fault::Space))
 }

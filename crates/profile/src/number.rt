@@ -11,7 +11,7 @@ ghost use Rattle.profile.specs.Number.{atMost, digit, padded, numeral, n
 fn is_digit(x: u8) -> bool
     ensures { λ r. ⌜ r ≡ digit x ⌝ }
 {
-    (48 <= x) & (x <= 57)
+    (b'0' <= x) & (x <= b'9')
 }
 
 // Are all of v digits?
@@ -32,7 +32,7 @@ fn digits(v: &[u8]) -> bool
 fn is_padded(v: &[u8]) -> bool
     ensures { λ r. ⌜ r ≡ padded (now (v .entry)) ⌝ }
 {
-    (cut::octet(v, 0) == 48) & (1 < v.len())
+    (cut::octet(v, 0) == b'0') & (1 < v.len())
 }
 
 // What is wrong with v as a number.
@@ -42,8 +42,8 @@ pub fn number_fault(v: &[u8]) -> Fault
     let whole = digits(v) & (1 <= v.len());
     let plain = !is_padded(v);
     fault::or_else(
-        fault::given(whole, Fault::Number),
-        fault::given(plain, Fault::Zero),
+        fault::unless(whole, Fault::Number),
+        fault::unless(plain, Fault::Zero),
     )
 }
 
@@ -61,10 +61,10 @@ pub fn at_most(most: u64, x: u64) -> u64
 fn worth(x: u8) -> u64
     ensures { λ r. ⌜ r ≡ x - 48 ⌝ }
 {
-    if x < 48 {
+    if x < b'0' {
         return 0;
     }
-    (x - 48) as u64
+    (x - b'0') as u64
 }
 
 // One digit more, where that fits.

@@ -10,7 +10,7 @@ ghost use Rattle.profile.specs.Offset.{minus, westFault, offsetFault, ea
 fn is_minus(v: &[u8]) -> bool
     ensures { λ r. ⌜ r ≡ minus (now (v .entry)) ⌝ }
 {
-    cut::octet(v, 0) == 45
+    cut::octet(v, 0) == b'-'
 }
 
 // What is wrong with the digits after a sign.
@@ -18,8 +18,8 @@ fn west_fault(v: &[u8]) -> Fault
     ensures { λ r. ⌜ r ≡ westFault (now (v .entry)) ⌝ }
 {
     let f = number::number_fault(v);
-    let nonzero = !(cut::octet(v, 0) == 48);
-    fault::or_else(f, fault::given(nonzero, Fault::Zero))
+    let nonzero = !(cut::octet(v, 0) == b'0');
+    fault::or_else(f, fault::unless(nonzero, Fault::Zero))
 }
 
 // What is wrong with v as an offset.

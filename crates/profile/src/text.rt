@@ -10,7 +10,7 @@ use crate::number;
 use crate::offset;
 ghost use mathlib.Core.Path.{_≡_};
 ghost use Rattle.profile.specs.Node.{nodeOctets};
-ghost use Rattle.profile.specs.Text.{linesFrom3, firstBad, limitsOf, profileOf, readOf};
+ghost use Rattle.profile.specs.Text.{badFrom3, firstBad, limitsOf, profileOf, readOf};
 
 // What is wrong with a line.
 pub enum Fault {
@@ -56,13 +56,13 @@ fn node_octets(v: &[u8]) -> [u8; 20]
 
 // The first bad line from the third on.
 fn bad_from_3(s: &[u8]) -> Bad
-    ensures { λ r. ⌜ r ≡ linesFrom3 (now (s .entry)) ⌝ }
+    ensures { λ r. ⌜ r ≡ badFrom3 (now (s .entry)) ⌝ }
 {
-    let t = cut::past(s, 10);
-    let u = cut::past(t, 10);
-    let v = cut::past(u, 10);
-    let w = cut::past(v, 10);
-    let e = fault::given(w.len() == 0, Fault::More);
+    let t = cut::past(s, b'\n');
+    let u = cut::past(t, b'\n');
+    let v = cut::past(u, b'\n');
+    let w = cut::past(v, b'\n');
+    let e = fault::unless(w.len() == 0, Fault::More);
     let none = Bad {
         line: 0,
         fault: Fault::None,
@@ -78,19 +78,19 @@ fn bad_from_3(s: &[u8]) -> Bad
 fn first_bad(s: &[u8]) -> Bad
     ensures { λ r. ⌜ r ≡ firstBad (now (s .entry)) ⌝ }
 {
-    let t = cut::past(s, 10);
-    let u = cut::past(t, 10);
+    let t = cut::past(s, b'\n');
+    let u = cut::past(t, b'\n');
     let c = bad_from_3(u);
     let b = fault::or_bad(2, line::number_line(t, b"volume-limit"), c);
     fault::or_bad(1, line::address_line(s, b"sgsn"), b)
 }
 
-// The limits of lines 2 to 4.
+// The limits of lines 2 to 4. Each value stands after the octets of its name and a space.
 fn limits_of(s: &[u8]) -> Limits
     ensures { λ r. ⌜ r ≡ limitsOf (now (s .entry)) ⌝ }
 {
-    let t = cut::past(s, 10);
-    let u = cut::past(t, 10);
+    let t = cut::past(s, b'\n');
+    let u = cut::past(t, b'\n');
     let volume = number::number(line::value(s, 12));
     let seconds = number::number(line::value(t, 10));
     let changes = number::number(line::value(u, 12));
@@ -105,9 +105,9 @@ fn limits_of(s: &[u8]) -> Limits
 fn profile_of(s: &[u8]) -> Profile
     ensures { λ r. ⌜ r ≡ profileOf (now (s .entry)) ⌝ }
 {
-    let t = cut::past(s, 10);
-    let u = cut::past(cut::past(cut::past(t, 10), 10), 10);
-    let v = cut::past(u, 10);
+    let t = cut::past(s, b'\n');
+    let u = cut::past(cut::past(cut::past(t, b'\n'), b'\n'), b'\n');
+    let v = cut::past(u, b'\n');
     let sgsn = address::address(line::value(s, 4));
     let limits = limits_of(t);
     let zone = offset::zone(line::value(u, 6));

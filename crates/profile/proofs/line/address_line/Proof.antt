@@ -13,15 +13,15 @@ value-requires c κs = search needs
 address-ok-requires : tie.Need-address-ok-requires
 address-ok-requires c κs = search needs
 
-given-requires : tie.Need-given-requires
-given-requires c κs = search needs
+unless-requires : tie.Need-unless-requires
+unless-requires c κs = search needs
 
 or-else-requires : tie.Need-or-else-requires
 or-else-requires c κs = search needs
 
 returns : tie.Need-returns
 unfolding addressLine
-returns c = rw (c .or-else .ensures, c .before .given .ensures, c .before .before .address-ok .ensures, c .before .before .before .value .ensures, c .before .before .before .before .value-fault .ensures)
+returns c = rw (c .or-else .ensures, c .before .unless .ensures, c .before .before .address-ok .ensures, c .before .before .before .value .ensures, c .before .before .before .before .value-fault .ensures)
 
 pub address-line-spec : {M : Type 1} → statement M
 address-line-spec =
@@ -30,6 +30,6 @@ address-line-spec =
     value-fault-requires
     value-requires
     address-ok-requires
-    given-requires
+    unless-requires
     or-else-requires
     returns)

@@ -13,14 +13,14 @@ up-to-requires c κs = search needs
 begins-requires : tie.Need-begins-requires
 begins-requires c κs = search needs
 
-given-requires : tie.Need-given-requires
-given-requires c κs = search needs
+unless-requires : tie.Need-unless-requires
+unless-requires c κs = search needs
 
-given-requires-2 : tie.Need-given-requires-2
-given-requires-2 c κs = search needs
+unless-requires-2 : tie.Need-unless-requires-2
+unless-requires-2 c κs = search needs
 
-given-requires-3 : tie.Need-given-requires-3
-given-requires-3 c κs = search needs
+unless-requires-3 : tie.Need-unless-requires-3
+unless-requires-3 c κs = search needs
 
 or-else-requires : tie.Need-or-else-requires
 or-else-requires c κs = search needs
@@ -30,7 +30,7 @@ or-else-requires-2 c κs = search needs
 
 returns : tie.Need-returns
 unfolding headFault
-returns c = rw (c .or-else2 .ensures, c .before .or-else .ensures, c .before .before .given3 .ensures, c .before .before .before .given2 .ensures, c .before .before .before .before .given .ensures, c .before .before .before .before .before .begins .ensures, c .before .before .before .before .before .before .up-to .ensures, c .before .before .before .before .before .before .before .has .ensures)
+returns c = rw (c .or-else2 .ensures, c .before .or-else .ensures, c .before .before .unless3 .ensures, c .before .before .before .unless2 .ensures, c .before .before .before .before .unless .ensures, c .before .before .before .before .before .begins .ensures, c .before .before .before .before .before .before .up-to .ensures, c .before .before .before .before .before .before .before .has .ensures)
 
 pub head-fault-spec : {M : Type 1} → statement M
 head-fault-spec =
@@ -39,9 +39,9 @@ head-fault-spec =
     has-requires
     up-to-requires
     begins-requires
-    given-requires
-    given-requires-2
-    given-requires-3
+    unless-requires
+    unless-requires-2
+    unless-requires-3
     or-else-requires
     or-else-requires-2
     returns)

@@ -13,15 +13,15 @@ tail-requires c κs = search needs
 node-space-requires : tie.Need-node-space-requires
 node-space-requires c κs = search needs
 
-given-requires : tie.Need-given-requires
-given-requires c κs = search needs
+unless-requires : tie.Need-unless-requires
+unless-requires c κs = search needs
 
 or-else-requires : tie.Need-or-else-requires
 or-else-requires c κs = search needs
 
 returns : tie.Need-returns
 unfolding nodeLine
-returns c = rw (c .or-else .ensures, c .before .given .ensures, c .before .before .node-space .ensures, c .before .before .before .tail .ensures, c .before .before .before .before .head-fault .ensures)
+returns c = rw (c .or-else .ensures, c .before .unless .ensures, c .before .before .node-space .ensures, c .before .before .before .tail .ensures, c .before .before .before .before .head-fault .ensures)
 
 pub node-line-spec : {M : Type 1} → statement M
 node-line-spec =
@@ -30,6 +30,6 @@ node-line-spec =
     head-fault-requires
     tail-requires
     node-space-requires
-    given-requires
+    unless-requires
     or-else-requires
     returns)

@@ -13,15 +13,15 @@ tail-requires c κs = search needs
 one-space-requires : tie.Need-one-space-requires
 one-space-requires c κs = search needs
 
-given-requires : tie.Need-given-requires
-given-requires c κs = search needs
+unless-requires : tie.Need-unless-requires
+unless-requires c κs = search needs
 
 or-else-requires : tie.Need-or-else-requires
 or-else-requires c κs = search needs
 
 returns : tie.Need-returns
 unfolding valueFault
-returns c = rw (c .or-else .ensures, c .before .given .ensures, c .before .before .one-space .ensures, c .before .before .before .tail .ensures, c .before .before .before .before .head-fault .ensures)
+returns c = rw (c .or-else .ensures, c .before .unless .ensures, c .before .before .one-space .ensures, c .before .before .before .tail .ensures, c .before .before .before .before .head-fault .ensures)
 
 pub value-fault-spec : {M : Type 1} → statement M
 value-fault-spec =
@@ -30,6 +30,6 @@ value-fault-spec =
     head-fault-requires
     tail-requires
     one-space-requires
-    given-requires
+    unless-requires
     or-else-requires
     returns)

@@ -1,7 +1,6 @@
 -- `profile::offset::west` meets its contract. Assumes nothing.
 use borrow.Author.Tests.{le-leb, lt-leb}
 use Rattle.profile.specs.Offset.{west}
-use Rattle.profile.specs.Number.{atMost}
 use borrow.Author.Needs.{needs}
 use Rattle.profile.proofs.offset.west.Statement.{statement}
 use Rattle.profile.proofs.offset.west.Tie as tie
@@ -10,11 +9,11 @@ cast-result : tie.Need-cast-result
 cast-result c = search needs
 
 returns : tie.Need-returns
-unfolding west atMost
+unfolding west
 returns c = rw (le-leb _ _ (c .if1 .taken))
 
 returns-2 : tie.Need-returns-2
-unfolding west atMost
+unfolding west
 returns-2 c = rw (lt-leb _ _ (c .if1 .left))
 
 pub west-spec : {M : Type 1} → statement M

@@ -10,17 +10,17 @@ number-fault-requires c κs = search needs
 octet-requires : tie.Need-octet-requires
 octet-requires c κs = search needs
 
-given-requires : tie.Need-given-requires
-given-requires c κs = search needs
+unless-requires : tie.Need-unless-requires
+unless-requires c κs = search needs
 
 or-else-requires : tie.Need-or-else-requires
 or-else-requires c κs = search needs
 
 returns : tie.Need-returns
 unfolding westFault
-returns c = rw (c .or-else .ensures, c .before .given .ensures, c .before .before .octet .ensures, c .before .before .before .number-fault .ensures)
+returns c = rw (c .or-else .ensures, c .before .unless .ensures, c .before .before .octet .ensures, c .before .before .before .number-fault .ensures)
 
 pub west-fault-spec : {M : Type 1} → statement M
 west-fault-spec =
     tie.close
-    (tie.spec number-fault-requires octet-requires given-requires or-else-requires returns)
+    (tie.spec number-fault-requires octet-requires unless-requires or-else-requires returns)

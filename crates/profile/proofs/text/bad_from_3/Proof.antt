@@ -1,5 +1,5 @@
 -- `profile::text::bad_from_3` meets its contract. Assumes nothing.
-use Rattle.profile.specs.Text.{linesFrom3}
+use Rattle.profile.specs.Text.{badFrom3}
 use borrow.Author.Needs.{needs}
 use Rattle.profile.proofs.text.bad_from_3.Statement.{statement}
 use Rattle.profile.proofs.text.bad_from_3.Tie as tie
@@ -16,8 +16,8 @@ past-requires-3 c κs = search needs
 past-requires-4 : tie.Need-past-requires-4
 past-requires-4 c κs = search needs
 
-given-requires : tie.Need-given-requires
-given-requires c κs = search needs
+unless-requires : tie.Need-unless-requires
+unless-requires c κs = search needs
 
 or-bad-requires : tie.Need-or-bad-requires
 or-bad-requires c κs = search needs
@@ -59,8 +59,8 @@ or-bad-requires-5 : tie.Need-or-bad-requires-5
 or-bad-requires-5 c κs = search needs
 
 returns : tie.Need-returns
-unfolding linesFrom3
-returns c = rw (c .or-bad5 .ensures, c .before .number-line2 .ensures, c .before .before .before .or-bad4 .ensures, c .before .before .before .before .number-line .ensures, c .before .before .before .before .before .before .or-bad3 .ensures, c .before .before .before .before .before .before .before .offset-line .ensures, c .before .before .before .before .before .before .before .before .before .or-bad2 .ensures, c .before .before .before .before .before .before .before .before .before .before .node-line .ensures, c .before .before .before .before .before .before .before .before .before .before .before .before .or-bad .ensures, c .before .before .before .before .before .before .before .before .before .before .before .before .before .given .ensures, c .before .before .before .before .before .before .before .before .before .before .before .before .before .before .past4 .ensures, c .before .before .before .before .before .before .before .before .before .before .before .before .before .before .before .past3 .ensures, c .before .before .before .before .before .before .before .before .before .before .before .before .before .before .before .before .past2 .ensures, c .before .before .before .before .before .before .before .before .before .before .before .before .before .before .before .before .before .past .ensures)
+unfolding badFrom3
+returns c = rw (c .or-bad5 .ensures, c .before .number-line2 .ensures, c .before .before .before .or-bad4 .ensures, c .before .before .before .before .number-line .ensures, c .before .before .before .before .before .before .or-bad3 .ensures, c .before .before .before .before .before .before .before .offset-line .ensures, c .before .before .before .before .before .before .before .before .before .or-bad2 .ensures, c .before .before .before .before .before .before .before .before .before .before .node-line .ensures, c .before .before .before .before .before .before .before .before .before .before .before .before .or-bad .ensures, c .before .before .before .before .before .before .before .before .before .before .before .before .before .unless .ensures, c .before .before .before .before .before .before .before .before .before .before .before .before .before .before .past4 .ensures, c .before .before .before .before .before .before .before .before .before .before .before .before .before .before .before .past3 .ensures, c .before .before .before .before .before .before .before .before .before .before .before .before .before .before .before .before .past2 .ensures, c .before .before .before .before .before .before .before .before .before .before .before .before .before .before .before .before .before .past .ensures)
 
 pub bad-from-3-spec : {M : Type 1} → statement M
 bad-from-3-spec =
@@ -70,7 +70,7 @@ bad-from-3-spec =
     past-requires-2
     past-requires-3
     past-requires-4
-    given-requires
+    unless-requires
     or-bad-requires
     slice-aggregate-node-line
     node-line-requires
