@@ -62,3 +62,16 @@ none-bad n f b h e =
     by (isNone f)
     (λ t. (is-none f t, rw t at e))
     (λ t. let z : n ≡ 0 = rw t at e in absurd (omega arith))
+
+-- ---- what a bad line's number and fault say of each other
+
+pub record Agree (b : Bad) : Type 0 where
+  pub most : b .line ≤ 7
+  pub quiet : b .fault ≡ None → b .line ≡ 0
+
+pub bad-agree : (n : ℕ) (f : Fault) (b : Bad) → n ≤ 7 → Agree b → Agree (orBad n f b)
+unfolding orBad
+bad-agree n f b h a =
+    by (isNone f)
+    (λ t. rw t a)
+    (λ t. rw t (record { most = h; quiet = λ e. absurd (let c : true ≡ false = sym (ap isNone e) ∙ t in let z : _≡_ {A = ℕ} 0 1 = cc in omega arith) }))

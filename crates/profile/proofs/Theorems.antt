@@ -21,7 +21,7 @@ use Rattle.profile.specs.Print.{numberText, addressText, offsetText, lin
 use Rattle.profile.specs.declared.Profile.{Profile}
 use Rattle.profile.specs.declared.text.Fault.the-variants.{None, More}
 use Rattle.profile.specs.declared.text.Read.{Read}
-use Rattle.profile.proofs.Firsts.{both, none-bad, met-unless}
+use Rattle.profile.proofs.Firsts.{both, none-bad, met-unless, Agree, bad-agree}
 use Rattle.profile.proofs.Digits.{number-spells, plain-fault}
 use Rattle.profile.proofs.Lines.{stands, Lined, lined, number-lined, address-lined, offset-lined, node-lined}
 use Rattle.profile.proofs.Backs.{number-told, address-told, offset-told, node-back, address-back, capped-back, offset-back}
@@ -224,3 +224,16 @@ unfolding readOf readBy
 read-text s p z e ok =
     let q : profileOf s ≡ p = rw (eq-eqb (firstBad s .line) 0 z) at e in
     printed s (clean s z) (in-range (profileOf s) (ap profileOk q ∙ ok)) ∙ ap textOf q
+
+-- a bad line is one of seven, and something is wrong with it
+agree-3 : (s : List ℕ) → Agree (badFrom3 s)
+unfolding badFrom3
+agree-3 s =
+    let none : Agree noBad = record { most = omega arith; quiet = λ e. refl } in
+    bad-agree 3 _ _ (omega arith) (bad-agree 4 _ _ (omega arith) (bad-agree 5 _ _ (omega arith) (bad-agree 6 _ _ (omega arith) (bad-agree 7 _ _ (omega arith) none))))
+
+pub read-agree : (s : List ℕ) → (readOf s .line ≤ 7) × (readOf s .fault ≡ None → readOf s .line ≡ 0)
+unfolding readOf readBy firstBad
+read-agree s =
+    let a = bad-agree 1 (addressLine sgsnName s) _ (omega arith) (bad-agree 2 (numberLine volumeName (after s)) _ (omega arith) (agree-3 (after (after s)))) in
+    (a .most, a .quiet)
