@@ -1,1 +1,11 @@
 pub mod Profile
+pub mod Fault
+pub mod Cut
+pub mod Number
+pub mod Address
+pub mod Offset
+pub mod Node
+pub mod Line
+pub mod Text
+pub mod Print
+pub mod Sample

@@ -1,4 +1,17 @@
-// The profile of a node: what it is set up with.
+// The profile of a node: what it is set up with, and the text that says it.
+//
+// text reads the text; fault has what can be wrong, line the six lines, number, address and offset their values, cut the octets
+// up to a mark and past it.
+//
+// No public function has a `requires`: each answers for every input.
+mod address;
+mod cut;
+mod fault;
+mod line;
+mod number;
+mod offset;
+pub mod text;
+
 use scdr::names;
 ghost use mathlib.Core.Path.{_≡_};
 ghost use Rattle.profile.specs.Profile.{limitsOk, profileOk};

@@ -1,0 +1,14 @@
+pub mod Cuts
+pub mod Firsts
+pub mod Numbers
+pub mod Nodes
+pub mod Octets
+pub mod Zones
+pub mod Readings
+pub mod Digits
+pub mod Marks
+pub mod Lines
+pub mod Values
+pub mod Backs
+pub mod Theorems
+pub mod Printed

@@ -1,0 +1,14 @@
+-- `profile::number::at_most` meets its contract. Assumes nothing.
+use Rattle.profile.proofs.Numbers.{most-is, most-over}
+use native.Mathlib.Omega.{arith}
+use Rattle.profile.proofs.number.at_most.Statement.{statement}
+use Rattle.profile.proofs.number.at_most.Tie as tie
+
+returns : tie.Need-returns
+returns c = most-is _ _ (c .if1 .taken)
+
+returns-2 : tie.Need-returns-2
+returns-2 c = most-over _ _ (omega (arith, c .if1 .left))
+
+pub at-most-spec : {M : Type 1} → statement M
+at-most-spec = tie.close (tie.spec returns returns-2)

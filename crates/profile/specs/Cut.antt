@@ -1,0 +1,31 @@
+-- Octets up to the first mark, and past it. Assumes nothing.
+use mathlib.Core.Bool.{Bool, true, false, cond, _&&_, _||_}
+use mathlib.Core.List.{List, [], _∷_}
+use Prim.Native.Nat.{ℕ, suc}
+use lib.Dec.{eqb}
+
+-- is there an x?
+unfoldable pub has : ℕ → List ℕ → Bool
+has x [] = false
+has x (y ∷ s) = eqb y x || has x s
+
+-- what stands before the first x; all where there is none
+unfoldable pub upTo : ℕ → List ℕ → List ℕ
+upTo x [] = []
+upTo x (y ∷ s) = cond (eqb y x) [] (y ∷ upTo x s)
+
+-- what stands after the first x; nothing where there is none
+unfoldable pub past : ℕ → List ℕ → List ℕ
+past x [] = []
+past x (y ∷ s) = cond (eqb y x) s (past x s)
+
+-- how many octets stand before the first x
+unfoldable pub ahead : ℕ → List ℕ → ℕ
+ahead x [] = 0
+ahead x (y ∷ s) = cond (eqb y x) 0 (suc (ahead x s))
+
+-- does s begin with the name?
+unfoldable pub begins : List ℕ → List ℕ → Bool
+begins [] s = true
+begins (x ∷ n) [] = false
+begins (x ∷ n) (y ∷ s) = eqb y x && begins n s

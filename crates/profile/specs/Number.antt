@@ -1,0 +1,31 @@
+-- Numbers in decimal digits. Assumes nothing.
+use mathlib.Core.Bool.{Bool, not, cond, _&&_}
+use mathlib.Core.List.{List, [], _∷_}
+use Prim.Native.Nat.{ℕ, _+_, _-_, _*_}
+use lib.Dec.{leb, ltb, eqb}
+use lib.ListN.{length, getD}
+use Rattle.scdr.specs.Rules.{allOf}
+use Rattle.profile.specs.Fault.{unless, orElse}
+use Rattle.profile.specs.declared.text.Fault.{Fault}
+use Rattle.profile.specs.declared.text.Fault.the-variants.{Number, Zero}
+
+-- '0' to '9'
+unfoldable pub digit : ℕ → Bool
+digit x = leb 48 x && leb x 57
+
+-- a zero before another digit
+unfoldable pub padded : List ℕ → Bool
+padded v = eqb (getD v 0 0) 48 && ltb 1 (length v)
+
+-- one digit or more and nothing else, without a leading zero
+unfoldable pub numberFault : List ℕ → Fault
+numberFault v = orElse (unless (allOf digit v && leb 1 (length v)) Number) (unless (not (padded v)) Zero)
+
+-- the number that digits spell, after n
+unfoldable pub numeral : ℕ → List ℕ → ℕ
+numeral n [] = n
+numeral n (x ∷ v) = numeral (n * 10 + (x - 48)) v
+
+-- a number that a type holds: its largest where it does not fit
+unfoldable pub atMost : ℕ → ℕ → ℕ
+atMost most n = cond (leb n most) n most

@@ -1,0 +1,47 @@
+-- The text of a profile. Assumes nothing.
+use mathlib.Core.Bool.{cond}
+use mathlib.Core.List.{List, [], _∷_, _++_}
+use Prim.Native.Nat.{ℕ, zero, suc, _+_, _-_, _/_, _%_, _^_}
+use lib.Dec.{leb, ltb, eqb}
+use lib.ListN.{take}
+use Rattle.profile.specs.Address.{dot}
+use Rattle.profile.specs.Line.{feed, space}
+use Rattle.profile.specs.Text.{sgsnName, volumeName, timeName, changeName, offsetName, nodeName}
+use Rattle.profile.specs.declared.Profile.{Profile}
+
+-- the decimal digits of a number below 10 ^ k, without leading zeros
+unfoldable pub digitsIn : ℕ → ℕ → List ℕ
+digitsIn zero n = []
+digitsIn (suc k) n = cond (ltb n 10) ((n + 48) ∷ []) (digitsIn k (n / 10) ++ (n % 10 + 48) ∷ [])
+
+-- every number of 64 bits has at most twenty
+abbrev pub numberText : ℕ → List ℕ
+numberText n = digitsIn 20 n
+
+unfoldable pub addressText : ℕ → List ℕ
+addressText a =
+    numberText (a / 2 ^ 24)
+    ++ dot ∷ (numberText (a / 2 ^ 16 % 256)
+    ++ dot ∷ (numberText (a / 2 ^ 8 % 256)
+    ++ dot ∷ numberText (a % 256)))
+
+-- the offset is kept as 720 more
+unfoldable pub offsetText : ℕ → List ℕ
+offsetText z = cond (leb 720 z) (numberText (z - 720)) (45 ∷ numberText (720 - z))
+
+-- a line, and the text after it
+unfoldable pub lineText : List ℕ → List ℕ → List ℕ → List ℕ
+lineText name v r = name ++ space ∷ v ++ feed ∷ r
+
+-- an empty node ID has no space before it
+unfoldable pub nodeText : List ℕ → ℕ → List ℕ
+nodeText node n = cond (eqb n 0) [] (space ∷ take n node)
+
+unfoldable pub textOf : Profile → List ℕ
+textOf p =
+    lineText sgsnName (addressText (p .sgsn))
+    (lineText volumeName (numberText (p .limits .volume))
+    (lineText timeName (numberText (p .limits .seconds))
+    (lineText changeName (numberText (p .limits .changes))
+    (lineText offsetName (offsetText (p .zone))
+    (nodeName ++ nodeText (p .nodeid) (p .nodelen) ++ feed ∷ [])))))

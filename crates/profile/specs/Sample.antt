@@ -1,0 +1,43 @@
+-- The profile of 01's "One session, whole", as a text. Assumes nothing.
+use mathlib.Core.List.{List, [], _∷_, _++_}
+use Prim.Native.Nat.{ℕ}
+use lib.ListN.{replicate}
+use Rattle.profile.specs.declared.Profile.{Profile}
+
+-- sgsn 10.0.0.1
+abbrev pub line1 : List ℕ
+line1 = 0x73 ∷ 0x67 ∷ 0x73 ∷ 0x6E ∷ 0x20 ∷ 0x31 ∷ 0x30 ∷ 0x2E ∷ 0x30 ∷ 0x2E ∷ 0x30 ∷ 0x2E ∷ 0x31 ∷ 10 ∷ []
+
+-- volume-limit 1000
+abbrev pub line2 : List ℕ
+line2 = 0x76 ∷ 0x6F ∷ 0x6C ∷ 0x75 ∷ 0x6D ∷ 0x65 ∷ 0x2D ∷ 0x6C ∷ 0x69 ∷ 0x6D ∷ 0x69 ∷ 0x74 ∷ 0x20 ∷ 0x31 ∷ 0x30 ∷ 0x30 ∷ 0x30 ∷ 10 ∷ []
+
+-- time-limit 60
+abbrev pub line3 : List ℕ
+line3 = 0x74 ∷ 0x69 ∷ 0x6D ∷ 0x65 ∷ 0x2D ∷ 0x6C ∷ 0x69 ∷ 0x6D ∷ 0x69 ∷ 0x74 ∷ 0x20 ∷ 0x36 ∷ 0x30 ∷ 10 ∷ []
+
+-- change-limit 2
+abbrev pub line4 : List ℕ
+line4 = 0x63 ∷ 0x68 ∷ 0x61 ∷ 0x6E ∷ 0x67 ∷ 0x65 ∷ 0x2D ∷ 0x6C ∷ 0x69 ∷ 0x6D ∷ 0x69 ∷ 0x74 ∷ 0x20 ∷ 0x32 ∷ 10 ∷ []
+
+-- offset 0
+abbrev pub line5 : List ℕ
+line5 = 0x6F ∷ 0x66 ∷ 0x66 ∷ 0x73 ∷ 0x65 ∷ 0x74 ∷ 0x20 ∷ 0x30 ∷ 10 ∷ []
+
+-- node-id
+abbrev pub line6 : List ℕ
+line6 = 0x6E ∷ 0x6F ∷ 0x64 ∷ 0x65 ∷ 0x2D ∷ 0x69 ∷ 0x64 ∷ 10 ∷ []
+
+-- all six
+abbrev pub sessionText : List ℕ
+sessionText = line1 ++ line2 ++ line3 ++ line4 ++ line5 ++ line6
+
+abbrev pub session : Profile
+session =
+    record {
+      sgsn = 0x0A000001;
+      limits = record { volume = 1000; seconds = 60; changes = 2 };
+      zone = 720;
+      nodeid = replicate 20 0;
+      nodelen = 0;
+    }

@@ -1,0 +1,91 @@
+// Numbers in decimal digits.
+use crate::cut;
+use crate::fault;
+use crate::text::Fault;
+ghost use mathlib.Core.Path.{_≡_};
+ghost use Prim.Native.Nat.{_+_, _-_, _*_, _^_};
+ghost use Rattle.scdr.specs.Rules.{allOf};
+ghost use Rattle.profile.specs.Number.{atMost, digit, padded, numeral, numberFault};
+
+// A digit 0 to 9.
+fn is_digit(x: u8) -> bool
+    ensures { λ r. ⌜ r ≡ digit x ⌝ }
+{
+    (b'0' <= x) & (x <= b'9')
+}
+
+// Are all of v digits?
+fn digits(v: &[u8]) -> bool
+    ensures { λ r. ⌜ r ≡ allOf digit (now (v .entry)) ⌝ }
+{
+    let mut i = 0;
+    while i < v.len() {
+        if !is_digit(v[i]) {
+            return false;
+        }
+        i += 1;
+    }
+    true
+}
+
+// A zero before another digit.
+fn is_padded(v: &[u8]) -> bool
+    ensures { λ r. ⌜ r ≡ padded (now (v .entry)) ⌝ }
+{
+    (cut::octet(v, 0) == b'0') & (1 < v.len())
+}
+
+// What is wrong with v as a number.
+pub fn number_fault(v: &[u8]) -> Fault
+    ensures { λ r. ⌜ r ≡ numberFault (now (v .entry)) ⌝ }
+{
+    let whole = digits(v) & (1 <= v.len());
+    let plain = !is_padded(v);
+    fault::or_else(
+        fault::unless(whole, Fault::Number),
+        fault::unless(plain, Fault::Zero),
+    )
+}
+
+// x, and no more than most.
+pub fn at_most(most: u64, x: u64) -> u64
+    ensures { λ r. ⌜ r ≡ atMost most x ⌝ }
+{
+    if x <= most {
+        return x;
+    }
+    most
+}
+
+// What a digit says.
+fn worth(x: u8) -> u64
+    ensures { λ r. ⌜ r ≡ x - 48 ⌝ }
+{
+    if x < b'0' {
+        return 0;
+    }
+    (x - b'0') as u64
+}
+
+// One digit more, where that fits.
+fn tens(n: u64, d: u64) -> u64
+    ensures { λ r. ⌜ r ≡ atMost (2 ^ 64 - 1) (n * 10 + d) ⌝ }
+{
+    if n <= (18446744073709551615 - d) / 10 {
+        return n * 10 + d;
+    }
+    18446744073709551615
+}
+
+// The number that the digits v spell, and the largest where it does not fit.
+pub fn number(v: &[u8]) -> u64
+    ensures { λ r. ⌜ r ≡ atMost (2 ^ 64 - 1) (numeral 0 (now (v .entry))) ⌝ }
+{
+    let mut n: u64 = 0;
+    let mut i = 0;
+    while i < v.len() {
+        n = tens(n, worth(v[i]));
+        i += 1;
+    }
+    n
+}
