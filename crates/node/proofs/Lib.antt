@@ -10,3 +10,5 @@ pub mod Heards
 pub mod Served
 pub mod Copied
 pub mod Calls
+pub mod Demands
+pub mod Printed

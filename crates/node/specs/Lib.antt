@@ -4,3 +4,4 @@ pub mod Step
 pub mod Told
 pub mod Range
 pub mod Shape
+pub mod Sample

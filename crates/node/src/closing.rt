@@ -88,8 +88,8 @@ fn by_volume(l: Limits, c: Context, up: u32, down: u32) -> Told
     let v = c.containers;
     let a = open::left_after(v, c.count, l.volume);
     let b = open::spend(open::spend(a, c.uplink), up as u64);
-    let d = open::spend(open::spend(b, c.downlink), down as u64);
-    if d == 0 {
+    let left = open::spend(b, c.downlink);
+    if left <= down as u64 {
         return Told::With(16);
     }
     Told::Not

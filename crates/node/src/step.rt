@@ -42,9 +42,10 @@ pub struct Stepped {
 fn refused(node: Node, answer: u8) -> Stepped
     ensures { λ r. ⌜ (r .answer ≡ answer) × ((r .node ≡ node) × (r .written ≡ 0)) ⌝ }
 {
+    let same = node;
     Stepped {
         answer,
-        node,
+        node: same,
         written: 0,
     }
 }

@@ -19,11 +19,11 @@ add-if1 c = search needs
 
 returns : tie.Need-returns
 unfolding reached
-returns c = told-met (c .before .before .before .args .l .changes) (c .before .before .before .args .c .changes + 1) 19 (c .if1 .taken)
+returns c = told-met (c .before .before .before .args .l .changes) (c .before .before .before .args .c .changes + 1) 19 (omega (arith, c .if1 .taken))
 
 returns-2 : tie.Need-returns-2
 unfolding reached
-returns-2 c = told-below (c .before .before .before .args .l .changes) (c .before .before .before .args .c .changes + 1) 19 (c .if1 .left)
+returns-2 c = told-below (c .before .before .before .args .l .changes) (c .before .before .before .args .c .changes + 1) 19 (omega (arith, c .if1 .left))
 
 pub by-changes-spec : {M : Type 1} → statement M
 by-changes-spec = tie.close (tie.spec cast-if1 cast-if1-2 add-if1 returns returns-2)

@@ -20,20 +20,17 @@ spend-requires-2 c κs = search needs
 spend-requires-3 : tie.Need-spend-requires-3
 spend-requires-3 c κs = search needs
 
-spend-requires-4 : tie.Need-spend-requires-4
-spend-requires-4 c κs = search needs
-
 returns : tie.Need-returns
 returns c =
-    let a = c .before .before .before .before .before .before .before .args in
+    let a = c .before .before .before .before .before .before .args in
     told-met (a .l .volume) (volumeOf (used (a .c)) + (a .c .uplink + a .up) + (a .c .downlink + a .down)) 16
-    (omega (arith, c .before .before .before .before .before .left-after .ensures, c .before .before .before .before .spend .ensures, c .before .before .before .spend2 .ensures, c .before .before .spend3 .ensures, c .before .spend4 .ensures, c .if1 .taken))
+    (omega (arith, c .before .before .before .before .left-after .ensures, c .before .before .before .spend .ensures, c .before .before .spend2 .ensures, c .before .spend3 .ensures, c .if1 .taken))
 
 returns-2 : tie.Need-returns-2
 returns-2 c =
-    let a = c .before .before .before .before .before .before .before .args in
+    let a = c .before .before .before .before .before .before .args in
     told-below (a .l .volume) (volumeOf (used (a .c)) + (a .c .uplink + a .up) + (a .c .downlink + a .down)) 16
-    (omega (arith, c .before .before .before .before .before .left-after .ensures, c .before .before .before .before .spend .ensures, c .before .before .before .spend2 .ensures, c .before .before .spend3 .ensures, c .before .spend4 .ensures, c .if1 .left))
+    (omega (arith, c .before .before .before .before .left-after .ensures, c .before .before .before .spend .ensures, c .before .before .spend2 .ensures, c .before .spend3 .ensures, c .if1 .left))
 
 pub by-volume-spec : {M : Type 1} → statement M
 by-volume-spec =
@@ -43,6 +40,5 @@ by-volume-spec =
     spend-requires
     spend-requires-2
     spend-requires-3
-    spend-requires-4
     returns
     returns-2)
