@@ -11,7 +11,7 @@ ghost use lib.Dec.{leb};
 ghost use Rattle.profile.specs.Profile.{profileOk};
 ghost use Rattle.context.specs.Sound.{slotsOk};
 ghost use Rattle.context.specs.Slots.{distinct};
-ghost use Rattle.node.specs.Sound.{sound, latest, mostAccepted, Makes};
+ghost use Rattle.node.specs.Sound.{sound, latest, mostAccepted, noNode, Makes};
 
 // Does a node whose slots have these names keep every rule?
 pub fn keeps_rules(node: Node, names: [Slot; 16]) -> bool
@@ -35,6 +35,33 @@ pub fn is_sound(node: Node) -> bool
     keeps_rules(node, names)
 }
 
+// A node that is all zero: no node is made of a bad profile. It is unsound.
+pub fn no_node() -> Node
+    ensures { λ r. ⌜ r ≡ noNode ⌝ }
+{
+    let free = context::no_context();
+    let contexts = [free; 16];
+    let limits = Limits {
+        volume: 0,
+        seconds: 0,
+        changes: 0,
+    };
+    let nodeid = [0u8; 20];
+    let profile = Profile {
+        sgsn: 0,
+        limits,
+        zone: 0,
+        nodeid,
+        nodelen: 0,
+    };
+    Node {
+        profile,
+        clock: 0,
+        accepted: 0,
+        contexts,
+    }
+}
+
 // 0 and a node, or 12 and one that is all zero.
 pub struct Made {
     pub answer: u8,
@@ -45,9 +72,9 @@ pub struct Made {
 pub fn fresh(p: Profile) -> Made
     ensures { λ r. ⌜ Makes p (r .answer) (r .node) ⌝ }
 {
-    let free = context::no_context();
-    let contexts = [free; 16];
     if profile::profile_ok(p) {
+        let free = context::no_context();
+        let contexts = [free; 16];
         let node = Node {
             profile: p,
             clock: 0,
@@ -56,24 +83,6 @@ pub fn fresh(p: Profile) -> Made
         };
         return Made { answer: 0, node };
     }
-    let limits = Limits {
-        volume: 0,
-        seconds: 0,
-        changes: 0,
-    };
-    let nodeid = [0u8; 20];
-    let none = Profile {
-        sgsn: 0,
-        limits,
-        zone: 0,
-        nodeid,
-        nodelen: 0,
-    };
-    let node = Node {
-        profile: none,
-        clock: 0,
-        accepted: 0,
-        contexts,
-    };
+    let node = no_node();
     Made { answer: 12, node }
 }
