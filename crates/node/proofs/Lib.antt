@@ -10,3 +10,4 @@ pub mod Heards
 pub mod Served
 pub mod Copied
 pub mod Calls
+pub mod Kept

@@ -4,3 +4,5 @@ pub mod Step
 pub mod Told
 pub mod Range
 pub mod Shape
+pub mod Held
+pub mod Run
