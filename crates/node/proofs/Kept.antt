@@ -1,9 +1,9 @@
 -- A context that hears an event stays as it must be, and so is the record that it closes. Assumes nothing.
-use mathlib.Core.Path.{_≡_, refl, sym, ap, _∙_}
-use mathlib.Core.Bool.{Bool, true, false, cond}
+use mathlib.Core.Path.{_≡_, refl, sym}
+use mathlib.Core.Bool.{Bool, true, false}
 use mathlib.Core.Option.{Option, none, some}
-use mathlib.Core.List.{List, [], _∷_, _++_}
-use Prim.Native.Nat.{ℕ, _+_, _-_, _^_, _≤_, _<_}
+use mathlib.Core.List.{[], _∷_}
+use Prim.Native.Nat.{ℕ, _+_, _^_, _≤_, _<_}
 use native.Mathlib.Omega.{arith}
 use lib.Dec.{leb}
 use lib.ListN.{length, length-append}
@@ -13,13 +13,13 @@ use Rattle.calendar.specs.Stamp.{stampOk}
 use Rattle.container.specs.declared.Qos.{Qos}
 use Rattle.container.specs.Qos.{qosOk, sameQos}
 use Rattle.container.specs.Container.{containerOk}
-use Rattle.container.specs.List.{changes, padded}
+use Rattle.container.specs.List.{changes}
 use Rattle.container.specs.Open.{volumeOf}
 use Rattle.container.proofs.Goods.{qos-same}
 use Rattle.container.proofs.Opens.{volume-more, open-none, open-later, open-more, padded-rest}
 use Rattle.scdr.specs.declared.Record.{Record}
 use Rattle.scdr.specs.Rules.{shaped, within}
-use Rattle.scdr.specs.Layout.{scdr, rules}
+use Rattle.scdr.specs.Layout.{scdr}
 use Rattle.scdr.proofs.Tails.{take-padded, padded-length}
 use Rattle.scdr.proofs.Answering.{shaped-is}
 use Rattle.scdr.proofs.Theorems.{at-most-1024, round-trip}
@@ -34,7 +34,7 @@ use Rattle.history.specs.Table.{Step}
 use Rattle.history.proofs.Lists.{none≢some}
 use Rattle.node.specs.declared.Heard.{Heard}
 use Rattle.node.specs.declared.Heard.the-variants as H
-use Rattle.node.specs.Hear.{counted, reported, qosAfter, changeOf, reached, closing, isRelease, timeAt, ended, endedAll, changed, opened, recordOf, goesOn, closedBy, afterClosing, hearWith, hear, numberFor}
+use Rattle.node.specs.Hear.{counted, reported, qosAfter, changeOf, reached, closing, isRelease, ended, endedAll, changed, opened, recordOf, goesOn, closedBy, afterClosing, hearWith, hear, numberFor}
 use Rattle.node.specs.Told.{Fair, Apt}
 use Rattle.node.specs.Shape.{Shaped}
 use Rattle.node.specs.Held.{HeldContext, HeldProfile}
@@ -140,7 +140,7 @@ module _ (p : Profile) (t : ℕ) (c : Context) (a : Apt p t c) (w : Shaped c) wh
     shape = record { imsi = w .imsi; apn = w .apn; containers = w .containers };
   }
 
-  same-keeps : Keeps p t (a .due .accepted + 1) c c
+  pub same-keeps : Keeps p t (a .due .accepted + 1) c c
   same-keeps = counted-keeps (c .uplink) (c .downlink) (apt-good p t c a .volume)
 
   ended-ok : (k : ℕ) → k ≤ 2 → containerOk (ended p c t k) ≡ true

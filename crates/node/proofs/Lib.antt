@@ -11,3 +11,4 @@ pub mod Served
 pub mod Copied
 pub mod Calls
 pub mod Kept
+pub mod Brings
