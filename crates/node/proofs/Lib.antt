@@ -12,3 +12,4 @@ pub mod Copied
 pub mod Calls
 pub mod Kept
 pub mod Brings
+pub mod Tabled
