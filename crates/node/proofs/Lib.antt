@@ -13,3 +13,4 @@ pub mod Calls
 pub mod Kept
 pub mod Brings
 pub mod Tabled
+pub mod Filled
