@@ -14,3 +14,4 @@ pub mod Kept
 pub mod Brings
 pub mod Tabled
 pub mod Filled
+pub mod Sounded
