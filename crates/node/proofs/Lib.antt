@@ -15,3 +15,4 @@ pub mod Brings
 pub mod Tabled
 pub mod Filled
 pub mod Sounded
+pub mod Runs
