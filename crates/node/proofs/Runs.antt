@@ -10,7 +10,7 @@ use borrow.Author.Tests.{eqb-true, eqb-false, not-true}
 use Rattle.format.proofs.Tests.{by}
 use Rattle.profile.specs.declared.Limits.{Limits}
 use Rattle.profile.specs.declared.Profile.{Profile}
-use Rattle.profile.specs.Profile.{profileOk}
+use Rattle.profile.specs.Profile.{limitsOk, profileOk}
 use Rattle.event.specs.Fields.{timeOf}
 use Rattle.event.specs.Rows.{Row, row, firstFit, rows}
 use Rattle.context.specs.Context.{noContext}
@@ -18,7 +18,7 @@ use Rattle.context.specs.Sound.{slotsOk}
 use Rattle.context.specs.Slots.{slotOf, isActive, isFree, distinct}
 use Rattle.history.specs.Lists.{All}
 use Rattle.node.specs.declared.Node.{Node}
-use Rattle.node.specs.Sound.{sound, freshNode}
+use Rattle.node.specs.Sound.{sound, freshNode, noNode}
 use Rattle.node.specs.Step.{recordsOf, tableRows, laterRows, saidOf, refusals, outcome, stepOf}
 use Rattle.node.specs.Held.{Octets, HeldContext, HeldProfile, Held, Whole}
 use Rattle.node.specs.Run.{Call, after}
@@ -54,6 +54,11 @@ module _ (p : Profile) where
 
   pub fresh-whole : profileOk p ≡ true → HeldProfile p → Whole (freshNode p)
   fresh-whole ok h = record { sound = fresh-sound ok; held = fresh-held h }
+
+-- what is handed back with 12 is not sound
+pub no-node : sound noNode ≡ false
+unfolding sound profileOk limitsOk
+no-node = refl
 
 -- ---- one call
 
