@@ -16,3 +16,4 @@ pub mod Tabled
 pub mod Filled
 pub mod Sounded
 pub mod Runs
+pub mod Holds
