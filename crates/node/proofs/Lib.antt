@@ -12,3 +12,10 @@ pub mod Copied
 pub mod Calls
 pub mod Demands
 pub mod Printed
+pub mod Kept
+pub mod Brings
+pub mod Tabled
+pub mod Filled
+pub mod Sounded
+pub mod Runs
+pub mod Holds

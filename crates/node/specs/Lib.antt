@@ -5,3 +5,5 @@ pub mod Told
 pub mod Range
 pub mod Shape
 pub mod Sample
+pub mod Held
+pub mod Run

@@ -1,0 +1,154 @@
+-- What an accepted event brings is in range, and the context that an activate opens is as it must be. Assumes nothing.
+use mathlib.Core.Path.{_≡_, refl, sym, ap, _∙_}
+use mathlib.Core.Bool.{true}
+use mathlib.Core.List.{List, [], _∷_}
+use Prim.Native.Nat.{ℕ, zero, suc, _+_, _-_, _^_, _≤_, _<_}
+use native.Mathlib.Omega.{arith}
+use lib.ListN.{length, getD, replicate}
+use lib.Seq.{drop-append-seam}
+use borrow.Author.Tests.{le-leb}
+use Rattle.format.proofs.Tests.{true-T}
+use Rattle.ber.specs.Imsi.{imsiOk}
+use Rattle.ber.proofs.Imsis.{imsi-rules}
+use Rattle.container.specs.Qos.{qosOk}
+use Rattle.container.specs.Open.{volumeOf}
+use Rattle.container.proofs.Opens.{open-none, padded-rest}
+use Rattle.scdr.specs.Rules.{allOf, isZero, apnChar, apnOk}
+use Rattle.scdr.specs.Layout.{fillTo}
+use Rattle.scdr.proofs.Tails.{take-fill, fill-length, padded-length}
+use Rattle.profile.specs.declared.Profile.{Profile}
+use Rattle.profile.specs.Profile.{profileOk}
+use Rattle.event.specs.declared.Name.{Name}
+use Rattle.event.specs.declared.Activation.{Activation}
+use Rattle.event.specs.declared.Event.{Event}
+use Rattle.event.specs.declared.Event.the-variants as E
+use Rattle.event.specs.declared.Decoded.the-variants as D
+use Rattle.event.specs.Number.{be}
+use Rattle.event.specs.Fields.{kindOf}
+use Rattle.event.specs.Event.{trafficOf, eventOf, decoded}
+use Rattle.event.proofs.Theorems.{heard, activated as activate-in, profiled, released}
+use Rattle.context.specs.Sound.{contextOk}
+use Rattle.context.proofs.Sounds.{good-is}
+use Rattle.history.specs.Log.{Said, activates, tells, tellsAll, nothing}
+use Rattle.node.specs.declared.Heard.{Heard}
+use Rattle.node.specs.Step.{Brought, broughtBy, takes, activated}
+use Rattle.node.specs.Told.{Fair}
+use Rattle.node.specs.Held.{Octets, HeldContext}
+use Rattle.node.proofs.Fits.{fit}
+
+-- ---- numbers in octets
+
+octet-at : (s : List ℕ) → Octets s → (i : ℕ) → getD s i 0 < 256
+octet-at [] o i = omega arith
+octet-at (x ∷ s) o zero = o .0
+octet-at (x ∷ s) o (suc i) = octet-at s (o .1) i
+
+be-below : (k at : ℕ) (s : List ℕ) → Octets s → be k at s < 256 ^ k
+unfolding be
+be-below zero at s o = omega arith
+be-below (suc k) at s o = omega (arith, be-below k at s o, octet-at s o (at + k))
+
+-- ---- what is brought
+
+-- what an activate of this name must bring
+pub record Brings (m : Name) (b : Brought) : Type 0 where
+  pub flags : b .flags ≤ 3
+  pub imsi : imsiOk (b .imsi) ≡ true
+  pub least : 1 ≤ length (b .apn)
+  pub most : length (b .apn) ≤ 63
+  pub apn : allOf apnChar (b .apn) ≡ true
+  pub qos : qosOk (b .qos) ≡ true
+  pub id : m .id < 2 ^ 32
+  pub ggsn : m .ggsn < 2 ^ 32
+  pub pdptype : b .pdptype < 2 ^ 16
+  pub address : b .address < 2 ^ 32
+
+-- Of any event; none says nothing.
+abbrev pub Fairly : Said (Unit {0}) Name Brought Heard → Type 0
+Fairly (activates m b) = Brings m (b tt)
+Fairly (tells m h) = Fair h
+Fairly (tellsAll h) = Fair h
+Fairly nothing = ⊥
+
+-- octets that no row refuses say what is in range
+pub fair-said : (s : List ℕ) (e : Event) {t : ℕ} → Octets s → decoded s ≡ D.Said t e → Fairly (takes e s)
+unfolding eventOf
+fair-said s (E.Activate a) o d =
+    let x = activate-in s d in
+    let n = x .size in
+    record {
+      flags = x .flags;
+      imsi = x .imsi;
+      least = omega (arith, x .least);
+      most = omega (arith, x .most);
+      apn = x .apn;
+      qos = x .qos;
+      id = rw (x .is) (be-below 4 7 s o);
+      ggsn = rw (x .is) (be-below 4 11 s o);
+      pdptype = rw (x .is) (be-below 2 24 s o);
+      address = rw (x .is) (be-below 4 26 s o);
+    }
+fair-said s (E.Traffic n up down) o d =
+    let x = heard s d in
+    let k : kindOf s ≡ 2 = sym (x .kind) in
+    let g : E.Traffic n up down ≡ trafficOf s = x .event ∙ ap (λ (m : ℕ). eventOf m s) k in
+    let u : up ≡ be 4 15 s = cc in
+    let v : down ≡ be 4 19 s = cc in
+    (rw u (be-below 4 15 s o), rw v (be-below 4 19 s o))
+fair-said s (E.Profile n q) o d = profiled s d
+fair-said s E.Tariff o d = tt
+fair-said s (E.Release n c) o d = released s d
+fair-said s E.Tick o d = tt
+fair-said s (E.Management n) o d = tt
+
+-- ---- the context that it opens
+
+all-zero : (n : ℕ) → allOf isZero (replicate n 0) ≡ true
+unfolding allOf
+all-zero zero = refl
+all-zero (suc n) = all-zero n
+
+-- a name filled up with zeros
+filled-apn : (xs : List ℕ) → 1 ≤ length xs → length xs ≤ 63 → allOf apnChar xs ≡ true → apnOk (fillTo 63 0 xs) (length xs) ≡ true
+unfolding apnOk fillTo
+filled-apn xs l m a =
+    rw (le-leb 1 (length xs) l, le-leb (length xs) 63 m, take-fill 63 0 xs, a, drop-append-seam xs (replicate (63 - length xs) 0))
+    (all-zero (63 - length xs))
+
+module _ (p : Profile) (t : ℕ) (m : Name) (b : Brought) (r : Brings m b) where
+  pub activated-sound : profileOk p ≡ true → (accepted : ℕ) → contextOk (p .limits) (p .zone) t (accepted + 1) (activated p t m b) ≡ true
+  unfolding activated volumeOf
+  activated-sound ok accepted =
+      let f = fit p ok in
+      good-is (p .limits) (p .zone) t (accepted + 1) (activated p t m b) (record {
+        flags = r .flags;
+        imsi = r .imsi;
+        apn = filled-apn (b .apn) (r .least) (r .most) (r .apn);
+        qos = r .qos;
+        unused = padded-rest [];
+        closed = omega arith;
+        count = refl;
+        changes = f .some-changes;
+        zone = refl;
+        containers = open-none (p .zone) t (b .qos) t (omega arith);
+        volume = omega (arith, f .some-volume);
+      })
+
+  pub activated-held : HeldContext (activated p t m b)
+  unfolding activated
+  activated-held = record {
+    shape = record {
+      imsi = imsi-rules (b .imsi) (true-T (imsiOk (b .imsi)) (r .imsi)) .eight;
+      apn = fill-length 63 0 (b .apn) (r .most);
+      containers = padded-length [] (omega arith);
+    };
+    id = r .id;
+    ggsn = r .ggsn;
+    pdptype = r .pdptype;
+    address = r .address;
+  }
+
+-- so of an activate that is said
+pub activate-sound : (p : Profile) (s : List ℕ) {t : ℕ} {a : Activation} → profileOk p ≡ true → Octets s → decoded s ≡ D.Said t (E.Activate a) → (accepted : ℕ)
+    → contextOk (p .limits) (p .zone) t (accepted + 1) (activated p t (a .name) (broughtBy a s)) ≡ true
+activate-sound p s {t} {a} ok o d accepted = activated-sound p t (a .name) (broughtBy a s) (fair-said s (E.Activate a) o d) ok accepted
