@@ -1,0 +1,70 @@
+/* The charging node for a host in C: the static library libhost.a (rt staticlib host), built for x86-64.
+ *
+ * The node is one value that the host holds: it may lie anywhere, and nothing of it is kept elsewhere. Its fields may be read; whatever
+ * they hold, every call answers (13 for a node that breaks a rule). Padding is unspecified, so nodes are compared field by field.
+ * A slice is a pointer and a length; no pointer is null, at length 0 either, and what is lent does not overlap. */
+#ifndef CHARGING_H
+#define CHARGING_H
+
+#include <stddef.h>
+#include <stdint.h>
+
+#define CHARGING_CONTEXTS 16
+#define CHARGING_CONTAINERS 15
+/* what an event writes at most: sixteen records of 1,024 octets, each after its mark */
+#define CHARGING_MOST_OUTPUT (16 * (2 + 1024))
+
+struct charging_name { uint32_t id, ggsn; };
+struct charging_qos { uint8_t reliability, delay, precedence, peak, mean; };
+/* local seconds since 2000-01-01 00:00:00, and minutes from universal time plus 720 */
+struct charging_stamp { uint32_t seconds; uint16_t zone; };
+struct charging_container {
+    struct charging_qos qos;
+    uint64_t uplink, downlink;
+    uint8_t condition;
+    struct charging_stamp time;
+};
+struct charging_context {
+    uint8_t active, flags;
+    struct charging_name name;
+    uint8_t imsi[8];
+    uint8_t apn[63];
+    size_t apnlen;
+    uint16_t pdptype;
+    uint32_t address;
+    struct charging_qos qos;
+    uint64_t uplink, downlink;
+    struct charging_stamp opening;
+    uint8_t changes;
+    struct charging_container containers[CHARGING_CONTAINERS];
+    size_t count;
+    uint64_t closed;
+};
+struct charging_limits { uint64_t volume; uint32_t seconds; uint8_t changes; };
+struct charging_profile {
+    uint32_t sgsn;
+    struct charging_limits limits;
+    uint16_t zone;
+    uint8_t nodeid[20];
+    size_t nodelen;
+};
+struct charging_node {
+    struct charging_profile profile;
+    uint32_t clock;
+    uint64_t accepted;
+    struct charging_context contexts[CHARGING_CONTEXTS];
+};
+
+_Static_assert(sizeof(struct charging_container) == 40, "a container has 40 octets");
+_Static_assert(sizeof(struct charging_context) == 760, "a context has 760 octets");
+_Static_assert(sizeof(struct charging_node) == 12232, "a node has 12,232 octets");
+
+/* 0, or 12: then line is the line of the text that does not read, or 0 where a value is out of range, and the node is all zero. */
+struct charging_start { uint8_t answer, line; };
+struct charging_start charging_fresh(struct charging_node *node, const uint8_t *text, size_t text_len);
+
+/* 0 and how many octets were written from out's start, or the number of a refusal and 0: then the node and out are as they were. */
+struct charging_answer { uint8_t answer; size_t written; };
+struct charging_answer charging_step(struct charging_node *node, const uint8_t *event, size_t event_len, uint8_t *out, size_t out_len);
+
+#endif
