@@ -31,7 +31,7 @@ fn moved(s: State, place: Place, going: bool) -> State {
     }
 }
 
-// One call. The buffer that it is lent has as many octets as it has room.
+// One call. The buffer that it is lent has as many octets as it has room, which are never more than there are.
 fn called(s: State, event: &[u8], room: usize, out: &mut [u8]) -> State {
     let place = s.place;
     if out.len() < room {
