@@ -103,6 +103,7 @@ const NAMES: &[&str] = &[
     "charging ID 32768",
     "charging ID with its top bit set",
     "number 128 or above",
+    "number 32,768 or above",
     "sole record by 0",
     "sole record by 4",
     "sole record by 18",
@@ -449,6 +450,7 @@ impl Aims {
         self.met("charging ID 32768", id == 32768);
         self.met("charging ID with its top bit set", id >= 1 << 31);
         self.met("number 128 or above", record.number.is_some_and(|n| n >= 128));
+        self.met("number 32,768 or above", record.number.is_some_and(|n| n >= 32_768));
         let sole = record.number.is_none();
         self.met("sole record by 0", sole && record.cause == 0);
         self.met("sole record by 4", sole && record.cause == 4);

@@ -36,6 +36,7 @@ faults! {
     ServedAddressBare "served-address-bare" "the served address without its A0",
     VolumesKept "volumes-kept" "a container's volumes go on in the next container",
     ChangesKept "changes-kept" "the change count is not reset by a closing for another cause",
+    NumberInTwo "number-in-two" "numbers from 32,768 in two octets",
     NumberKept "number-kept" "an activation goes on with the numbers of the slot's last one",
     OldQos "old-qos" "after cause 19 the next record opens with the old QoS",
     NewQosInOld "new-qos-in-old" "a container ended by a QoS change holds the new QoS",

@@ -98,6 +98,16 @@ fn charging_id(id: u32, fault: Fault) -> Vec<u8> {
     integer(u64::from(id))
 }
 
+/// "95 sequence number"
+fn sequence_number(number: u64, fault: Fault) -> Vec<u8> {
+    match u16::try_from(number) {
+        Ok(number) if fault == Fault::NumberInTwo && number >= 0x8000 => {
+            number.to_be_bytes().to_vec()
+        }
+        _ => integer(number),
+    }
+}
+
 /// "Duration: last container time minus opening."
 fn duration(record: &Record, fault: Fault) -> u64 {
     let from =
@@ -141,7 +151,7 @@ pub fn octets(record: &Record, fault: Fault) -> Vec<u8> {
     }
     inside.extend(f(0x93, &integer(u64::from(record.cause))));
     if let Some(number) = record.number {
-        inside.extend(f(0x95, &integer(number)));
+        inside.extend(f(0x95, &sequence_number(number, fault)));
     }
     if !record.node_id.is_empty() || fault == Fault::EmptyNodeId {
         inside.extend(f(0x96, &record.node_id));

@@ -1,6 +1,8 @@
-//! generate SEED COUNT DIR: writes DIR/001.profile, DIR/001.calls and so on,
+//! generate SEED COUNT DIR: writes DIR/000.profile, DIR/000.calls and so on,
 //! altogether COUNT calls. The model runs beside it, so that the generator can
 //! aim at limits, rooms and names.
+//! generate numbers DIR: writes DIR/numbers.profile and DIR/numbers.calls, in
+//! which one activation closes 32,776 records.
 
 use charging_model::clock::{day_of, LAST_SECOND};
 use charging_model::event::{self, octets, Name, Qos, Start, What, QOS_HIGHEST};
@@ -14,6 +16,8 @@ use std::process::ExitCode;
 
 const CALLS_OF_A_RUN: usize = 2_500;
 const ROOM: usize = 20_000;
+/// One more closes at the release; from 32,768 on a number takes three octets.
+const RECORDS: usize = 32_775;
 
 const IDS: [u32; 18] = [
     0,
@@ -940,6 +944,32 @@ impl Run {
         }
     }
 
+    /// Records of one activation by each cause that lets the next one open, up
+    /// to its release; then the same name is a new activation.
+    fn many_numbers(&mut self) {
+        self.activate_now();
+        let name = self.active_name().unwrap();
+        for at in 0..RECORDS {
+            let now = self.node.clock;
+            let context = self.node.slots.iter().flatten().next().unwrap();
+            let mut qos = context.qos;
+            qos[4] = (qos[4] + 1) % 19;
+            let (time, what) = match at % 5 {
+                0 => (now, What::Management(name)),
+                1 => (now, What::Traffic(name, 0, 1)),
+                2 => (now, What::Qos(name, qos)),
+                3 => (now, What::Tariff),
+                _ => (now + 1, What::Tick),
+            };
+            self.call(&octets(time, &what), ROOM);
+        }
+        let now = self.node.clock;
+        self.call(&octets(now, &What::Release(name, 0)), ROOM);
+        let start = self.start();
+        self.call(&octets(now, &What::Activate(name, Box::new(start))), ROOM);
+        self.call(&octets(now, &What::Management(name)), ROOM);
+    }
+
     /// A whole run.
     fn fill_up(&mut self, run: usize) {
         if run == 0 {
@@ -980,6 +1010,25 @@ impl Run {
     }
 }
 
+impl Run {
+    fn write(&self, folder: &Path, name: &str) -> std::io::Result<()> {
+        std::fs::write(folder.join(format!("{name}.profile")), self.node.profile.text())?;
+        std::fs::write(folder.join(format!("{name}.calls")), &self.calls)
+    }
+}
+
+fn generate_numbers(folder: &Path) -> std::io::Result<()> {
+    std::fs::create_dir_all(folder)?;
+    let mut one = Run::new(0, 0, usize::MAX);
+    let profile =
+        Profile { volume_limit: 1, time_limit: 1, change_limit: 1, ..one.node.profile.clone() };
+    one.node = Node::fresh(profile);
+    one.many_numbers();
+    one.write(folder, "numbers")?;
+    println!("{} calls in the run of numbers", one.count);
+    Ok(())
+}
+
 fn generate(seed: u64, count: usize, folder: &Path) -> std::io::Result<()> {
     std::fs::create_dir_all(folder)?;
     let mut left = count;
@@ -989,8 +1038,7 @@ fn generate(seed: u64, count: usize, folder: &Path) -> std::io::Result<()> {
         let mut one = Run::new(seed, run, most);
         one.fill_up(run);
         assert_eq!(one.count, most);
-        std::fs::write(folder.join(format!("{run:03}.profile")), one.node.profile.text())?;
-        std::fs::write(folder.join(format!("{run:03}.calls")), &one.calls)?;
+        one.write(folder, &format!("{run:03}"))?;
         left -= most;
         run += 1;
     }
@@ -1000,17 +1048,25 @@ fn generate(seed: u64, count: usize, folder: &Path) -> std::io::Result<()> {
 
 fn main() -> ExitCode {
     let args: Vec<String> = std::env::args().skip(1).collect();
-    if let [seed, count, folder] = &args[..] {
-        if let (Ok(seed), Ok(count)) = (seed.parse(), count.parse()) {
-            return match generate(seed, count, Path::new(folder)) {
-                Ok(()) => ExitCode::SUCCESS,
-                Err(error) => {
-                    eprintln!("generate: {folder}: {error}");
-                    ExitCode::from(2)
-                }
-            };
+    let args: Vec<&str> = args.iter().map(String::as_str).collect();
+    let (done, folder) = match args[..] {
+        ["numbers", folder] => (generate_numbers(Path::new(folder)), folder),
+        [seed, count, folder] => match (seed.parse(), count.parse()) {
+            (Ok(seed), Ok(count)) => (generate(seed, count, Path::new(folder)), folder),
+            _ => return usage(),
+        },
+        _ => return usage(),
+    };
+    match done {
+        Ok(()) => ExitCode::SUCCESS,
+        Err(error) => {
+            eprintln!("generate: {folder}: {error}");
+            ExitCode::from(2)
         }
     }
-    eprintln!("usage: generate SEED COUNT DIR");
+}
+
+fn usage() -> ExitCode {
+    eprintln!("usage: generate SEED COUNT DIR, or generate numbers DIR");
     ExitCode::from(2)
 }
