@@ -1,6 +1,7 @@
 pub mod Tails
 pub mod Views
 pub mod Theorems
+pub mod Listed
 pub mod Printed
 pub mod Bodies
 pub mod Answering

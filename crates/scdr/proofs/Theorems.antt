@@ -151,7 +151,7 @@ pub good-is-rules : (r : Record) → scdr .good r ↔ T (rules r)
 unfolding scdr inside
 good-is-rules r = (λ g. g .0 .1, λ t. ((rules-body r t, t), tt))
 
-inside-law : Law inside
+pub inside-law : Law inside
 unfolding inside body
 inside-law = viewed-law durationRight rules toRecord ofRecord body (Layout .law) fields-back record-back
 

@@ -1,0 +1,32 @@
+-- A record list: records one after another, "each record follows the mark C3 5A" (01, "The record's octets"). Assumes nothing.
+use mathlib.Core.Bool.{Bool, cond, _&&_}
+use mathlib.Core.Option.{Option, none, some}
+use mathlib.Core.List.{List, [], _∷_, _++_}
+use Prim.Native.Nat.{ℕ, zero, suc}
+use lib.Dec.{eqb}
+use lib.ListN.{length, getD, drop}
+use Rattle.format.specs.Maybe.{bind}
+use Rattle.ber.specs.Field.{first}
+use Rattle.scdr.specs.declared.Record.{Record}
+use Rattle.scdr.specs.Layout.{inside, scdr}
+
+-- the octets of a list
+unfoldable pub listEnc : List Record → List ℕ
+listEnc [] = []
+listEnc (r ∷ rs) = 0xC3 ∷ 0x5A ∷ (scdr .enc r ++ listEnc rs)
+
+-- the mark stands at the front
+unfoldable pub markAt : List ℕ → Bool
+markAt s = eqb (getD s 0 0) 0xC3 && eqb (getD s 1 0) 0x5A
+
+-- read mark by mark: a mark, the S-CDR that follows it, and so on to the end, which comes after n records at most
+unfoldable pub listDec : ℕ → List ℕ → Option (List Record)
+listDec zero [] = some []
+listDec zero (x ∷ s) = none
+listDec (suc n) [] = some []
+listDec (suc n) (x ∷ s) =
+    cond (markAt (x ∷ s)) (bind (first 0xA0 inside (drop 2 (x ∷ s))) (λ p. bind (listDec n (p .1)) (λ rs. some (p .0 ∷ rs)))) none
+
+-- the list whose octets s is, if it reads in full
+unfoldable pub recordList : List ℕ → Option (List Record)
+recordList s = listDec (length s) s
