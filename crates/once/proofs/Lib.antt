@@ -1,1 +1,2 @@
 pub mod Hears
+pub mod Handles
