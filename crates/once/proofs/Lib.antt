@@ -1,3 +1,4 @@
 pub mod Hears
 pub mod Handles
 pub mod Steps
+pub mod Serving

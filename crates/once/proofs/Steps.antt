@@ -88,7 +88,7 @@ fits n s b e =
     }
 
 -- the table takes the event
-admitted : (p : Profile) (w : Said (Unit {0}) Name Force Heard) (os : List (Option Context)) → step.notActive p (said w) os ≡ false
+pub admitted : (p : Profile) (w : Said (Unit {0}) Name Force Heard) (os : List (Option Context)) → step.notActive p (said w) os ≡ false
     → step.isActive p (said w) os ≡ false → step.allTaken (said w) os ≡ false → admits (handling p) w os ≡ true
 unfolding step.notActive step.isActive step.allTaken
 admitted p (activates m s) os a i r = rw (← active-alike p m os, i, not-false (table.free os) r)
