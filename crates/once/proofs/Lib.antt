@@ -2,3 +2,4 @@ pub mod Hears
 pub mod Handles
 pub mod Steps
 pub mod Serving
+pub mod Once
