@@ -3,3 +3,4 @@ pub mod Handles
 pub mod Steps
 pub mod Serving
 pub mod Once
+pub mod Billed
