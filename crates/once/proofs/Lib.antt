@@ -4,3 +4,4 @@ pub mod Steps
 pub mod Serving
 pub mod Once
 pub mod Billed
+pub mod Session
