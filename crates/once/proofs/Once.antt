@@ -20,7 +20,7 @@ use Rattle.node.specs.Sound.{freshNode, freshOf}
 use Rattle.once.specs.Charging.{rules, meaning, forms}
 use Rattle.once.specs.Once.{Call, nodeNow, marked, machine, sight, outputs, Once}
 use Rattle.once.proofs.Handles.{handling, sound}
-use Rattle.once.proofs.Steps.{wrote, octets-are, lengths-are, buffer-is}
+use Rattle.once.proofs.Steps.{wrote, octets-are, lengths-are, lengths-fit, buffer-is}
 use Rattle.once.proofs.Serving.{State, state, node, calls, view, served, run-is, written-is, log-is}
 
 -- the octets of all calls are the records of all calls
@@ -57,6 +57,7 @@ every-octet-once p ok cs = record {
   records = wrote;
   octets = octets-are;
   lengths = lengths-are;
+  fit = lengths-fit;
   others = buffer-is;
   all-octets = outputs-are cs (freshNode p);
   demand = charged p cs;

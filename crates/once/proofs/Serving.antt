@@ -84,8 +84,8 @@ module _ (p : Profile) where
 
   abbrev pub calls : Machine State Call (List ℕ) scdr.Record
   calls = record {
-    holds = λ c. record { time = timeOf (c .event); event = c .event } ∷ [];
-    applies = λ a c. ifZero (answer (node a) c);
+    holds = machine wrote .holds;
+    applies = λ a c. machine wrote .applies (node a) c;
     after = λ a c. state (nodeNow (node a) c);
     writes = λ a c. wrote (node a) c;
   }

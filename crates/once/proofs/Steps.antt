@@ -53,13 +53,14 @@ unfolding firstFit
 peel k true rs z e = absurd (z e)
 peel k false rs z e = (refl, e)
 
--- none of 3, 6, 8, 9 and 10 fits
+-- none of 3, 6, 8, 9, 10 and 11 fits
 pub record Fits (n : Node) (s b : List ℕ) : Type 0 where
   pub kind : known s ≡ true
   pub since : n .clock ≤ timeOf s
   pub active : step.notActive (n .profile) (step.saidOf s) (step.slots n) ≡ false
   pub inactive : step.isActive (n .profile) (step.saidOf s) (step.slots n) ≡ false
   pub room : step.allTaken (step.saidOf s) (step.slots n) ≡ false
+  pub short : length (step.output n (timeOf s) (step.saidOf s)) ≤ length b
 
 or-false : (a b : Bool) → (a || b) ≡ false → b ≡ false
 or-false true b e = absurd (let z : _≡_ {A = ℕ} 0 1 = cc in omega arith)
@@ -79,12 +80,14 @@ fits n s b e =
     let a8 = peel _ _ _ (λ z. omega arith) (a7 .1) in
     let a9 = peel _ _ _ (λ z. omega arith) (a8 .1) in
     let a10 = peel _ _ _ (λ z. omega arith) (a9 .1) in
+    let a11 = peel _ _ _ (λ z. omega arith) (a10 .1) in
     record {
       kind = not-false (known s) (a3 .0);
       since = ltb-false (timeOf s) (n .clock) (or-false (ltb latest (timeOf s)) _ (a6 .0));
       active = a8 .0;
       inactive = a9 .0;
       room = a10 .0;
+      short = ltb-false (length b) (length (step.output n (timeOf s) (step.saidOf s))) (a11 .0);
     }
 
 -- the table takes the event
@@ -181,6 +184,9 @@ module _ (n : Node) (c : Call) where
 
   pub lengths-are : lengthNow n c ≡ length (marked (wrote n c))
   lengths-are = called (λ z. z .lengths ∙ ap length (output-is z)) (λ z. z .lengths ∙ ap (λ (rs : List scdr.Record). length (marked rs)) (sym (wrote-none z)))
+
+  pub lengths-fit : lengthNow n c ≤ length (c .buffer)
+  lengths-fit = called (λ z. omega (arith, z .lengths, z .fits .short)) (λ z. omega (arith, z .lengths))
 
   pub buffer-is : bufferNow n c ≡ marked (wrote n c) ++ drop (lengthNow n c) (c .buffer)
   buffer-is =

@@ -2,7 +2,7 @@
 -- included, and about nothing else of the node. Assumes nothing.
 use mathlib.Core.Path.{_≡_}
 use mathlib.Core.List.{List, [], _∷_, _++_}
-use Prim.Native.Nat.{ℕ}
+use Prim.Native.Nat.{ℕ, _≤_}
 use lib.ListN.{length, take, drop}
 use Rattle.scdr.specs.declared.Record as scdr
 use Rattle.scdr.specs.Layout as layout
@@ -78,11 +78,12 @@ outputs n (c ∷ cs) = octetsNow n c ++ outputs (nodeNow n c) cs
 pub record Once (p : Profile) (calls : List Call) : Type 0 where
   -- The fresh node is made.
   pub made : _≡_ {A = ℕ × Node} (freshOf p) (0, freshNode p)
-  -- There are records that the calls write, and on every node a call writes these with their marks, in order, from the buffer's
-  -- start, and nothing else: later octets are as before, and the written length is that of these octets.
+  -- There are records that calls write, whichever node they meet: what a call writes is these with their marks, in order, from the
+  -- buffer's start, and nothing else. The written length is that of these octets, they fit, and later octets are as before.
   pub records : Node → Call → List scdr.Record
   pub octets : (n : Node) (c : Call) → octetsNow n c ≡ marked (records n c)
   pub lengths : (n : Node) (c : Call) → lengthNow n c ≡ length (marked (records n c))
+  pub fit : (n : Node) (c : Call) → lengthNow n c ≤ length (c .buffer)
   pub others : (n : Node) (c : Call) → bufferNow n c ≡ marked (records n c) ++ drop (lengthNow n c) (c .buffer)
   -- So all the octets that these calls write are these records.
   pub all-octets : outputs (freshNode p) calls ≡ marked (written (machine records) (freshNode p) calls)
