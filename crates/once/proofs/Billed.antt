@@ -1,0 +1,134 @@
+-- What every octet once says of all that is billed and stored under a name, whatever records it is met by: the containers in the
+-- records and then in the stored context are the finished stretches of its histories, once each, in order; with what runs they make
+-- up all that was reported of it by name, up and down. And a record's duration is what the history says. Assumes nothing.
+use mathlib.Core.Path.{_≡_, refl, sym, ap, _∙_}
+use mathlib.Core.Bool.{Bool, true, false, cond}
+use mathlib.Core.Option.{Option, none, some}
+use mathlib.Core.List.{List, [], _∷_, _++_, map}
+use Prim.Native.Nat.{ℕ, _+_, _-_}
+use native.Mathlib.Nat.{add-zero}
+use native.Mathlib.Omega.{arith}
+use lib.Dec.{eqb}
+use lib.ListN.{take}
+use Rattle.format.proofs.Tests.{by}
+use Rattle.container.specs.declared.Container.{Container}
+use Rattle.scdr.specs.declared.Record as scdr
+use Rattle.scdr.specs.Rules.{lastTime, duration}
+use Rattle.scdr.proofs.Tails.{take-padded}
+use Rattle.profile.specs.declared.Profile.{Profile}
+use Rattle.event.specs.declared.Name.{Name}
+use Rattle.event.specs.Fields.{kindOf}
+use Rattle.context.specs.declared.Context.{Context}
+use Rattle.context.specs.Context.{used}
+use Rattle.history.specs.Lists.{each, sumOf, All, isSome}
+use Rattle.history.specs.History.{History, start, _▸_∶_, began}
+use Rattle.history.specs.Records.{Rules, Stretch, Record, Open, number, sinceOpening, running, stretches, closings, closes, recordsAt, records}
+use Rattle.history.specs.Log.{tellsAll, reported}
+use Rattle.history.specs.Run.{Machine, run, log}
+use Rattle.history.specs.Run as run
+use Rattle.history.specs.Demand as demand
+use Rattle.history.proofs.Lists.{each-map, map-append}
+use Rattle.history.proofs.Records.{records-closing, records-none}
+use Rattle.history.proofs.Everything as everything
+use Rattle.node.specs.declared.Node.{Node}
+use Rattle.node.specs.Sound.{freshNode}
+use Rattle.once.specs.Charging.{Force, Heard, says, same, meaning, up, down, rules, container, forms}
+use Rattle.once.specs.Charging as charging
+use Rattle.once.specs.Once.{Call, machine, sight, Once}
+
+-- ---- what every context hears reports nothing
+
+module _ (counts : Heard → ℕ) (tariff : counts Heard.tariff ≡ 0) (tick : counts Heard.tick ≡ 0) where
+  uncounted : (s : List ℕ) (e : Heard) → says s ≡ tellsAll e → counts e ≡ 0
+  unfolding says
+  uncounted s e i =
+      let k = kindOf s in
+      by (eqb k 1) (λ a. let j = rw a at i in absurd (let z : _≡_ {A = ℕ} 0 1 = cc in omega arith))
+      (λ a. by (eqb k 2) (λ b. let j = rw (a, b) at i in absurd (let z : _≡_ {A = ℕ} 0 1 = cc in omega arith))
+      (λ b. by (eqb k 3) (λ c. let j = rw (a, b, c) at i in absurd (let z : _≡_ {A = ℕ} 0 1 = cc in omega arith))
+      (λ c. by (eqb k 4) (λ d. let j = rw (a, b, c, d) at i in let q : Heard.tariff ≡ e = cc in rw q at tariff)
+      (λ d. by (eqb k 5) (λ f. let j = rw (a, b, c, d, f) at i in absurd (let z : _≡_ {A = ℕ} 0 1 = cc in omega arith))
+      (λ f. by (eqb k 6) (λ g. let j = rw (a, b, c, d, f, g) at i in let q : Heard.tick ≡ e = cc in rw q at tick)
+      (λ g. by (eqb k 7) (λ h. let j = rw (a, b, c, d, f, g, h) at i in absurd (let z : _≡_ {A = ℕ} 0 1 = cc in omega arith))
+      (λ h. let j = rw (a, b, c, d, f, g, h) at i in absurd (let z : _≡_ {A = ℕ} 0 1 = cc in omega arith))))))))
+
+-- ---- of any calls
+
+-- the containers of an S-CDR
+abbrev pub listed : scdr.Record → List Container
+listed r = take (r .count) (r .containers)
+
+module _ (p : Profile) (cs : List Call) (o : Once p cs) (n : Name) where
+  abbrev X : Machine Node Call (List ℕ) scdr.Record
+  X = machine (o .records)
+
+  -- the records billed under the name, and the context stored under it, if there is one
+  abbrev pub billed : List scdr.Record
+  billed = demand.under same (sight .nameOf) n (each (sight .kindred) (run.written X (freshNode p) cs))
+
+  abbrev pub kept : List Context
+  kept = demand.under same (sight .name) n (demand.stored (sight .slots (run X (freshNode p) cs)))
+
+  abbrev pub histories : List (History Force Heard)
+  histories = demand.historiesOf (rules (p .limits)) meaning (forms p) sight X (freshNode p) tt cs n
+
+  carried : (r : Record Force Heard) → listed (charging.written p n r) ≡ each (λ x. container p x ∷ []) (r .stretches)
+  carried r = take-padded (map (container p) (r .stretches)) ∙ sym (each-map (container p) (r .stretches))
+
+  carries : (s : Open Force Heard) → used (charging.stored p n s) ≡ each (λ x. container p x ∷ []) (s .stretches)
+  carries s = take-padded (map (container p) (s .stretches)) ∙ sym (each-map (container p) (s .stretches))
+
+  pub containers-once : each listed billed ++ each used kept ≡ each (λ h. map (container p) (stretches (rules (p .limits)) h)) histories
+  containers-once =
+      everything.containers-once (rules (p .limits)) (forms p) n (λ x. container p x ∷ []) listed used carried carries meaning sight X (freshNode p) tt cs (o .demand n)
+      ∙ go histories
+    where
+      go : (hs : List (History Force Heard))
+          → each (λ h. each (λ x. container p x ∷ []) (stretches (rules (p .limits)) h)) hs ≡ each (λ h. map (container p) (stretches (rules (p .limits)) h)) hs
+      go [] = refl
+      go (h ∷ hs) = rw (each-map (container p) (stretches (rules (p .limits)) h), go hs)
+
+  -- octets up, and octets down
+  pub uplink-once : sumOf (λ c. c .uplink) (each listed billed ++ each used kept) + sumOf (λ c. c .uplink) kept
+      ≡ reported (rules (p .limits)) meaning n up (log X (freshNode p) cs)
+  uplink-once =
+      everything.octets-once (rules (p .limits)) (forms p) n (λ x. container p x ∷ []) listed used carried carries meaning sight X (freshNode p) tt cs (o .demand n) up
+      (uncounted up refl refl) (λ c. c .uplink) (λ c. c .uplink) (λ x. add-zero _) (λ s. refl)
+
+  pub downlink-once : sumOf (λ c. c .downlink) (each listed billed ++ each used kept) + sumOf (λ c. c .downlink) kept
+      ≡ reported (rules (p .limits)) meaning n down (log X (freshNode p) cs)
+  downlink-once =
+      everything.octets-once (rules (p .limits)) (forms p) n (λ x. container p x ∷ []) listed used carried carries meaning sight X (freshNode p) tt cs (o .demand n) down
+      (uncounted down refl refl) (λ c. c .downlink) (λ c. c .downlink) (λ x. add-zero _) (λ s. refl)
+
+-- ---- durations: from a record's opening to the event that closed it
+
+last-time : (xs : List Container) (x : Container) (t : ℕ) → lastTime t (xs ++ (x ∷ [])) ≡ x .time .seconds
+unfolding lastTime
+last-time [] x t = refl
+last-time (y ∷ xs) x t = last-time xs x (y .time .seconds)
+
+all-append : {A : Type 0} (P : A → Type 0) (xs ys : List A) → All P xs → All P ys → All P (xs ++ ys)
+all-append P [] ys a b = b
+all-append P (x ∷ xs) ys a b = (a .0, all-append P xs ys (a .1) b)
+
+module _ (p : Profile) (n : Name) where
+  abbrev R : Rules Force Heard
+  R = rules (p .limits)
+
+  abbrev pub Lasts : Record Force Heard → Type 0
+  Lasts r = duration (charging.written p n r) ≡ r .time - began (r .past)
+
+  lasts : (k : Option ℕ) (c : ℕ) (r : History Force Heard) (xs : List (Stretch Force Heard)) (x : Stretch Force Heard)
+      → Lasts (record { number = k; cause = c; past = r; time = x .time; event = x .event; stretches = xs ++ (x ∷ []) })
+  unfolding duration
+  lasts k c r xs x =
+      rw (take-padded (map (container p) (xs ++ (x ∷ []))), map-append (container p) xs (x ∷ []), last-time (map (container p) xs) (container p x) (began r))
+
+  pub durations : (h : History Force Heard) → All Lasts (records R h)
+  durations (start t s) = tt
+  durations (h ▸ t ∶ e) = all-append Lasts (records R h) (recordsAt R h t e) (durations h) (go (closes R h t e) refl)
+    where
+      go : (o : Option ℕ) → closes R h t e ≡ o → All Lasts (recordsAt R h t e)
+      go none q = rw (records-none R h t e q) tt
+      go (some c) q = rw (records-closing R h t e c q) (lasts (number (closings R h) (isSome (R .release e))) c (sinceOpening R h) (stretches R (sinceOpening R h)) (record { ran = running R h; time = t; event = e; condition = 2 }), tt)

@@ -1,0 +1,131 @@
+-- 01's "One session, whole", by the definitions: the histories of its events, the records that they make, and 01's octets.
+-- Assumes nothing.
+use mathlib.Core.Path.{_≡_, refl, ap, _∙_}
+use mathlib.Core.Option.{none, some}
+use mathlib.Core.List.{List, [], _∷_, _++_, map}
+use Prim.Native.Nat.{ℕ}
+use lib.ListN.{take, replicate}
+use Rattle.format.proofs.Formats.{eqs-eq}
+use Rattle.container.specs.declared.Container.{Container}
+use Rattle.container.specs.Qos.{sameQos}
+use Rattle.container.specs.List.{noContainers}
+use Rattle.scdr.specs.declared.Record as scdr
+use Rattle.scdr.specs.Layout.{fillTo}
+use Rattle.scdr.specs.Rules.{lastTime, duration}
+use Rattle.scdr.specs.Sample.{only, sample, printed}
+use Rattle.scdr.proofs.Printed.{sample-octets}
+use Rattle.profile.specs.Sample.{session}
+use Rattle.event.specs.declared.Name.{Name}
+use Rattle.event.specs.Number.{be}
+use Rattle.event.specs.Sample.{activate, traffic, released}
+use Rattle.history.specs.History.{History, start, _▸_∶_}
+use Rattle.history.specs.Records.{Rules, records}
+use Rattle.history.specs.Log.{Accepted, histories}
+use Rattle.once.specs.Charging.{Force, Heard, says, meaning, activation, rules, container, written}
+use Rattle.ber.specs.Int.{intEnc, lowest}
+use Rattle.ber.specs.Length.{lenEnc}
+use Rattle.ber.specs.Tlv.{tlvEnc}
+use Rattle.ber.specs.Imsi.{halves, leading, allF, imsiOk, imsiEnc}
+use Rattle.calendar.specs.Month.{monthLen, seek, monthDay}
+use Rattle.calendar.specs.Stamp.{stampOk, stampEnc}
+use Rattle.container.specs.Qos.{qosOk}
+use Rattle.container.specs.List.{eachOk, oneOffset, isBlank, blanks}
+use Rattle.container.specs.Open.{midway, timesTo, qosRun, openOk, volumeOf}
+use Rattle.scdr.specs.Rules.{allOf, apnChar, nodeChar, apnOk, nodeOk, release}
+use Rattle.scdr.specs.Layout as layout
+use Rattle.profile.specs.Profile.{limitsOk, profileOk}
+use Rattle.event.specs.Fields as fields
+use Rattle.event.specs.Fields.{wholeLength, activateOk}
+use Rattle.event.specs.Rows as rows
+use Rattle.event.specs.Rows.{firstFit, known, measured}
+use Rattle.event.specs.Event.{eventOf}
+use Rattle.context.specs.Sound as context
+use Rattle.context.specs.Sound.{unusedOk, closedOk, countOk, containersOk, volumeOk, contextOk, zeroOk, slotOk, slotsOk}
+use Rattle.context.specs.Slots as slots
+use Rattle.context.specs.Slots.{sameName, isFree, bears, noneBears, distinct}
+use Rattle.node.specs.Hear.{reported, qosAfter, changeOf, closing, opened, numberFor, recordOf, goesOn, closedBy, afterClosing, hearWith, hear}
+use Rattle.node.specs.Step as step
+use Rattle.node.specs.Sound.{freshNode, sound}
+use Rattle.history.specs.Run.{log}
+use Rattle.once.specs.Once.{Call, marked, machine, outputs}
+use Rattle.once.proofs.Steps.{wrote}
+
+abbrev R : Rules Force Heard
+R = rules (session .limits)
+
+-- charging ID 1, GGSN 10.0.0.2
+abbrev name : Name
+name = record { id = 1; ggsn = 0x0A000002 }
+
+abbrev at : ℕ → List ℕ → Accepted (List ℕ)
+at t s = record { time = t; event = s }
+
+-- ---- 999 octets, then the release
+
+abbrev short : List (Accepted (List ℕ))
+short = at 0 activate ∷ at 5 traffic ∷ at 6 (released 0) ∷ []
+
+short-history : histories R meaning name tt short ≡ (start 0 (activation activate) ▸ 5 ∶ Heard.traffic 400 599 ▸ 6 ∶ Heard.release 0) ∷ []
+unfolding activate traffic released says be
+short-history = refl
+
+short-records : map (written session name) (records R (start 0 (activation activate) ▸ 5 ∶ Heard.traffic 400 599 ▸ 6 ∶ Heard.release 0)) ≡ sample ∷ []
+unfolding activate sample only be fillTo noContainers
+short-records = refl
+
+-- the 113 octets that 01 prints
+pub short-octets : marked (map (written session name) (records R (start 0 (activation activate) ▸ 5 ∶ Heard.traffic 400 599 ▸ 6 ∶ Heard.release 0)))
+    ≡ 0xC3 ∷ 0x5A ∷ printed ++ []
+short-octets = ap marked short-records ∙ ap (λ (x : List ℕ). 0xC3 ∷ 0x5A ∷ x ++ []) sample-octets
+
+-- ---- instead at 6 the report that meets the limit; a tariff, a tick too early, a tick, the release
+
+abbrev long : History Force Heard
+long = start 0 (activation activate) ▸ 5 ∶ Heard.traffic 400 599 ▸ 6 ∶ Heard.traffic 0 1 ▸ 10 ∶ Heard.tariff ▸ 65 ∶ Heard.tick ▸ 66 ∶ Heard.tick ▸ 66 ∶ Heard.release 0
+
+-- an S-CDR's number, cause, opening, duration and containers
+record Brief : Type 0 where
+  number : ℕ
+  cause : ℕ
+  opening : ℕ
+  lasts : ℕ
+  parts : List Container
+
+abbrev brief : scdr.Record → Brief
+brief r = record { number = r .number; cause = r .cause; opening = r .opening .seconds; lasts = duration r; parts = take (r .count) (r .containers) }
+
+abbrev part : ℕ → ℕ → ℕ → ℕ → Container
+part u d condition t = record {
+  qos = record { reliability = 1; delay = 3; precedence = 2; peak = 4; mean = 0 };
+  uplink = u;
+  downlink = d;
+  condition = condition;
+  time = record { seconds = t; zone = 720 };
+}
+
+long-records : map (λ r. brief (written session name r)) (records R long) ≡
+    record { number = 1; cause = 16; opening = 0; lasts = 6; parts = part 400 600 2 6 ∷ [] }
+    ∷ record { number = 2; cause = 17; opening = 6; lasts = 60; parts = part 0 0 1 10 ∷ part 0 0 2 66 ∷ [] }
+    ∷ record { number = 3; cause = 0; opening = 66; lasts = 0; parts = part 0 0 2 66 ∷ [] }
+    ∷ []
+unfolding activate fillTo noContainers duration lastTime
+long-records = refl
+
+-- ---- the node itself accepts the three events, and writes this
+
+abbrev call : List ℕ → Call
+call s = record { event = s; buffer = replicate 113 0 }
+
+abbrev calls : List Call
+calls = call activate ∷ call traffic ∷ call (released 0) ∷ []
+
+pub session-run : (log (machine wrote) (freshNode session) calls ≡ short) × (outputs (freshNode session) calls ≡ 0xC3 ∷ 0x5A ∷ printed)
+unfolding activate traffic released printed be fillTo noContainers
+    step.stepOf step.outcome step.refusals step.laterRows step.tableRows step.notActive step.isActive step.allTaken step.output step.recordsOf step.octetsOf step.markedOctets step.nodeAfter step.activated
+    firstFit rows.rows rows.marked known measured wholeLength fields.fieldsOk activateOk eventOf
+    imsiOk halves leading allF qosOk allOf apnChar release nodeChar
+    sound profileOk limitsOk nodeOk apnOk stampOk distinct slots.isActive isFree bears noneBears sameName
+    context.fieldsOk unusedOk closedOk countOk containersOk volumeOk contextOk zeroOk slotOk slotsOk openOk eachOk midway oneOffset timesTo qosRun volumeOf isBlank blanks sameQos
+    reported qosAfter changeOf closing opened numberFor recordOf goesOn closedBy afterClosing hearWith hear
+    layout.scdr layout.inside layout.body layout.ofRecord layout.fieldsOf duration lastTime tlvEnc lenEnc intEnc lowest imsiEnc stampEnc monthDay seek monthLen
+session-run = (refl, eqs-eq (outputs (freshNode session) calls) (0xC3 ∷ 0x5A ∷ printed) tt)

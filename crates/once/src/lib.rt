@@ -1,0 +1,1 @@
+// Every octet once, of the node. This crate has no code.
