@@ -1,11 +1,13 @@
 -- Every octet once (demand 3), of the node: the statement. It is about what the step answers to calls, the octets that it writes
 -- included, and about nothing else of the node. Assumes nothing.
 use mathlib.Core.Path.{_≡_}
+use mathlib.Core.Option.{some}
 use mathlib.Core.List.{List, [], _∷_, _++_}
 use Prim.Native.Nat.{ℕ, _≤_}
 use lib.ListN.{length, take, drop}
 use Rattle.scdr.specs.declared.Record as scdr
 use Rattle.scdr.specs.Layout as layout
+use Rattle.scdr.specs.List.{recordList}
 use Rattle.profile.specs.declared.Profile.{Profile}
 use Rattle.event.specs.declared.Name.{Name}
 use Rattle.event.specs.Fields.{timeOf}
@@ -13,7 +15,8 @@ use Rattle.context.specs.declared.Context.{Context}
 use Rattle.node.specs.declared.Node.{Node}
 use Rattle.node.specs.Sound.{freshNode, freshOf}
 use Rattle.node.specs.Step.{stepOf, slots}
-use Rattle.history.specs.Lists.{each}
+use Rattle.node.specs.Held.{Octets, HeldProfile}
+use Rattle.history.specs.Lists.{each, All}
 use Rattle.history.specs.Run.{Machine, ifZero, written}
 use Rattle.history.specs.Demand.{Sight, Demand3}
 use Rattle.once.specs.Charging.{Force, Heard, rules, meaning, forms}
@@ -87,5 +90,7 @@ pub record Once (p : Profile) (calls : List Call) : Type 0 where
   pub others : (n : Node) (c : Call) → bufferNow n c ≡ marked (records n c) ++ drop (lengthNow n c) (c .buffer)
   -- So all the octets that these calls write are these records.
   pub all-octets : outputs (freshNode p) calls ≡ marked (written (machine records) (freshNode p) calls)
+  -- Read mark by mark they are these records and nothing else, where events are octets and the profile is one that the code can hold.
+  pub reads : HeldProfile p → All (λ c. Octets (c .event)) calls → recordList (outputs (freshNode p) calls) ≡ some (written (machine records) (freshNode p) calls)
   -- And under every name these records, and the context that is stored, are exactly what its histories make and leave.
   pub demand : (name : Name) → Demand3 (rules (p .limits)) meaning (forms p) sight (machine records) (freshNode p) tt calls name
