@@ -1,7 +1,6 @@
 -- 01's "One session, whole", by the definitions: the histories of its events, the records that they make, and 01's octets.
 -- Assumes nothing.
 use mathlib.Core.Path.{_≡_, refl, ap, _∙_}
-use mathlib.Core.Option.{none, some}
 use mathlib.Core.List.{List, [], _∷_, _++_, map}
 use Prim.Native.Nat.{ℕ}
 use lib.ListN.{take, replicate}
@@ -21,7 +20,7 @@ use Rattle.event.specs.Sample.{activate, traffic, released}
 use Rattle.history.specs.History.{History, start, _▸_∶_}
 use Rattle.history.specs.Records.{Rules, records}
 use Rattle.history.specs.Log.{Accepted, histories}
-use Rattle.once.specs.Charging.{Force, Heard, says, meaning, activation, rules, container, written}
+use Rattle.once.specs.Charging.{Force, Heard, says, meaning, activation, rules, written}
 use Rattle.ber.specs.Int.{intEnc, lowest}
 use Rattle.ber.specs.Length.{lenEnc}
 use Rattle.ber.specs.Tlv.{tlvEnc}
