@@ -11,14 +11,14 @@ use Rattle.profile.specs.declared.Profile.{Profile}
 use Rattle.event.specs.declared.Name.{Name}
 use Rattle.event.specs.Fields.{timeOf}
 use Rattle.context.specs.declared.Context.{Context}
-use Rattle.node.specs.declared.Node.{Node}
-use Rattle.node.specs.Sound.{freshNode, freshOf}
-use Rattle.node.specs.Step.{stepOf, slots}
 use Rattle.history.specs.Lists.{each}
 use Rattle.history.specs.Run.{Machine, ifZero, written}
 use Rattle.history.specs.History.{History}
 use Rattle.history.specs.Records.{sinceOpening}
 use Rattle.history.specs.Demand.{ClosesNow, Sight, Demand3}
+use Rattle.node.specs.declared.Node.{Node}
+use Rattle.node.specs.Sound.{freshNode, freshOf}
+use Rattle.node.specs.Step.{stepOf, slots}
 use Rattle.once.specs.Charging.{Force, Heard, Closes, rules, meaning, forms}
 
 -- ---- calls
