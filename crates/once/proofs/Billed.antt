@@ -1,8 +1,7 @@
 -- What every octet once says of all that is billed and stored under a name, whatever records it is met by: the containers in the
 -- records and then in the stored context are the finished stretches of its histories, once each, in order; with what runs they make
 -- up all that was reported of it by name, up and down. And a record's duration is what the history says. Assumes nothing.
-use mathlib.Core.Path.{_≡_, refl, sym, ap, _∙_}
-use mathlib.Core.Bool.{Bool, true, false, cond}
+use mathlib.Core.Path.{_≡_, refl, sym, _∙_}
 use mathlib.Core.Option.{Option, none, some}
 use mathlib.Core.List.{List, [], _∷_, _++_, map}
 use Prim.Native.Nat.{ℕ, _+_, _-_}

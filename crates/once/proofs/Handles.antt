@@ -1,10 +1,10 @@
 -- How the node handles contexts, in the words of the histories; and that this is sound: names are kept, an activation stores and
 -- hearing does what the history says. Assumes nothing.
-use mathlib.Core.Path.{_≡_, refl, sym, ap, ap₂, _∙_}
+use mathlib.Core.Path.{_≡_, refl, ap, ap₂}
 use mathlib.Core.Logic.{_↔_}
 use mathlib.Core.Bool.{Bool, true, false, cond, _&&_}
 use mathlib.Core.Option.{Option, none, some}
-use mathlib.Core.List.{List, [], _∷_, _++_, map}
+use mathlib.Core.List.{List, [], _∷_, map}
 use Prim.Native.Nat.{ℕ}
 use lib.Dec.{eqb}
 use borrow.Author.Tests.{eqb-true, eq-eqb}
@@ -16,10 +16,9 @@ use Rattle.event.specs.declared.Event.{Event}
 use Rattle.context.specs.declared.Context.{Context}
 use Rattle.context.specs.Slots.{sameName}
 use Rattle.history.specs.Lists.{All}
-use Rattle.history.specs.Records.{leaves}
 use Rattle.history.specs.Log.{Said, activates, tells, tellsAll, nothing}
 use Rattle.history.specs.Table as table
-use Rattle.history.proofs.Tables.{Bears, NextIs, OutIs, Sound}
+use Rattle.history.proofs.Tables.{Bears, NextIs, Sound}
 use Rattle.node.specs.declared.Heard as node
 use Rattle.node.specs.declared.Heard.the-variants as N
 use Rattle.node.specs.Hear.{reported, qosAfter, changed, opened, recordOf, changeOf, closing, goesOn, closedBy, afterClosing, isRelease, hearWith, hear}

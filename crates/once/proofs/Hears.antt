@@ -1,5 +1,5 @@
 -- A stored context hears an event as its history says: of every history, and every event. Assumes nothing.
-use mathlib.Core.Path.{_≡_, refl, sym, ap, ap₂, _∙_}
+use mathlib.Core.Path.{_≡_, refl, sym, ap, _∙_}
 use mathlib.Core.Bool.{Bool, true, false, cond, _&&_}
 use mathlib.Core.Option.{Option, none, some}
 use mathlib.Core.List.{List, [], _∷_, _++_, map}
@@ -7,10 +7,9 @@ use Prim.Native.Nat.{ℕ, zero, suc, _+_, _-_}
 use native.Mathlib.Numerals.{add-one}
 use native.Mathlib.Nat.{add-zero}
 use native.Mathlib.Omega.{arith}
-use lib.Dec.{leb, eqb}
+use lib.Dec.{eqb}
 use lib.ListN.{length, take}
 use borrow.Author.Tests.{ne-eqb}
-use Rattle.format.proofs.Tests.{by}
 use Rattle.container.specs.declared.Qos.{Qos}
 use Rattle.container.specs.declared.Container.{Container}
 use Rattle.container.specs.Qos.{sameQos}
@@ -23,11 +22,9 @@ use Rattle.scdr.proofs.Tails.{take-padded}
 use Rattle.profile.specs.declared.Profile.{Profile}
 use Rattle.event.specs.declared.Name.{Name}
 use Rattle.context.specs.declared.Context.{Context}
-use Rattle.context.specs.Context.{used}
-use Rattle.history.specs.Lists.{sumOf, isSome, orElse, test}
+use Rattle.history.specs.Lists.{sumOf, isSome, orElse}
 use Rattle.history.specs.History.{History, _▸_∶_, began, total}
 use Rattle.history.specs.Records.{Rules, Stretch, whole, number, inForce, causeFor, sinceOpening, closes, running, stretches, closings, leaves}
-use Rattle.history.specs.Table.{Step}
 use Rattle.history.proofs.Lists.{map-append, none≢some}
 use Rattle.history.proofs.Records.{inForce-open, inForce-running, every-open}
 use Rattle.history.proofs.Tables.{told, told-closing, told-change, told-plain}

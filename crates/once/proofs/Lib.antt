@@ -3,6 +3,7 @@ pub mod Handles
 pub mod Steps
 pub mod Readable
 pub mod Serving
+pub mod Five
 pub mod Once
 pub mod Billed
 pub mod Session

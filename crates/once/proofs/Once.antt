@@ -1,16 +1,11 @@
 -- Every octet once, of the node (demand 3): the theorem, and what it says of all that is billed and stored under a name.
 -- Assumes nothing.
-use mathlib.Core.Path.{_≡_, refl, sym, ap, _∙_}
-use mathlib.Core.Bool.{Bool, true, false}
-use mathlib.Core.List.{List, [], _∷_, _++_, map}
-use Prim.Native.Nat.{ℕ}
-use lib.ListN.{length}
-use Rattle.scdr.specs.declared.Record as scdr
+use mathlib.Core.Path.{_≡_, refl, sym}
+use mathlib.Core.Bool.{true}
+use mathlib.Core.List.{List, [], _∷_}
 use Rattle.profile.specs.declared.Profile.{Profile}
 use Rattle.profile.specs.Profile.{profileOk}
 use Rattle.event.specs.declared.Name.{Name}
-use Rattle.context.specs.declared.Context.{Context}
-use Rattle.history.specs.Lists.{each}
 use Rattle.history.specs.Run.{written}
 use Rattle.history.specs.Demand.{Demand3}
 use Rattle.history.proofs.Lists.{each-append}
@@ -19,10 +14,11 @@ use Rattle.node.specs.declared.Node.{Node}
 use Rattle.node.specs.Sound.{freshNode, freshOf}
 use Rattle.once.specs.Charging.{rules, meaning, forms}
 use Rattle.once.specs.Once.{Call, nodeNow, marked, machine, sight, outputs, Once}
+use Rattle.once.proofs.Five.{five-alone}
 use Rattle.once.proofs.Handles.{handling, sound}
 use Rattle.once.proofs.Steps.{wrote, octets-are, lengths-are, lengths-fit, buffer-is}
 use Rattle.once.proofs.Readable.{output-reads}
-use Rattle.once.proofs.Serving.{State, state, node, calls, view, served, run-is, written-is, log-is}
+use Rattle.once.proofs.Serving.{State, state, calls, view, served, run-is, written-is, log-is}
 
 -- the octets of all calls are the records of all calls
 outputs-are : (cs : List Call) (n : Node) → outputs n cs ≡ marked (written (machine wrote) n cs)
@@ -63,4 +59,5 @@ every-octet-once p ok cs = record {
   all-octets = outputs-are cs (freshNode p);
   reads = output-reads p cs ok (outputs-are cs (freshNode p));
   demand = charged p cs;
+  five = five-alone (p .limits);
 }

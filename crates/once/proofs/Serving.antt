@@ -1,10 +1,10 @@
 -- The node's calls serve the table of contexts: what each does to the slots and writes is what the handling says of the event that it
 -- accepted. The profile stands apart, since no call changes it. Assumes nothing.
-use mathlib.Core.Path.{_≡_, refl, sym, ap, _∙_}
+use mathlib.Core.Path.{_≡_, refl, ap, _∙_}
 use mathlib.Core.Bool.{true, false}
-use mathlib.Core.List.{List, [], _∷_, _++_, map}
+use mathlib.Core.List.{List, [], _∷_, map}
 use mathlib.Core.Option.{Option}
-use Prim.Native.Nat.{ℕ, zero, suc, _≤_}
+use Prim.Native.Nat.{ℕ, zero, suc}
 use native.Mathlib.Omega.{arith}
 use lib.Dec.{eqb}
 use lib.ListN.{take}
@@ -14,8 +14,7 @@ use Rattle.profile.specs.declared.Profile.{Profile}
 use Rattle.event.specs.declared.Name.{Name}
 use Rattle.event.specs.Fields.{timeOf}
 use Rattle.context.specs.declared.Context.{Context}
-use Rattle.history.specs.Lists.{each}
-use Rattle.history.specs.Log.{Accepted, Said}
+use Rattle.history.specs.Log.{Said}
 use Rattle.history.specs.Table as table
 use Rattle.history.specs.Run.{Machine, ifZero, run, written, log}
 use Rattle.history.specs.Demand.{Sight}
@@ -27,7 +26,7 @@ use Rattle.node.specs.Step as step
 use Rattle.once.specs.Charging.{Force, Heard, says}
 use Rattle.once.specs.Once.{Call, answer, nodeNow, machine, sight}
 use Rattle.once.proofs.Handles.{said, handling, after-alike, writes-alike, after-taken, slots-taken, seen-stood}
-use Rattle.once.proofs.Steps.{says-alike, admitted, wrote, Takes, Leaves, called, wrote-some, wrote-none, profile-kept}
+use Rattle.once.proofs.Steps.{says-alike, admitted, wrote, Takes, called, wrote-some, wrote-none, profile-kept}
 
 -- ---- an accepted call, of any node
 

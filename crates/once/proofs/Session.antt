@@ -1,39 +1,31 @@
 -- 01's "One session, whole", by the definitions: the histories of its events, the records that they make, and 01's octets.
 -- Assumes nothing.
 use mathlib.Core.Path.{_≡_, refl, ap, _∙_}
-use mathlib.Core.Option.{none, some}
 use mathlib.Core.List.{List, [], _∷_, _++_, map}
 use Prim.Native.Nat.{ℕ}
 use lib.ListN.{take, replicate}
 use Rattle.format.proofs.Formats.{eqs-eq}
-use Rattle.container.specs.declared.Container.{Container}
-use Rattle.container.specs.Qos.{sameQos}
-use Rattle.container.specs.List.{noContainers}
-use Rattle.scdr.specs.declared.Record as scdr
-use Rattle.scdr.specs.Layout.{fillTo}
-use Rattle.scdr.specs.Rules.{lastTime, duration}
-use Rattle.scdr.specs.Sample.{only, sample, printed}
-use Rattle.scdr.proofs.Printed.{sample-octets}
-use Rattle.profile.specs.Sample.{session}
-use Rattle.event.specs.declared.Name.{Name}
-use Rattle.event.specs.Number.{be}
-use Rattle.event.specs.Sample.{activate, traffic, released}
-use Rattle.history.specs.History.{History, start, _▸_∶_}
-use Rattle.history.specs.Records.{Rules, records}
-use Rattle.history.specs.Log.{Accepted, histories}
-use Rattle.once.specs.Charging.{Force, Heard, says, meaning, activation, rules, container, written}
 use Rattle.ber.specs.Int.{intEnc, lowest}
 use Rattle.ber.specs.Length.{lenEnc}
 use Rattle.ber.specs.Tlv.{tlvEnc}
 use Rattle.ber.specs.Imsi.{halves, leading, allF, imsiOk, imsiEnc}
 use Rattle.calendar.specs.Month.{monthLen, seek, monthDay}
 use Rattle.calendar.specs.Stamp.{stampOk, stampEnc}
-use Rattle.container.specs.Qos.{qosOk}
-use Rattle.container.specs.List.{eachOk, oneOffset, isBlank, blanks}
+use Rattle.container.specs.declared.Container.{Container}
+use Rattle.container.specs.Qos.{sameQos, qosOk}
+use Rattle.container.specs.List.{noContainers, eachOk, oneOffset, isBlank, blanks}
 use Rattle.container.specs.Open.{midway, timesTo, qosRun, openOk, volumeOf}
-use Rattle.scdr.specs.Rules.{allOf, apnChar, nodeChar, apnOk, nodeOk, release}
+use Rattle.scdr.specs.declared.Record as scdr
+use Rattle.scdr.specs.Layout.{fillTo}
+use Rattle.scdr.specs.Rules.{lastTime, duration, allOf, apnChar, nodeChar, apnOk, nodeOk, release}
+use Rattle.scdr.specs.Sample.{only, sample, printed}
+use Rattle.scdr.proofs.Printed.{sample-octets}
 use Rattle.scdr.specs.Layout as layout
+use Rattle.profile.specs.Sample.{session}
 use Rattle.profile.specs.Profile.{limitsOk, profileOk}
+use Rattle.event.specs.declared.Name.{Name}
+use Rattle.event.specs.Number.{be}
+use Rattle.event.specs.Sample.{activate, traffic, released}
 use Rattle.event.specs.Fields as fields
 use Rattle.event.specs.Fields.{wholeLength, activateOk}
 use Rattle.event.specs.Rows as rows
@@ -43,10 +35,14 @@ use Rattle.context.specs.Sound as context
 use Rattle.context.specs.Sound.{unusedOk, closedOk, countOk, containersOk, volumeOk, contextOk, zeroOk, slotOk, slotsOk}
 use Rattle.context.specs.Slots as slots
 use Rattle.context.specs.Slots.{sameName, isFree, bears, noneBears, distinct}
+use Rattle.history.specs.History.{History, start, _▸_∶_}
+use Rattle.history.specs.Records.{Rules, records}
+use Rattle.history.specs.Log.{Accepted, histories}
+use Rattle.history.specs.Run.{log}
 use Rattle.node.specs.Hear.{reported, qosAfter, changeOf, closing, opened, numberFor, recordOf, goesOn, closedBy, afterClosing, hearWith, hear}
 use Rattle.node.specs.Step as step
 use Rattle.node.specs.Sound.{freshNode, sound}
-use Rattle.history.specs.Run.{log}
+use Rattle.once.specs.Charging.{Force, Heard, says, meaning, activation, rules, written}
 use Rattle.once.specs.Once.{Call, marked, machine, outputs}
 use Rattle.once.proofs.Steps.{wrote}
 

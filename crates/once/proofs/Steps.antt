@@ -1,13 +1,13 @@
 -- What a call does, by its answer: accepted, the table does what the histories say of its event; refused, nothing. Assumes nothing.
 use mathlib.Core.Path.{_≡_, refl, sym, ap, ap₂, _∙_}
-use mathlib.Core.Bool.{Bool, true, false, not, cond, _&&_, _||_}
-use mathlib.Core.Option.{Option, none, some}
-use mathlib.Core.List.{List, [], _∷_, _++_, map}
-use Prim.Native.Nat.{ℕ, zero, suc, _≤_}
+use mathlib.Core.Bool.{Bool, true, false, cond, _||_}
+use mathlib.Core.Option.{Option}
+use mathlib.Core.List.{List, [], _∷_, _++_}
+use Prim.Native.Nat.{ℕ, _≤_}
 use native.Mathlib.Omega.{arith}
 use lib.Dec.{leb, ltb, eqb}
 use lib.ListN.{length, take, drop}
-use lib.Seq.{take-at, drop-at}
+use lib.Seq.{take-at}
 use borrow.Author.Tests.{eqb-true, eqb-false, eq-eqb, ltb-false, leb-true, not-false}
 use Rattle.format.proofs.Tests.{by}
 use Rattle.scdr.specs.declared.Record as scdr
@@ -21,12 +21,12 @@ use Rattle.history.specs.Log.{Said, activates, tells, tellsAll, nothing}
 use Rattle.history.specs.Table as table
 use Rattle.history.proofs.Tables.{admits}
 use Rattle.node.specs.declared.Node.{Node}
-use Rattle.node.specs.Sound.{sound, latest, mostAccepted}
+use Rattle.node.specs.Sound.{latest}
 use Rattle.node.specs.Step as step
 use Rattle.node.proofs.Fits.{both}
 use Rattle.once.specs.Charging.{Force, Heard, says}
 use Rattle.once.specs.Once.{Call, answer, nodeNow, lengthNow, bufferNow, octetsNow, marked}
-use Rattle.once.proofs.Handles.{said, handling, after-alike, writes-alike, active-alike, after-taken, slots-taken, seen-stood}
+use Rattle.once.proofs.Handles.{said, handling, active-alike}
 
 -- ---- what an event says
 

@@ -1,10 +1,11 @@
 -- What is charged of a PDP context, as 01 says it, in 01's order: what an event's octets mean, what an event does to a context's
 -- history, and the S-CDR and the stored context that a history makes. Histories, stretches and records are those of the crate
 -- `history`. Nothing here says how the node works. Assumes nothing.
+use mathlib.Core.Path.{_≡_}
 use mathlib.Core.Bool.{Bool, true, cond, _&&_}
 use mathlib.Core.Option.{Option, none, some}
 use mathlib.Core.List.{List, map}
-use Prim.Native.Nat.{ℕ, _+_, _-_, _/_, _%_}
+use Prim.Native.Nat.{ℕ, _+_, _-_, _/_, _%_, _≤_}
 use lib.Dec.{leb, eqb}
 use lib.ListN.{length}
 use Rattle.calendar.specs.declared.Stamp.{Stamp}
@@ -148,6 +149,15 @@ closing l r t Heard.management = some 20
 -- "Closing ends the running container once, with condition 2 (also under 19)."
 abbrev pub rules : Limits → Rules Force Heard
 rules l = record { after = after; change = change; release = releases; closing = closing l; last = λ o. 2 }
+
+-- "Five closing conditions", one by one: with which cause e, heard at t, closes the record of which r is the past. `rules` works
+-- them out, and is proved to work out these (specs/Once.antt, `five`).
+pub data Closes (l : Limits) (r : History Force Heard) (t : ℕ) : Heard → ℕ → Type 0 where
+  by-volume : {u d : ℕ} → l .volume ≤ volume (r ▸ t ∶ Heard.traffic u d) → Closes l r t (Heard.traffic u d) 16
+  by-time : l .seconds ≤ t - began r → Closes l r t Heard.tick 17
+  by-changes : {e : Heard} {k : ℕ} → change (standing after r) e ≡ some k → l .changes ≤ changesOf (r ▸ t ∶ e) → Closes l r t e 19
+  by-management : Closes l r t Heard.management 20
+  by-release : {cause : ℕ} → Closes l r t (Heard.release cause) cause
 
 -- ---- 01, "The record's octets": what a history is written and stored as
 

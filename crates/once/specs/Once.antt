@@ -1,6 +1,7 @@
 -- Every octet once (demand 3), of the node: the statement. It is about what the step answers to calls, the octets that it writes
 -- included, and about nothing else of the node. Assumes nothing.
 use mathlib.Core.Path.{_≡_}
+use mathlib.Core.Logic.{_↔_}
 use mathlib.Core.Option.{some}
 use mathlib.Core.List.{List, [], _∷_, _++_}
 use Prim.Native.Nat.{ℕ, _≤_}
@@ -12,14 +13,16 @@ use Rattle.profile.specs.declared.Profile.{Profile}
 use Rattle.event.specs.declared.Name.{Name}
 use Rattle.event.specs.Fields.{timeOf}
 use Rattle.context.specs.declared.Context.{Context}
+use Rattle.history.specs.Lists.{each, All}
+use Rattle.history.specs.Run.{Machine, ifZero, written}
+use Rattle.history.specs.History.{History}
+use Rattle.history.specs.Records.{sinceOpening}
+use Rattle.history.specs.Demand.{ClosesNow, Sight, Demand3}
 use Rattle.node.specs.declared.Node.{Node}
 use Rattle.node.specs.Sound.{freshNode, freshOf}
 use Rattle.node.specs.Step.{stepOf, slots}
 use Rattle.node.specs.Held.{Octets, HeldProfile}
-use Rattle.history.specs.Lists.{each, All}
-use Rattle.history.specs.Run.{Machine, ifZero, written}
-use Rattle.history.specs.Demand.{Sight, Demand3}
-use Rattle.once.specs.Charging.{Force, Heard, rules, meaning, forms}
+use Rattle.once.specs.Charging.{Force, Heard, Closes, rules, meaning, forms}
 
 -- ---- calls
 
@@ -94,3 +97,6 @@ pub record Once (p : Profile) (calls : List Call) : Type 0 where
   pub reads : HeldProfile p → All (λ c. Octets (c .event)) calls → recordList (outputs (freshNode p) calls) ≡ some (written (machine records) (freshNode p) calls)
   -- And under every name these records, and the context that is stored, are exactly what its histories make and leave.
   pub demand : (name : Name) → Demand3 (rules (p .limits)) meaning (forms p) sight (machine records) (freshNode p) tt calls name
+  -- In every history a record closes exactly when one of the five closing conditions holds, read over the open record's past alone.
+  pub five : (h : History Force Heard) (t : ℕ) (e : Heard) (cause : ℕ)
+      → ClosesNow (rules (p .limits)) h t e cause ↔ Closes (p .limits) (sinceOpening (rules (p .limits)) h) t e cause
