@@ -8,8 +8,8 @@
 // Neither of these two says how the node works: of the node they take the answers of its step (`stepOf`), and where its slots are.
 // `stepOf` is what the code's step is proved to answer (crates/node).
 //
-// That an S-CDR's octets read back as that S-CDR is `round-trip` of crates/scdr, for every record within the rules; that the node's
-// records are within them is `closed-within` of crates/node.
+// That an S-CDR's octets read back as that S-CDR is `round-trip` of crates/scdr, for every record within the rules; that what a
+// context of a sound node closes is within them is `closed-within` of crates/node.
 //
 // proofs/: Hears (a stored context hears as its history says), Handles (so does the table), Steps (what a call does, by its answer),
 // Serving (calls serve the table), Five (the closing conditions one by one), Once (the theorem), Billed (containers, octets and durations
