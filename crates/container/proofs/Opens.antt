@@ -1,7 +1,7 @@
 -- The containers of an open record: one more of them, the one that closes the record, what they leave of a limit, and the array that
 -- holds them. Assumes nothing.
 use mathlib.Core.Path.{_≡_, refl, sym, ap, _∙_}
-use mathlib.Core.Bool.{Bool, true, false, not, _&&_, and-true, and-false, and-assoc, and-eq-true-iff}
+use mathlib.Core.Bool.{Bool, true, false, not, _&&_, and-true, and-false, and-assoc}
 use mathlib.Core.List.{List, [], _∷_, _++_}
 use Prim.Native.Nat.{ℕ, suc, _+_, _-_, _≤_, _<_}
 use native.Mathlib.Numerals.{add-one}
@@ -10,6 +10,7 @@ use lib.Dec.{leb, ltb, eqb}
 use lib.ListN.{length, take, drop, getD, set, length-append, length-take, length-drop, length-set, take-append-drop, drop-of-length-le}
 use lib.Seq.{take-suc, take-suc-set, drop-cons, drop-set-lt, getD-take, length-take-le, drop-append-seam}
 use borrow.Author.Tests.{not-true, not-false, leb-true, le-leb, lt-leb, lt-ltb, eq-eqb}
+use Rattle.format.proofs.Tests.{both}
 use Rattle.container.specs.declared.Qos.{Qos}
 use Rattle.container.specs.declared.Container.{Container}
 use Rattle.container.specs.Container.{containerOk}
@@ -19,9 +20,6 @@ use Rattle.container.specs.Turns.{precedes}
 use Rattle.container.proofs.Turns.{blanks-are, are-blanks}
 
 -- ---- tests that pass together
-
-both : (a b : Bool) → (a && b) ≡ true → (a ≡ true) × (b ≡ true)
-both a b e = and-eq-true-iff a b .0 e
 
 -- five rules of a list, each with a rule of its last element
 medial : (a p b q : Bool) → ((a && p) && (b && q)) ≡ ((a && b) && (p && q))

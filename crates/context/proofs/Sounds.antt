@@ -1,6 +1,6 @@
 -- What the rules of a sound slot say: of an active context, of a free one, and of the whole table. Assumes nothing.
 use mathlib.Core.Path.{_≡_, refl, sym, ap, _∙_}
-use mathlib.Core.Bool.{Bool, true, false, _&&_, and-eq-true-iff}
+use mathlib.Core.Bool.{Bool, true, false, _&&_}
 use mathlib.Core.List.{List, [], _∷_}
 use Prim.Native.Nat.{ℕ, zero, suc, _+_, _-_, _≤_, _<_}
 use native.Mathlib.Omega.{arith}
@@ -8,7 +8,7 @@ use lib.Dec.{leb, ltb, eqb}
 use lib.ListN.{length, take, drop, getD, set, replicate}
 use lib.Seq.{take-all}
 use borrow.Author.Tests.{leb-true, ltb-true, ltb-false, eqb-true, le-leb, lt-ltb, le-ltb, eq-eqb, ne-eqb}
-use Rattle.format.proofs.Tests.{true-T}
+use Rattle.format.proofs.Tests.{both, true-T}
 use Rattle.ber.specs.Imsi.{imsiOk}
 use Rattle.container.specs.Qos.{qosOk, sameQos, noQos}
 use Rattle.container.specs.List.{blanks, isBlank, noContainers}
@@ -22,9 +22,6 @@ use Rattle.profile.specs.declared.Limits.{Limits}
 use Rattle.context.specs.declared.Context.{Context}
 use Rattle.context.specs.Context.{used, noContext}
 use Rattle.context.specs.Sound.{fieldsOk, unusedOk, closedOk, countOk, containersOk, volumeOk, contextOk, zeroOk, slotOk, slotsOk}
-
-both : (a b : Bool) → (a && b) ≡ true → (a ≡ true) × (b ≡ true)
-both a b e = and-eq-true-iff a b .0 e
 
 -- ---- an active context
 

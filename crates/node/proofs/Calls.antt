@@ -25,29 +25,8 @@ use Rattle.node.specs.declared.Node.{Node}
 use Rattle.node.specs.declared.Heard.{Heard}
 use Rattle.node.specs.Sound.{sound, latest, mostAccepted}
 use Rattle.node.specs.Step.{Brought, takes, tableRows, laterRows, saidOf, refusals, outcome, stepOf, Steps, Outs}
+use Rattle.node.proofs.Rowed.{numbered-rows, fit-more, fit-first}
 use Rattle.node.proofs.Served.{outs-refused}
-
--- ---- rows one after another
-
-abbrev Numbered : List Row → Type 0
-Numbered [] = Unit {0}
-Numbered (row n t ∷ rs) = (n ≡ 0 → ⊥) × Numbered rs
-
-fit-more : (rs ls : List Row) → Numbered rs → firstFit rs ≡ 0 → firstFit (rs ++ ls) ≡ firstFit ls
-unfolding firstFit
-fit-more [] ls z e = refl
-fit-more (row n true ∷ rs) ls z e = absurd (z .0 e)
-fit-more (row n false ∷ rs) ls z e = fit-more rs ls (z .1) e
-
-fit-first : (rs ls : List Row) (k : ℕ) → firstFit rs ≡ k → (k ≡ 0 → ⊥) → firstFit (rs ++ ls) ≡ k
-unfolding firstFit
-fit-first [] ls k e z = absurd (z (sym e))
-fit-first (row n true ∷ rs) ls k e z = e
-fit-first (row n false ∷ rs) ls k e z = fit-first rs ls k e z
-
-numbered-rows : (s : List ℕ) → Numbered (rows s)
-unfolding rows
-numbered-rows s = ((λ e. omega arith), ((λ e. omega arith), ((λ e. omega arith), ((λ e. omega arith), ((λ e. omega arith), tt)))))
 
 -- ---- what was decoded
 

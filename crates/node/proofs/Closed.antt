@@ -8,7 +8,7 @@ use native.Mathlib.Omega.{arith}
 use lib.Dec.{leb, ltb, eqb}
 use lib.ListN.{length, take, drop, length-append}
 use borrow.Author.Tests.{le-leb, lt-ltb, ltb-true, eqb-true, eqb-false, ne-eqb, eq-eqb}
-use Rattle.format.proofs.Tests.{by}
+use Rattle.format.proofs.Tests.{both, by}
 use Rattle.ber.specs.Imsi.{imsiOk}
 use Rattle.calendar.specs.declared.Stamp.{Stamp}
 use Rattle.calendar.specs.Stamp.{stampOk}
@@ -32,7 +32,7 @@ use Rattle.node.specs.Hear.{counted, reported, reached, closing, isRelea
 use Rattle.node.specs.Sound.{latest, mostAccepted}
 use Rattle.node.specs.Told.{Fair, Apt}
 use Rattle.node.proofs.Turned.{used-length}
-use Rattle.node.proofs.Fits.{both, Fit, fit, apt-good, apt-roomy}
+use Rattle.node.proofs.Fits.{Fit, fit, apt-good, apt-roomy}
 
 -- ---- the containers
 
@@ -51,17 +51,16 @@ record Closable (p : Profile) (t : ℕ) (c : Context) : Type 0 where
   downlink : c .downlink < 2 ^ 40
   closed : c .closed < mostAccepted
 
+-- the running container, ended now
+pub ended-ok : (p : Profile) (t : ℕ) (c : Context) → Fit p → (k : ℕ) → k ≤ 2 → qosOk (c .qos) ≡ true → c .uplink < 2 ^ 40 → c .downlink < 2 ^ 40 → t ≤ latest
+    → containerOk (ended p c t k) ≡ true
+unfolding containerOk stampOk
+ended-ok p t c f k h q u d l =
+    rw (q, lt-ltb (c .uplink) (2 ^ 40) u, lt-ltb (c .downlink) (2 ^ 40) d, le-leb k 2 h, lt-ltb t 3155760000 (omega arith), le-leb (p .zone) 1560 (f .zone))
+
 module _ (p : Profile) (t : ℕ) (c : Context) (f : Fit p) (k : Closable p t c) where
   last-ok : containerOk (ended p c t 2) ≡ true
-  unfolding containerOk stampOk
-  last-ok =
-      rw (
-        k .qos,
-        lt-ltb (c .uplink) (2 ^ 40) (k .uplink),
-        lt-ltb (c .downlink) (2 ^ 40) (k .downlink),
-        lt-ltb t 3155760000 (omega (arith, k .until)),
-        le-leb (p .zone) 1560 (f .zone),
-      )
+  last-ok = ended-ok p t c f 2 (omega arith) (k .qos) (k .uplink) (k .downlink) (k .until)
 
   opening-ok : stampOk (c .opening) ≡ true
   unfolding stampOk

@@ -7,7 +7,7 @@ use native.Mathlib.Omega.{arith}
 use lib.Dec.{eqb}
 use lib.ListN.{length}
 use borrow.Author.Tests.{eqb-true, eqb-false, not-true as not-true-false}
-use Rattle.format.proofs.Tests.{by}
+use Rattle.format.proofs.Tests.{both, by}
 use Rattle.profile.specs.declared.Limits.{Limits}
 use Rattle.profile.specs.declared.Profile.{Profile}
 use Rattle.event.specs.declared.Name.{Name}
@@ -19,7 +19,6 @@ use Rattle.history.specs.Lists.{All}
 use Rattle.history.specs.Table.{fill, active}
 use Rattle.node.specs.Step.{handling, seen, stood}
 use Rattle.node.specs.Held.{HeldContext}
-use Rattle.node.proofs.Fits.{both}
 use Rattle.node.proofs.Heards.{name-sym, Settled, stand-all}
 use Rattle.node.proofs.Kept.{later-sound}
 

@@ -1,11 +1,12 @@
 -- What a profile in range and a sound context say, as the code and the laws want it. Assumes nothing.
 use mathlib.Core.Path.{_≡_}
-use mathlib.Core.Bool.{Bool, true, _&&_, and-eq-true-iff}
+use mathlib.Core.Bool.{Bool, true, _&&_}
 use Prim.Native.Nat.{ℕ, _+_, _^_, _≤_, _<_}
 use native.Mathlib.Omega.{arith}
 use lib.Dec.{leb}
 use lib.ListN.{length}
 use borrow.Author.Tests.{leb-true}
+use Rattle.format.proofs.Tests.{both}
 use Rattle.container.specs.Open.{volumeOf}
 use Rattle.scdr.specs.Rules.{nodeOk}
 use Rattle.profile.specs.declared.Limits.{Limits}
@@ -15,9 +16,6 @@ use Rattle.context.specs.declared.Context.{Context}
 use Rattle.context.specs.Context.{used}
 use Rattle.context.proofs.Sounds.{Good, good}
 use Rattle.node.specs.Told.{Roomy, Ample, Apt}
-
-pub both : (a b : Bool) → (a && b) ≡ true → (a ≡ true) × (b ≡ true)
-both a b e = and-eq-true-iff a b .0 e
 
 -- ---- a profile in range
 

@@ -8,7 +8,7 @@ use native.Mathlib.Omega.{arith}
 use lib.Dec.{eqb, eqb→eq, eqb-refl}
 use lib.ListN.{length, set}
 use borrow.Author.Tests.{eqb-true, eqb-false, eq-eqb, ne-eqb, not-true as not-true-false, not-false as not-false-true}
-use Rattle.format.proofs.Tests.{by, T-true, true-T}
+use Rattle.format.proofs.Tests.{both, by, T-true, true-T}
 use Rattle.scdr.specs.declared.Record.{Record}
 use Rattle.profile.specs.declared.Limits.{Limits}
 use Rattle.profile.specs.declared.Profile.{Profile}
@@ -27,7 +27,6 @@ use Rattle.node.specs.Hear.{hear}
 use Rattle.node.specs.Step.{Brought, handling, seen, stood, markedOctets, octetsOf}
 use Rattle.node.specs.Shape.{Shaped}
 use Rattle.node.specs.Range.{across, along, slotNext, slotOut}
-use Rattle.node.proofs.Fits.{both}
 use Rattle.node.proofs.Found.{First, here, there}
 use Rattle.node.proofs.Ranges.{across-none, along-none}
 

@@ -40,7 +40,7 @@ use Rattle.node.specs.Shape.{Shaped}
 use Rattle.node.specs.Held.{HeldContext, HeldProfile}
 use Rattle.node.proofs.Turned.{used-length, more}
 use Rattle.node.proofs.Fits.{fit, apt-good, apt-roomy}
-use Rattle.node.proofs.Closed.{closed-within}
+use Rattle.node.proofs.Closed.{ended-ok, closed-within}
 
 -- ---- what is to be shown
 
@@ -143,19 +143,11 @@ module _ (p : Profile) (t : ℕ) (c : Context) (a : Apt p t c) (w : Shaped c) wh
   pub same-keeps : Keeps p t (a .due .accepted + 1) c c
   same-keeps = counted-keeps (c .uplink) (c .downlink) (apt-good p t c a .volume)
 
-  ended-ok : (k : ℕ) → k ≤ 2 → containerOk (ended p c t k) ≡ true
-  unfolding containerOk stampOk
-  ended-ok k h =
+  cut-ok : (k : ℕ) → k ≤ 2 → containerOk (ended p c t k) ≡ true
+  cut-ok k h =
       let g = apt-good p t c a in
       let f = fit p (a .due .profile) in
-      rw (
-        g .qos,
-        lt-ltb (c .uplink) (2 ^ 40) (omega (arith, g .volume, f .volume)),
-        lt-ltb (c .downlink) (2 ^ 40) (omega (arith, g .volume, f .volume)),
-        le-leb k 2 h,
-        lt-ltb t 3155760000 (omega (arith, a .due .until)),
-        le-leb (p .zone) 1560 (f .zone),
-      )
+      ended-ok p t c f k h (g .qos) (omega (arith, g .volume, f .volume)) (omega (arith, g .volume, f .volume)) (a .due .until)
 
   one-more : (k : ℕ) → length (endedAll p c t k) ≡ c .count + 1
   one-more k = sym (more p c t k (apt-roomy p t c a) (w .containers))
@@ -181,7 +173,7 @@ module _ (p : Profile) (t : ℕ) (c : Context) (a : Apt p t c) (w : Shaped c) wh
           changes = few;
           zone = g .zone;
           containers = rw (take-padded cs)
-              (open-more (p .zone) (c .opening .seconds) (c .qos) (a .due .clock) (used c) (g .containers) (ended p c t k) (ended-ok k (omega arith)) refl refl (a .due .since) h q t (omega arith) e);
+              (open-more (p .zone) (c .opening .seconds) (c .qos) (a .due .clock) (used c) (g .containers) (ended p c t k) (cut-ok k (omega arith)) refl refl (a .due .since) h q t (omega arith) e);
           volume = rw (take-padded cs, volume-more (ended p c t k) (used c)) (omega (arith, g .volume));
         });
         active = refl;

@@ -1,6 +1,8 @@
 pub mod Tolds
 pub mod Turned
 pub mod Fits
+pub mod Rules
+pub mod Rowed
 pub mod Closed
 pub mod Emits
 pub mod Ranges

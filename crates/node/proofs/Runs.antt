@@ -7,7 +7,7 @@ use Prim.Native.Nat.{ℕ, zero, suc}
 use lib.Dec.{eqb}
 use lib.ListN.{replicate, length-replicate}
 use borrow.Author.Tests.{eqb-true, eqb-false, not-true}
-use Rattle.format.proofs.Tests.{by}
+use Rattle.format.proofs.Tests.{both, by}
 use Rattle.profile.specs.declared.Limits.{Limits}
 use Rattle.profile.specs.declared.Profile.{Profile}
 use Rattle.profile.specs.Profile.{limitsOk, profileOk}
@@ -22,7 +22,7 @@ use Rattle.node.specs.Sound.{sound, freshNode, noNode}
 use Rattle.node.specs.Step.{recordsOf, tableRows, laterRows, saidOf, refusals, outcome, stepOf}
 use Rattle.node.specs.Held.{Octets, HeldContext, HeldProfile, Held, Whole}
 use Rattle.node.specs.Run.{Call, after}
-use Rattle.node.proofs.Fits.{both}
+use Rattle.node.proofs.Demands.{answered}
 use Rattle.node.proofs.Kept.{Fine}
 use Rattle.node.proofs.Tabled.{nothing-ok, nothing-held}
 use Rattle.node.proofs.Sounded.{sound-kept, records-good}
@@ -70,11 +70,6 @@ step-kept n s b w o =
     (λ e. rw e (sound-kept n s b (w .held) o (eqb-true (firstFit (refusals n s b)) 0 e)))
     (λ e. rw e w)
 
--- what it answers is the number of the first row that fits
-pub answer-is : (n : Node) (s b : List ℕ) → stepOf n s b .0 ≡ firstFit (refusals n s b)
-unfolding stepOf outcome
-answer-is n s b = by (eqb (firstFit (refusals n s b)) 0) (λ e. rw e (sym (eqb-true (firstFit (refusals n s b)) 0 e))) (λ e. rw e)
-
 -- no row has this number
 avoids : ℕ → List Row → Bool
 avoids k [] = not (eqb 0 k)
@@ -92,7 +87,7 @@ never-fits k (row j false ∷ rs) h e = never-fits k rs (both (not (eqb j k)) (a
 -- 13 is the answer of no sound node
 pub not-13 : (n : Node) (s b : List ℕ) → sound n ≡ true → stepOf n s b .0 ≡ 13 → ⊥
 unfolding refusals rows laterRows tableRows firstFit avoids
-not-13 n s b ok e = never-fits 13 (rows s ++ laterRows n (timeOf s) (saidOf s) b) refl (rw ok at (sym (answer-is n s b) ∙ e))
+not-13 n s b ok e = never-fits 13 (rows s ++ laterRows n (timeOf s) (saidOf s) b) refl (rw ok at (sym (answered n s b) ∙ e))
 
 -- ---- calls one after another
 
@@ -111,4 +106,4 @@ module _ (p : Profile) (ok : profileOk p ≡ true) (h : HeldProfile p) (cs : Lis
 
   -- what the next one writes, where it is accepted
   pub run-records : (s b : List ℕ) → Octets s → stepOf (after (freshNode p) cs) s b .0 ≡ 0 → All Fine (recordsOf (after (freshNode p) cs) (timeOf s) (saidOf s))
-  run-records s b k e = let n = after (freshNode p) cs in records-good n s b (run-kept .held) k (sym (answer-is n s b) ∙ e)
+  run-records s b k e = let n = after (freshNode p) cs in records-good n s b (run-kept .held) k (sym (answered n s b) ∙ e)

@@ -8,7 +8,7 @@ use native.Mathlib.Omega.{arith}
 use lib.Dec.{leb, ltb, eqb}
 use lib.ListN.{length, take, drop, set}
 use borrow.Author.Tests.{le-leb, lt-leb, le-ltb, lt-ltb, ne-eqb, leb-true}
-use Rattle.format.proofs.Tests.{either}
+use Rattle.format.proofs.Tests.{both, either}
 use Rattle.ber.proofs.Writers.{Put}
 use Rattle.profile.specs.declared.Profile.{Profile}
 use Rattle.profile.specs.Profile.{profileOk}
@@ -27,41 +27,24 @@ use Rattle.node.specs.Step.{Brought, handling, seen, stood, slots, octet
 use Rattle.node.specs.Shape.{Shaped}
 use Rattle.node.specs.Told.{Due, Ready, Sounding, Named}
 use Rattle.node.specs.Range.{across, along, slotNext, slotOut, Turns, advanced, servedOf, Serves}
-use Rattle.node.proofs.Fits.{both}
+use Rattle.node.proofs.Rules.{rules}
 use Rattle.node.proofs.Found.{First}
 use Rattle.node.proofs.Heards.{Settled, all-settled, all-after, all-outs, tells-after, tells-outs, found-active, none-active, found-free, none-free, filled}
 
 -- ---- a sound node
 
 module _ (n : Node) (t : ℕ) (s : Sounding n t) where
-  record Parts : Type 0 where
-    profile : profileOk (n .profile) ≡ true
-    names : distinct (map slotOf (n .contexts)) ≡ true
-    slots : slotsOk (n .profile .limits) (n .profile .zone) (n .clock) (n .accepted) (n .contexts) ≡ true
-
-  parts : Parts
-  unfolding sound
-  parts =
-      let a = profileOk (n .profile) in
-      let b = leb (n .clock) latest in
-      let c = leb (n .accepted) mostAccepted in
-      let d = distinct (map slotOf (n .contexts)) in
-      let w = both (a && b && c && d) (slotsOk (n .profile .limits) (n .profile .zone) (n .clock) (n .accepted) (n .contexts)) (s .sound) in
-      let x = both (a && b && c) d (w .0) in
-      let y = both (a && b) c (x .0) in
-      record { profile = both a b (y .0) .0; names = x .1; slots = w .1 }
-
   pub ready : Ready (n .profile) t (n .contexts)
   ready = record {
-    due = record { clock = n .clock; accepted = n .accepted; profile = parts .profile; since = s .since; until = s .until; few = s .few };
-    sound = parts .slots;
+    due = record { clock = n .clock; accepted = n .accepted; profile = rules n (s .sound) .profile; since = s .since; until = s .until; few = s .few };
+    sound = rules n (s .sound) .slots;
   }
 
   pub apart : distinct (map slotOf (n .contexts)) ≡ true
-  apart = parts .names
+  apart = rules n (s .sound) .names
 
   pub settleds : All Shaped (n .contexts) → All Settled (n .contexts)
-  settleds z = all-settled (n .profile .limits) (n .profile .zone) (n .clock) (n .accepted) (n .contexts) z (parts .slots)
+  settleds z = all-settled (n .profile .limits) (n .profile .zone) (n .clock) (n .accepted) (n .contexts) z (rules n (s .sound) .slots)
 
 -- ---- some slots heard
 

@@ -8,6 +8,7 @@ use native.Mathlib.Omega.{arith}
 use lib.Dec.{leb, ltb}
 use lib.ListN.{length}
 use borrow.Author.Tests.{le-leb, leb-false, ltb-false, not-false as not-false-true}
+use Rattle.format.proofs.Tests.{both}
 use Rattle.profile.specs.Profile.{profileOk}
 use Rattle.event.specs.declared.Name.{Name}
 use Rattle.event.specs.declared.Decoded.the-variants as D
@@ -28,47 +29,15 @@ use Rattle.node.specs.Step.{Brought, slots, activated, nodeAfter, record
 use Rattle.node.specs.Told.{Due}
 use Rattle.node.specs.Range.{advanced}
 use Rattle.node.specs.Held.{Octets, HeldContext, Held, Whole}
-use Rattle.node.proofs.Fits.{both}
+use Rattle.node.proofs.Rules.{rules}
+use Rattle.node.proofs.Rowed.{numbered-rows, none-fits}
 use Rattle.node.proofs.Heards.{all-settled}
 use Rattle.node.proofs.Kept.{Fine}
 use Rattle.node.proofs.Brings.{Fairly, fair-said, activated-sound, activated-held}
 use Rattle.node.proofs.Tabled.{shapes, Onward, onward-slots, onward-held, onward-length, onward-distinct, all-stay, all-fine}
 use Rattle.node.proofs.Filled.{slots-later, fill-is, filled-slots, filled-held, filled-length, filled-distinct, neither, none-bears}
 
--- ---- the rules of a sound node one by one
-
-record Rules (n : Node) : Type 0 where
-  profile : profileOk (n .profile) ≡ true
-  names : distinct (map slotOf (n .contexts)) ≡ true
-  slots : slotsOk (n .profile .limits) (n .profile .zone) (n .clock) (n .accepted) (n .contexts) ≡ true
-
-rules : (n : Node) → sound n ≡ true → Rules n
-unfolding sound
-rules n s =
-    let a = profileOk (n .profile) in
-    let b = leb (n .clock) latest in
-    let c = leb (n .accepted) mostAccepted in
-    let d = distinct (map slotOf (n .contexts)) in
-    let w = both (a && b && c && d) (slotsOk (n .profile .limits) (n .profile .zone) (n .clock) (n .accepted) (n .contexts)) s in
-    let x = both (a && b && c) d (w .0) in
-    let y = both (a && b) c (x .0) in
-    record { profile = both a b (y .0) .0; names = x .1; slots = w .1 }
-
 -- ---- a call that no row of the table refuses
-
-abbrev Positive : List Row → Type 0
-Positive [] = Unit {0}
-Positive (row k t ∷ rs) = (0 < k) × Positive rs
-
-none-fits : (rs ls : List Row) → Positive rs → firstFit (rs ++ ls) ≡ 0 → (firstFit rs ≡ 0) × (firstFit ls ≡ 0)
-unfolding firstFit
-none-fits [] ls z e = (refl, e)
-none-fits (row k true ∷ rs) ls z e = absurd (omega (arith, z .0))
-none-fits (row k false ∷ rs) ls z e = none-fits rs ls (z .1) e
-
-positive-rows : (s : List ℕ) → Positive (rows s)
-unfolding rows
-positive-rows s = (omega arith, (omega arith, (omega arith, (omega arith, (omega arith, tt)))))
 
 -- what is known of it
 pub record Accepts (n : Node) (s b : List ℕ) : Type 0 where
@@ -99,7 +68,7 @@ module _ (n : Node) (s b : List ℕ) where
       let r₇ = row 7 (leb mostAccepted (n .accepted)) ∷ r₈ in
       let r₆ = row 6 (ltb latest t || ltb t (n .clock)) ∷ r₇ in
       let p₁₃ = passed 13 (not (sound n)) (rows s ++ r₆) (omega arith) e in
-      let q = none-fits (rows s) r₆ (positive-rows s) (p₁₃ .rest) in
+      let q = none-fits (rows s) r₆ (numbered-rows s) (p₁₃ .rest) in
       let p₆ = passed 6 (ltb latest t || ltb t (n .clock)) r₇ (omega arith) (q .1) in
       let p₇ = passed 7 (leb mostAccepted (n .accepted)) r₈ (omega arith) (p₆ .rest) in
       let p₈ = passed 8 (notActive (n .profile) w (slots n)) r₉ (omega arith) (p₇ .rest) in

@@ -8,7 +8,7 @@ use native.Mathlib.Omega.{arith}
 use lib.Dec.{eqb}
 use lib.ListN.{length}
 use borrow.Author.Tests.{eqb-true, not-true as not-true-false}
-use Rattle.format.proofs.Tests.{by}
+use Rattle.format.proofs.Tests.{both, by}
 use Rattle.scdr.specs.declared.Record.{Record}
 use Rattle.scdr.specs.Layout.{fillTo}
 use Rattle.container.specs.List.{noContainers}
@@ -29,7 +29,6 @@ use Rattle.node.specs.Step.{Brought, handling, seen, stood}
 use Rattle.node.specs.Shape.{Shaped}
 use Rattle.node.specs.Told.{Fair, Due, Apt}
 use Rattle.node.specs.Held.{HeldContext, HeldProfile}
-use Rattle.node.proofs.Fits.{both}
 use Rattle.node.proofs.Kept.{keeps-held, Fine, NextKeeps, Leaves, same-keeps, leaves}
 use Rattle.node.proofs.Brings.{Fairly}
 

@@ -22,7 +22,8 @@ use Rattle.node.specs.Step.{recordsOf, saidOf}
 use Rattle.node.specs.Held.{Octets, HeldProfile, Whole}
 use Rattle.node.proofs.Kept.{Fine}
 use Rattle.node.proofs.Sounded.{records-good}
-use Rattle.node.proofs.Runs.{fresh-whole, step-kept, answer-is}
+use Rattle.node.proofs.Demands.{answered}
+use Rattle.node.proofs.Runs.{fresh-whole, step-kept}
 use Rattle.once.specs.Once.{Call, nodeNow, marked, machine, outputs}
 use Rattle.once.proofs.Steps.{wrote, called, wrote-some, wrote-none}
 
@@ -44,7 +45,7 @@ right-append (r ∷ a) b p q = (p .0, right-append a b (p .1) q)
 wrote-right : (n : Node) (c : Call) → Whole n → Octets (c .event) → AllRight (wrote n c)
 wrote-right n c w o =
     called n c
-    (λ z. rw (wrote-some n c z) (right (recordsOf n (timeOf (c .event)) (saidOf (c .event))) (records-good n (c .event) (c .buffer) (w .held) o (sym (answer-is n (c .event) (c .buffer)) ∙ z .answers))))
+    (λ z. rw (wrote-some n c z) (right (recordsOf n (timeOf (c .event)) (saidOf (c .event))) (records-good n (c .event) (c .buffer) (w .held) o (sym (answered n (c .event) (c .buffer)) ∙ z .answers))))
     (λ z. rw (wrote-none n c z) tt)
 
 all-right : (cs : List Call) (n : Node) → Whole n → All (λ c. Octets (c .event)) cs → AllRight (written (machine wrote) n cs)

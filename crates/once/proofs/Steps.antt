@@ -9,7 +9,7 @@ use lib.Dec.{leb, ltb, eqb}
 use lib.ListN.{length, take, drop}
 use lib.Seq.{take-at}
 use borrow.Author.Tests.{eqb-true, eqb-false, eq-eqb, ltb-false, leb-true, not-false}
-use Rattle.format.proofs.Tests.{by}
+use Rattle.format.proofs.Tests.{both, by}
 use Rattle.scdr.specs.declared.Record as scdr
 use Rattle.profile.specs.declared.Profile.{Profile}
 use Rattle.event.specs.declared.Name.{Name}
@@ -23,7 +23,6 @@ use Rattle.history.proofs.Tables.{admits}
 use Rattle.node.specs.declared.Node.{Node}
 use Rattle.node.specs.Sound.{latest}
 use Rattle.node.specs.Step as step
-use Rattle.node.proofs.Fits.{both}
 use Rattle.once.specs.Charging.{Force, Heard, says}
 use Rattle.once.specs.Once.{Call, answer, nodeNow, lengthNow, bufferNow, octetsNow, marked}
 use Rattle.once.proofs.Handles.{said, handling, active-alike}
