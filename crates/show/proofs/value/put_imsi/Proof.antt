@@ -1,0 +1,52 @@
+-- `show::value::put_imsi` is safe and ends. Assumes nothing.
+use Prim.Native.Nat.{_-_, _≤_}
+use native.Mathlib.Omega.{arith}
+use lib.ListN.{length}
+use borrow.Author.Needs.{needs}
+use Rattle.show.proofs.value.put_imsi.Statement.{statement}
+use Rattle.show.proofs.value.put_imsi.Tie as tie
+
+abbrev Inv-loop : tie.InvT-loop
+Inv-loop text₀ waiting s w₀ i₀ text w i = i ≤ length s
+
+abbrev μ-loop : tie.MeasureT-loop
+μ-loop text₀ waiting s w₀ i₀ text w i = length s - i
+
+loop-holds : tie.Need-loop-holds Inv-loop μ-loop
+loop-holds c = omega arith
+
+shared-slice-read-x : tie.Need-shared-slice-read-x Inv-loop μ-loop
+shared-slice-read-x c = search needs
+
+put-digit-requires : tie.Need-put-digit-requires Inv-loop μ-loop
+put-digit-requires c κs = search needs
+
+put-digit-requires-2 : tie.Need-put-digit-requires-2 Inv-loop μ-loop
+put-digit-requires-2 c κs = search needs
+
+add-i : tie.Need-add-i Inv-loop μ-loop
+add-i c = search needs
+
+loop-less : tie.Need-loop-less Inv-loop μ-loop
+loop-less c = search needs
+
+loop-again : tie.Need-loop-again Inv-loop μ-loop
+loop-again c = search needs
+
+returns : tie.Need-returns Inv-loop μ-loop
+returns c = search needs
+
+pub put-imsi-spec : {M : Type 1} → statement M
+put-imsi-spec =
+    tie.close
+    (tie.spec
+    Inv-loop
+    μ-loop
+    loop-holds
+    shared-slice-read-x
+    put-digit-requires
+    put-digit-requires-2
+    add-i
+    loop-less
+    loop-again
+    returns)

@@ -1,0 +1,93 @@
+// Characters on their way to standard output: they wait in a buffer, which is written where it is full, and at the end.
+//
+// Each function puts something behind the characters that wait, and answers how many wait then: 4097 once a write has failed.
+use libc::STDOUT_FILENO;
+
+// One character.
+pub fn put(text: &mut [u8; 4096], waiting: usize, x: u8) -> usize {
+    if waiting < 4096 {
+        text[waiting] = x;
+        return waiting + 1;
+    }
+    if 4096 < waiting {
+        return waiting;
+    }
+    if !io::write_all(STDOUT_FILENO, text) {
+        return 4097;
+    }
+    text[0] = x;
+    1
+}
+
+// The characters of s.
+pub fn put_all(text: &mut [u8; 4096], waiting: usize, s: &[u8]) -> usize {
+    let mut w = waiting;
+    let mut i: usize = 0;
+    while i < s.len() {
+        w = put(text, w, s[i]);
+        i += 1;
+    }
+    w
+}
+
+// The first n octets of s; all where there are fewer.
+pub fn front(s: &[u8], n: usize) -> &[u8] {
+    if n < s.len() {
+        return &s[..n];
+    }
+    s
+}
+
+// So many spaces, at most 32.
+pub fn put_spaces(text: &mut [u8; 4096], waiting: usize, n: usize) -> usize {
+    put_all(text, waiting, front(b"                                ", n))
+}
+
+// A number.
+pub fn put_number(text: &mut [u8; 4096], waiting: usize, n: u64) -> usize {
+    let mut digits = [0u8; 20];
+    let k = io::decimal(n, &mut digits);
+    put_all(text, waiting, &digits[..k])
+}
+
+// How far a word of k characters stands from the left of a column.
+fn gap(width: usize, k: usize) -> usize {
+    if k < width {
+        return width - k;
+    }
+    0
+}
+
+// A number at the right of a column.
+pub fn put_right(text: &mut [u8; 4096], waiting: usize, n: u64, width: usize) -> usize {
+    let mut digits = [0u8; 20];
+    let k = io::decimal(n, &mut digits);
+    let w = put_spaces(text, waiting, gap(width, k));
+    put_all(text, w, &digits[..k])
+}
+
+// A word at the left of a column.
+pub fn put_left(text: &mut [u8; 4096], waiting: usize, s: &[u8], width: usize) -> usize {
+    let w = put_all(text, waiting, s);
+    put_spaces(text, w, gap(width, s.len()))
+}
+
+// One digit of sixteen, as a character.
+fn digit(n: u8) -> u8 {
+    let d = n % 16;
+    if d < 10 { b'0' + d } else { b'A' + (d - 10) }
+}
+
+// An octet, in two digits of sixteen. So two decimal digits in an octet are a number.
+pub fn put_octet(text: &mut [u8; 4096], waiting: usize, x: u8) -> usize {
+    let w = put(text, waiting, digit(x / 16));
+    put(text, w, digit(x % 16))
+}
+
+// Writes what waits, and answers whether all was written.
+pub fn write_out(text: &[u8; 4096], waiting: usize) -> bool {
+    if 4096 < waiting {
+        return false;
+    }
+    io::write_all(STDOUT_FILENO, front(text, waiting))
+}
