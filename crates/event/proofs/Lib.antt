@@ -4,3 +4,4 @@ pub mod Tried
 pub mod Saying
 pub mod Theorems
 pub mod Printed
+pub mod Framed

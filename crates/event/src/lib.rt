@@ -1,10 +1,12 @@
 // An event's octets decoded: what an event says, or the number of the first refusal that fits. The time's range is the node's to
 // look at, and so is what a context has to do with the event.
 //
-// number has numbers at a place, fields what follows the head, rows the refusals in their order, kinds the seven kinds.
+// number has numbers at a place, fields what follows the head, rows the refusals in their order, kinds the seven kinds, framing where an
+// event ends in a file of them.
 //
 // No public function has a `requires`: each answers for every input.
 mod fields;
+pub mod framing;
 mod kinds;
 mod number;
 mod rows;

@@ -17,7 +17,7 @@ fn is_marked(s: &[u8]) -> bool
 }
 
 // Kind 1 to 7.
-fn is_known(s: &[u8]) -> bool
+pub fn is_known(s: &[u8]) -> bool
     ensures { λ r. ⌜ r ≡ known (now (s .entry)) ⌝ }
 {
     let k = number::octet(s, 2);
@@ -25,7 +25,7 @@ fn is_known(s: &[u8]) -> bool
 }
 
 // The whole length of an event of kind k, whose octet 35 is n.
-fn whole_length(k: u8, n: u8) -> usize
+pub fn whole_length(k: u8, n: u8) -> usize
     ensures { λ r. ⌜ r ≡ wholeLength k n ⌝ }
 {
     if k == 1 {
