@@ -12,6 +12,8 @@ pub mod Heards
 pub mod Served
 pub mod Copied
 pub mod Calls
+pub mod Tasks
+pub mod Looks
 pub mod Demands
 pub mod Printed
 pub mod Kept

@@ -25,7 +25,7 @@ use Rattle.node.specs.declared.Heard.{Heard}
 use Rattle.node.specs.Sound.{sound, latest, mostAccepted}
 use Rattle.node.specs.Step.{Brought, handling, seen, stood, slots, octetsOf, activated, nodeAfter, recordsOf, output, notActive, isActive, allTaken, tableRows, outcome, Outs}
 use Rattle.node.specs.Shape.{Shaped}
-use Rattle.node.specs.Told.{Due, Ready, Sounding, Named}
+use Rattle.node.specs.Told.{Due, Ready, Sounding}
 use Rattle.node.specs.Range.{across, along, slotNext, slotOut, Turns, advanced, servedOf, Serves}
 use Rattle.node.proofs.Rules.{rules}
 use Rattle.node.proofs.Found.{First}

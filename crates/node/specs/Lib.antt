@@ -3,6 +3,7 @@ pub mod Sound
 pub mod Step
 pub mod Told
 pub mod Range
+pub mod Task
 pub mod Shape
 pub mod Sample
 pub mod Held

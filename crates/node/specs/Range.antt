@@ -44,6 +44,15 @@ pub record Turns {A : Type 0} (want : A) (x b b′ : List ℕ) (at : ℕ) (got :
   pub value : got ≡ want
   pub written : Put x b b′ at next
 
+-- what comes of a slot that hears h alone: 11 where there is no room for what it writes
+unfoldable pub triedOf : Profile → ℕ → Heard → Context → List ℕ → ℕ × (Context × (ℕ × List ℕ))
+triedOf p t h c b =
+    let x = slotOut p t h c in
+    cond (leb (length x) (length b)) (0, (slotNext p t h c, (length x, x ++ drop (length x) b))) (11, (c, (0, b)))
+
+pub record Tries (p : Profile) (t : ℕ) (h : Heard) (c : Context) (b b′ : List ℕ) (answer : ℕ) (c′ : Context) (written : ℕ) : Type 0 where
+  pub is : _≡_ {A = ℕ × (Context × (ℕ × List ℕ))} (answer, (c′, (written, b′))) (triedOf p t h c b)
+
 -- the node at a time, one event on, with this table
 abbrev pub advanced : Node → ℕ → List Context → Node
 advanced n t cs = record { profile = n .profile; clock = t; accepted = n .accepted + 1; contexts = cs }

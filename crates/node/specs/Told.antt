@@ -2,7 +2,7 @@
 use mathlib.Core.Path.{_≡_}
 use mathlib.Core.Bool.{true}
 use mathlib.Core.Option.{Option, none, some}
-use mathlib.Core.List.{List, map}
+use mathlib.Core.List.{List}
 use Prim.Native.Nat.{ℕ, _^_, _≤_, _<_}
 use lib.ListN.{drop}
 use Rattle.container.specs.Qos.{qosOk}
@@ -12,8 +12,6 @@ use Rattle.profile.specs.declared.Profile.{Profile}
 use Rattle.profile.specs.Profile.{profileOk}
 use Rattle.context.specs.declared.Context.{Context}
 use Rattle.context.specs.Sound.{contextOk, slotOk, slotsOk}
-use Rattle.context.specs.declared.slots.Slot.{Slot}
-use Rattle.context.specs.Slots.{slotOf}
 use Rattle.node.specs.declared.Node.{Node}
 use Rattle.node.specs.declared.Heard.{Heard}
 use Rattle.node.specs.declared.Heard.the-variants as H
@@ -75,8 +73,3 @@ pub record Sounding (n : Node) (t : ℕ) : Type 0 where
   pub since : n .clock ≤ t
   pub until : t ≤ latest
   pub few : n .accepted < mostAccepted
-
--- and the names of its slots
-pub record Named (n : Node) (t : ℕ) (names : List Slot) : Type 0 where
-  pub sounding : Sounding n t
-  pub are : names ≡ map slotOf (n .contexts)

@@ -17,7 +17,7 @@ ghost use Rattle.scdr.specs.Rules.{within};
 ghost use Rattle.node.specs.Hear.{hear};
 ghost use Rattle.node.specs.Step.{stood, markedOctets, octetsOf};
 ghost use Rattle.node.specs.Told.{Fair, Apt, Slotted};
-ghost use Rattle.node.specs.Range.{Counts, Turns, slotNext, slotOut};
+ghost use Rattle.node.specs.Range.{Counts, Turns, Tries, slotNext, slotOut};
 
 // What stands in a slot, and the place after what was written.
 pub struct Turned {
@@ -95,4 +95,35 @@ pub fn hear_slot(p: Profile, c: Context, t: u32, h: Heard, out: &mut [u8], at: u
         return hear(p, c, t, h, out, at);
     }
     Turned { context: c, at }
+}
+
+// What comes of a slot that hears something alone: 0, what then stands in it, and how many octets it wrote; or 11 where there is no room,
+// the same context, and 0.
+pub struct Tried {
+    pub answer: u8,
+    pub context: Context,
+    pub written: usize,
+}
+
+// A slot hears something alone, and writes from the start of out: first the room is looked for.
+pub fn try_slot(p: Profile, c: Context, t: u32, h: Heard, out: &mut [u8]) -> Tried
+    requires { ⌜ Slotted p t c ⌝ }
+    requires { ⌜ Fair h ⌝ }
+    ensures { λ r. ⌜ Tries p t h c (now (out .entry)) (now (out .exit)) (r .answer) (r .context) (r .written) ⌝ }
+{
+    let n = slot_size(p, c, t, h);
+    if out.len() < n {
+        return Tried {
+            answer: 11,
+            context: c,
+            written: 0,
+        };
+    }
+    let e = hear_slot(p, c, t, h, out, 0);
+    let context = e.context;
+    Tried {
+        answer: 0,
+        context,
+        written: e.at,
+    }
 }

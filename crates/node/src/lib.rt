@@ -9,6 +9,7 @@ mod emit;
 pub mod sound;
 pub mod step;
 mod table;
+mod task;
 mod turn;
 
 use container::Qos;

@@ -9,30 +9,28 @@ ghost use mathlib.Core.Path.{_≡_};
 ghost use mathlib.Core.Bool.{_&&_};
 ghost use lib.Dec.{leb};
 ghost use Rattle.profile.specs.Profile.{profileOk};
-ghost use Rattle.context.specs.Sound.{slotsOk};
 ghost use Rattle.context.specs.Slots.{distinct};
 ghost use Rattle.node.specs.Sound.{sound, latest, mostAccepted, noNode, Makes};
 
-// Does a node whose slots have these names keep every rule?
-pub fn keeps_rules(node: Node, names: [Slot; 16]) -> bool
-    ensures { λ r. ⌜ r ≡ (profileOk (node .profile) && leb (node .clock) latest && leb (node .accepted) mostAccepted && distinct names && slotsOk (node .profile .limits) (node .profile .zone) (node .clock) (node .accepted) (node .contexts)) ⌝ }
+// Does a node keep every rule, whose slots have these names and are all as they must be?
+pub fn keeps_rules(p: Profile, clock: u32, accepted: u64, names: [Slot; 16], slots: bool) -> bool
+    ensures { λ r. ⌜ r ≡ (profileOk p && leb clock latest && leb accepted mostAccepted && distinct names && slots) ⌝ }
 {
-    let p = node.profile;
-    let l = p.limits;
-    let cs = node.contexts;
     let a = profile::profile_ok(p);
     let b = slots::all_distinct(names);
-    let c = sound::slots_ok(l, p.zone, node.clock, node.accepted, cs);
-    a & (node.clock <= 3155759999) & (node.accepted <= 1000000000000000) & b & c
+    a & (clock <= 3155759999) & (accepted <= 1000000000000000) & b & slots
 }
 
 // Is a node sound?
 pub fn is_sound(node: Node) -> bool
     ensures { λ r. ⌜ r ≡ sound node ⌝ }
 {
+    let p = node.profile;
+    let l = p.limits;
     let cs = node.contexts;
     let names = slots::slots_of(cs);
-    keeps_rules(node, names)
+    let slots = sound::slots_ok(l, p.zone, node.clock, node.accepted, cs);
+    keeps_rules(p, node.clock, node.accepted, names, slots)
 }
 
 // A node that is all zero: no node is made of a bad profile. It is unsound.

@@ -1,34 +1,30 @@
 // One call: an event's octets, a lent buffer, and the node that the last call handed back.
 use crate::Heard;
 use crate::Node;
+use crate::emit;
+use crate::emit::Tried;
 use crate::sound;
 use crate::table;
+use crate::task;
+use crate::task::Task;
 use calendar::Stamp;
 use container::single;
 use context::Context;
-use context::slots;
-use context::slots::Found;
 use context::slots::Slot;
 use event::Activation;
-use event::Decoded;
-use event::Event;
 use event::Name;
 use profile::Profile;
 ghost use mathlib.Core.Path.{_≡_};
-ghost use mathlib.Core.Bool.{true};
-ghost use mathlib.Core.List.{List, map};
-ghost use Prim.Native.Nat.{ℕ, _+_, _≤_, _<_};
-ghost use lib.ListN.{length};
-ghost use Rattle.event.specs.declared.Decoded.the-variants.{Said};
-ghost use Rattle.event.specs.Event.{decoded};
+ghost use mathlib.Core.Bool.{cond};
+ghost use Prim.Native.Nat.{_≤_, _<_};
+ghost use lib.Dec.{eqb};
+ghost use lib.ListN.{length, set};
 ghost use Rattle.event.specs.Fields.{imsiOf, apnOf};
 ghost use Rattle.event.proofs.Theorems.{Activated};
 ghost use Rattle.scdr.specs.Layout.{fillTo};
-ghost use Rattle.context.specs.Slots.{slotOf, distinct};
-ghost use Rattle.history.specs.Log.{activates, tells, tellsAll};
-ghost use Rattle.node.specs.Sound.{sound, mostAccepted};
-ghost use Rattle.node.specs.Step.{Steps, Outs, tableRows, laterRows, takes, broughtBy, activated};
-ghost use Rattle.node.specs.Told.{Fair, Ready, Sounding, Named};
+ghost use Rattle.node.specs.Sound.{mostAccepted};
+ghost use Rattle.node.specs.Step.{Steps, broughtBy, activated};
+ghost use Rattle.node.specs.Told.{Fair, Ready};
 ghost use Rattle.node.specs.Range.{advanced, Serves};
 
 // The answer, the node, and how many octets were written.
@@ -85,28 +81,6 @@ fn serve(node: Node, from: usize, to: usize, t: u32, h: Heard, out: &mut [u8]) -
     accepted(node, t, contexts, e.at)
 }
 
-// The context of a name hears h.
-fn tell(node: Node, names: [Slot; 16], name: Name, t: u32, h: Heard, out: &mut [u8]) -> Stepped
-    requires { ⌜ Named node t names ⌝ }
-    requires { ⌜ Fair h ⌝ }
-    ensures { λ r. ⌜ Outs (tableRows node t (tells name h) (now (out .entry))) node t (tells name h) (now (out .entry)) (now (out .exit)) (r .answer) (r .node) (r .written) ⌝ }
-{
-    let found = slots::find(names, name);
-    match found {
-        Found::At(i) => serve(node, i, i + 1, t, h, out),
-        Found::Nothing => refused(node, 8),
-    }
-}
-
-// All contexts hear h.
-fn tell_all(node: Node, t: u32, h: Heard, out: &mut [u8]) -> Stepped
-    requires { ⌜ Sounding node t ⌝ }
-    requires { ⌜ Fair h ⌝ }
-    ensures { λ r. ⌜ Outs (tableRows node t (tellsAll h) (now (out .entry))) node t (tellsAll h) (now (out .entry)) (now (out .exit)) (r .answer) (r .node) (r .written) ⌝ }
-{
-    serve(node, 0, 16, t, h, out)
-}
-
 // The IMSI of an activate.
 fn imsi_of(event: &[u8]) -> [u8; 8]
     requires { ⌜ 36 ≤ length (now event) ⌝ }
@@ -160,81 +134,78 @@ fn opening(p: Profile, t: u32, a: Activation, event: &[u8]) -> Context
     }
 }
 
-// An activation takes the lowest free slot.
-fn activate(node: Node, names: [Slot; 16], t: u32, a: Activation, event: &[u8]) -> Stepped
-    requires { ⌜ Named node t names ⌝ }
-    requires { ⌜ Activated (now event) a ⌝ }
-    ensures { λ r. ⌜ ((b : List ℕ) → Outs (tableRows node t (activates (a .name) (λ g. broughtBy a (now (event .entry)))) b) node t (activates (a .name) (λ g. broughtBy a (now (event .entry)))) b b (r .answer) (r .node) (r .written)) ⌝ }
+// The node with what came of one slot: the same one where that is a refusal.
+fn placed(node: Node, i: usize, t: u32, k: Tried) -> Stepped
+    requires { ⌜ (i < 16) × (node .accepted < mostAccepted) ⌝ }
+    ensures { λ r. ⌜ (r .answer ≡ k .answer) × ((r .node ≡ cond (eqb (k .answer) 0) (advanced node t (set (node .contexts) i (k .context))) node) × (r .written ≡ cond (eqb (k .answer) 0) (k .written) 0)) ⌝ }
 {
-    let name = a.name;
-    if let Found::At(_) = slots::find(names, name) {
-        return refused(node, 9);
+    if k.answer != 0 {
+        return refused(node, k.answer);
     }
-    let free = slots::lowest_free(names);
-    match free {
-        Found::At(i) => {
-            let p = node.profile;
-            let c = opening(p, t, a, event);
-            let mut contexts = node.contexts;
-            contexts[i] = c;
-            accepted(node, t, contexts, 0)
-        }
-        Found::Nothing => refused(node, 10),
+    let context = k.context;
+    let mut n = node;
+    n.clock = t;
+    n.accepted = node.accepted + 1;
+    n.contexts[i] = context;
+    Stepped {
+        answer: 0,
+        node: n,
+        written: k.written,
     }
-}
-
-// What an event does that comes in time, by its kind.
-fn apply(node: Node, names: [Slot; 16], t: u32, e: Event, event: &[u8], out: &mut [u8]) -> Stepped
-    requires { ⌜ Named node t names ⌝ }
-    requires { ⌜ decoded (now event) ≡ Said t e ⌝ }
-    ensures { λ r. ⌜ Outs (tableRows node t (takes e (now (event .entry))) (now (out .entry))) node t (takes e (now (event .entry))) (now (out .entry)) (now (out .exit)) (r .answer) (r .node) (r .written) ⌝ }
-{
-    match e {
-        Event::Activate(a) => activate(node, names, t, a, event),
-        Event::Traffic(name, up, down) => {
-            tell(node, names, name, t, Heard::Traffic(up, down), out)
-        }
-        Event::Profile(name, q) => tell(node, names, name, t, Heard::Profile(q), out),
-        Event::Tariff => tell_all(node, t, Heard::Tariff, out),
-        Event::Release(name, cause) => tell(node, names, name, t, Heard::Release(cause), out),
-        Event::Tick => tell_all(node, t, Heard::Tick, out),
-        Event::Management(name) => tell(node, names, name, t, Heard::Management, out),
-    }
-}
-
-// The time first, then whether one more event may be accepted.
-fn timely(node: Node, names: [Slot; 16], t: u32, e: Event, event: &[u8], out: &mut [u8]) -> Stepped
-    requires { ⌜ sound node ≡ true ⌝ }
-    requires { ⌜ names ≡ map slotOf (node .contexts) ⌝ }
-    requires { ⌜ decoded (now event) ≡ Said t e ⌝ }
-    ensures { λ r. ⌜ Outs (laterRows node t (takes e (now (event .entry))) (now (out .entry))) node t (takes e (now (event .entry))) (now (out .entry)) (now (out .exit)) (r .answer) (r .node) (r .written) ⌝ }
-{
-    if 3155759999 < t {
-        return refused(node, 6);
-    }
-    if t < node.clock {
-        return refused(node, 6);
-    }
-    if 1000000000000000 <= node.accepted {
-        return refused(node, 7);
-    }
-    apply(node, names, t, e, event, out)
 }
 
 // Takes an event: any octets, any node, any buffer. The answer is 0, or the number of the first refusal that fits; then the node is the
 // same and nothing is written. Accepted, it answers the node after the event, and the records that it closed are written from the
 // start of out, each after its mark.
+//
+// The loop looks at every slot, whether it is as it must be, and takes its name down. (It stands here because a function that takes the
+// node copies its 12,232 octets.)
 pub fn step(node: Node, event: &[u8], out: &mut [u8]) -> Stepped
     ensures { λ r. ⌜ Steps node (now (event .entry)) (now (out .entry)) (now (out .exit)) (r .answer) (r .node) (r .written) ⌝ }
 {
-    let cs = node.contexts;
-    let names = slots::slots_of(cs);
-    if !sound::keeps_rules(node, names) {
-        return refused(node, 13);
+    let p = node.profile;
+    let l = p.limits;
+    let none = Slot {
+        active: 0,
+        name: Name { id: 0, ggsn: 0 },
+    };
+    let mut names = [none; 16];
+    let mut good = true;
+    let mut i: usize = 0;
+    while i < 16 {
+        let c = node.contexts[i];
+        good = good & context::sound::slot_ok(l, p.zone, node.clock, node.accepted, c);
+        let s = Slot {
+            active: c.active,
+            name: Name {
+                id: c.name.id,
+                ggsn: c.name.ggsn,
+            },
+        };
+        names[i] = s;
+        i += 1;
     }
-    let d = event::decode(event);
-    match d {
-        Decoded::Refused(k) => refused(node, k),
-        Decoded::Said(t, e) => timely(node, names, t, e, event, out),
+    let sound = sound::keeps_rules(p, node.clock, node.accepted, names, good);
+    let k = task::task_for(sound, node.clock, node.accepted, names, event);
+    match k {
+        Task::Refuse(answer) => refused(node, answer),
+        Task::One(at, t, h) => {
+            let c = node.contexts[at];
+            placed(node, at, t, emit::try_slot(p, c, t, h, out))
+        }
+        Task::All(t, h) => serve(node, 0, 16, t, h, out),
+        Task::Open(at, t, a) => {
+            let context = opening(p, t, a, event);
+            placed(
+                node,
+                at,
+                t,
+                Tried {
+                    answer: 0,
+                    context,
+                    written: 0,
+                },
+            )
+        }
     }
 }

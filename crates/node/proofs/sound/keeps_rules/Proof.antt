@@ -9,12 +9,8 @@ profile-ok-requires c κs = search needs
 all-distinct-requires : tie.Need-all-distinct-requires
 all-distinct-requires c κs = search needs
 
-slots-ok-requires : tie.Need-slots-ok-requires
-slots-ok-requires c κs = search needs
-
 returns : tie.Need-returns
-returns c = rw (c .before .before .before .before .profile-ok .ensures, c .before .before .before .all-distinct .ensures, c .before .before .slots-ok .ensures)
+returns c = rw (c .before .profile-ok .ensures, c .all-distinct .ensures)
 
 pub keeps-rules-spec : {M : Type 1} → statement M
-keeps-rules-spec =
-    tie.close (tie.spec profile-ok-requires all-distinct-requires slots-ok-requires returns)
+keeps-rules-spec = tie.close (tie.spec profile-ok-requires all-distinct-requires returns)

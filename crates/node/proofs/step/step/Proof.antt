@@ -1,70 +1,165 @@
 -- `node::step::step` meets its contract. Assumes nothing.
-use mathlib.Core.Path.{sym, _∙_}
-use borrow.Author.Tests.{not-true, not-false}
-use Rattle.node.proofs.Calls.{is-sound, steps-13, steps-octets, steps-said}
+use mathlib.Core.Path.{_≡_, sym, _∙_}
+use mathlib.Core.List.{List}
+use Prim.Native.Nat.{_-_}
+use native.Mathlib.Omega.{arith}
+use lib.ListN.{length}
+use Rattle.scdr.proofs.Tails.{length-of-map}
+use Rattle.history.specs.Lists.{All}
+use Rattle.node.specs.declared.Heard.the-variants as H
+use Rattle.node.specs.declared.task.Task.{Task}
+use Rattle.node.specs.Shape.{Shaped}
+use Rattle.node.proofs.Shapes.{all-shaped}
+use Rattle.node.proofs.Ranges.{slotted}
+use Rattle.node.proofs.Served.{ready}
+use Rattle.node.proofs.Looks.{Looking, looking-none, looking-more, looking-end}
+use Rattle.node.proofs.Tasks.{Tasked, tasked-by, steps-refused, steps-one, steps-all, steps-open}
 use borrow.Author.Needs.{needs}
 use Rattle.node.proofs.step.step.Statement.{statement}
 use Rattle.node.proofs.step.step.Tie as tie
 
-slots-of-requires : tie.Need-slots-of-requires
-slots-of-requires c κs = search needs
+abbrev Inv-loop : tie.InvT-loop
+Inv-loop event out node p l names₀ good₀ i₀ names good i = Looking l (p .zone) (node .clock) (node .accepted) (node .contexts) names good i
 
-keeps-rules-requires : tie.Need-keeps-rules-requires
+abbrev μ-loop : tie.MeasureT-loop
+μ-loop event out node p l names₀ good₀ i₀ names good i = 16 - i
+
+-- what the types say of the table
+shapes : (c : tie.Start Inv-loop μ-loop) → All Shaped (c .args .t1 .contexts)
+shapes c = all-shaped 16 (c .args .t1 .contexts) _ (c .good .0 .1 .1 .1 .1 .1 .0)
+
+whole : (c : tie.Start Inv-loop μ-loop) → length (c .args .t1 .contexts) ≡ 16
+whole c = search (needs, length-of-map)
+
+-- the task, once it is found out
+abbrev start : tie.After-task-for Inv-loop μ-loop → tie.Start Inv-loop μ-loop
+start c = c .before .before .before .before .before .before .before .before
+
+the-task : (c : tie.After-task-for Inv-loop μ-loop) (k : Task) → c .task-for .result ≡ k → Tasked (start c .args .t1) (start c .args .event .now) (start c .args .out .now) k
+the-task c k e =
+    let s = start c in
+    let w = whole s in
+    tasked-by (s .args .t1) (s .args .event .now) (s .args .out .now) (shapes s) w (looking-end _ _ _ _ _ (c .before .before .before .loop .inv) (omega (arith, c .before .before .loop-test .left))) (c .before .keeps-rules .ensures) (sym e ∙ c .task-for .ensures .0)
+
+loop-holds : tie.Need-loop-holds Inv-loop μ-loop
+loop-holds c = let s = c .before .before .before .before in let w = whole s in looking-none _ _ _ _ _ (omega arith)
+
+mul-c : tie.Need-mul-c Inv-loop μ-loop
+mul-c c = search needs
+
+element-copy-out-c : tie.Need-element-copy-out-c Inv-loop μ-loop
+element-copy-out-c c = search needs
+
+slot-ok-requires : tie.Need-slot-ok-requires Inv-loop μ-loop
+slot-ok-requires c κs = search needs
+
+mul-names : tie.Need-mul-names Inv-loop μ-loop
+mul-names c = search needs
+
+array-set-from-names : tie.Need-array-set-from-names Inv-loop μ-loop
+array-set-from-names c = search needs
+
+add-i : tie.Need-add-i Inv-loop μ-loop
+add-i c = search needs
+
+loop-less : tie.Need-loop-less Inv-loop μ-loop
+loop-less c = search needs
+
+loop-again : tie.Need-loop-again Inv-loop μ-loop
+loop-again c = let s = c .before .before .before .before .before .before .before .before in let w = whole s in looking-more _ _ _ _ _ (c .before .before .before .loop .inv) _ (omega arith) (c .slot-ok .ensures)
+
+keeps-rules-requires : tie.Need-keeps-rules-requires Inv-loop μ-loop
 keeps-rules-requires c κs = search needs
 
-refused-requires : tie.Need-refused-requires
+task-for-requires : tie.Need-task-for-requires Inv-loop μ-loop
+task-for-requires c κs = search needs
+
+enum-known-k : tie.Need-enum-known-k Inv-loop μ-loop
+enum-known-k c = search needs
+
+refused-requires : tie.Need-refused-requires Inv-loop μ-loop
 refused-requires c κs = search needs
 
-returns : tie.Need-returns
-returns c =
-    let s = c .before .before .before .before .before .before .before in
-    let r = c .refused .ensures in
-    steps-13 (s .args .node) (s .args .event .now) (s .args .out .now) (is-sound (s .args .node) (c .before .before .before .slots-of .ensures) (c .before .before .keeps-rules .ensures) ∙ not-true _ (c .before .if1 .taken)) (r .0) (r .1 .0) (r .1 .1)
+enum-known-k-2 : tie.Need-enum-known-k-2 Inv-loop μ-loop
+enum-known-k-2 c = search needs
 
-decode-requires : tie.Need-decode-requires
-decode-requires c κs = search needs
+mul-c-2 : tie.Need-mul-c-2 Inv-loop μ-loop
+mul-c-2 c = let t = the-task (c .before .before .before) _ (c .before .k2 .given .1) in omega (arith, t .fit .0)
 
-enum-known-d : tie.Need-enum-known-d
-enum-known-d c = search needs
+element-copy-out-c-2 : tie.Need-element-copy-out-c-2 Inv-loop μ-loop
+element-copy-out-c-2 c = let t = the-task (c .before .before .before) _ (c .before .k2 .given .1) in omega (arith, t .fit .0, whole (c .before .before .before .before .before .before .before .before .before .before .before))
 
-refused-requires-2 : tie.Need-refused-requires-2
-refused-requires-2 c κs = search needs
+try-slot-requires : tie.Need-try-slot-requires Inv-loop μ-loop
+try-slot-requires c κs = let s = c .before .before .before .before .before .before .before .before .before .before .before .before .before in let t = the-task (c .before .before .before .before .before) _ (c .before .before .before .k2 .given .1) in (slotted (s .args .t1 .profile) _ H.Tick 0 16 (s .args .t1 .contexts) _ (t .fit .0) (omega (arith, whole s)) (ready (s .args .t1) _ (t .fit .1)), rw (c .before .before .before .k2 .given .1) at (c .before .before .before .before .before .task-for .ensures .1))
 
-enum-known-d-2 : tie.Need-enum-known-d-2
-enum-known-d-2 c = search needs
+placed-requires : tie.Need-placed-requires Inv-loop μ-loop
+placed-requires c κs = let t = the-task (c .before .before .before .before .before .before .before .before) _ (c .before .before .before .before .before .before .k2 .given .1) in (t .fit .0, t .fit .1 .few)
 
-timely-requires : tie.Need-timely-requires
-timely-requires c κs =
-    let s = c .before .before .before .before .before .before .before .before .before .before .before in
-    ((is-sound (s .args .node) (c .before .before .before .before .before .before .before .slots-of .ensures) (c .before .before .before .before .before .before .keeps-rules .ensures) ∙ not-false _ (c .before .before .before .before .before .if1 .left)), (c .before .before .before .before .before .before .before .slots-of .ensures, sym (c .before .before .before .before .decode .ensures) ∙ c .before .before .d2 .given .1))
+enum-known-k-3 : tie.Need-enum-known-k-3 Inv-loop μ-loop
+enum-known-k-3 c = search needs
 
-returns-2 : tie.Need-returns-2
-returns-2 c =
-    let s = c .before .before .before .before .before .before .before .before .before .before .before in
-    let r = c .refused2 .ensures in
-    steps-octets (s .args .node) (s .args .event .now) (s .args .out .now) (is-sound (s .args .node) (c .before .before .before .before .before .before .before .slots-of .ensures) (c .before .before .before .before .before .before .keeps-rules .ensures) ∙ not-false _ (c .before .before .before .before .before .if1 .left)) (sym (c .before .before .before .before .decode .ensures) ∙ c .before .before .d .given .1) (r .0) (r .1 .0) (r .1 .1)
+serve-requires : tie.Need-serve-requires Inv-loop μ-loop
+serve-requires c κs = let s = c .before .before .before .before .before .before .before .before .before .before .before .before in let t = the-task (c .before .before .before .before) _ (c .before .before .k3 .given .1) in (ready (s .args .t1) _ (t .fit), (rw (c .before .before .k3 .given .1) at (c .before .before .before .before .task-for .ensures .1), ((omega arith, omega arith), t .fit .few)))
 
-same-length : tie.Need-same-length
+enum-known-k-4 : tie.Need-enum-known-k-4 Inv-loop μ-loop
+enum-known-k-4 c = search needs
+
+opening-requires : tie.Need-opening-requires Inv-loop μ-loop
+opening-requires c κs = the-task (c .before .before .before) _ (c .before .k4 .given .1) .fit .1 .1
+
+placed-requires-2 : tie.Need-placed-requires-2 Inv-loop μ-loop
+placed-requires-2 c κs = let t = the-task (c .before .before .before .before) _ (c .before .before .k4 .given .1) in (t .fit .0, t .fit .1 .0 .few)
+
+returns : tie.Need-returns Inv-loop μ-loop
+returns c = steps-refused (c .before .before .before .before .before .before .before .before .before .before .before .before .args .t1) (c .before .before .before .before .before .before .before .before .before .before .before .before .args .event .now) (c .before .before .before .before .before .before .before .before .before .before .before .before .args .out .now) (the-task (c .before .before .before .before) _ (c .before .before .k .given .1)) (c .refused .ensures .0) (c .refused .ensures .1 .0) (c .refused .ensures .1 .1)
+
+same-length : tie.Need-same-length Inv-loop μ-loop
 same-length c = search needs
 
-returns-3 : tie.Need-returns-3
-returns-3 c =
-    let s = c .before .before .before .before .before .before .before .before .before .before .before .before .before .before in
-    steps-said (s .args .node) (s .args .event .now) (s .args .out .now) (is-sound (s .args .node) (c .before .before .before .before .before .before .before .before .before .before .slots-of .ensures) (c .before .before .before .before .before .before .before .before .before .keeps-rules .ensures) ∙ not-false _ (c .before .before .before .before .before .before .before .before .if1 .left)) (sym (c .before .before .before .before .before .before .before .decode .ensures) ∙ c .before .before .before .before .before .d2 .given .1) (c .before .before .timely .ensures)
+returns-2 : tie.Need-returns-2 Inv-loop μ-loop
+returns-2 c = steps-one (c .before .before .before .before .before .before .before .before .before .before .before .before .before .before .before .before .before .args .t1) (c .before .before .before .before .before .before .before .before .before .before .before .before .before .before .before .before .before .args .event .now) (c .before .before .before .before .before .before .before .before .before .before .before .before .before .before .before .before .before .args .out .now) _ (whole (c .before .before .before .before .before .before .before .before .before .before .before .before .before .before .before .before .before)) (the-task (c .before .before .before .before .before .before .before .before .before) _ (c .before .before .before .before .before .before .before .k2 .given .1)) (c .before .before .before .try-slot .ensures) (c .placed .ensures)
+
+same-length-2 : tie.Need-same-length-2 Inv-loop μ-loop
+same-length-2 c = search needs
+
+returns-3 : tie.Need-returns-3 Inv-loop μ-loop
+returns-3 c = steps-all (c .before .before .before .before .before .before .before .before .before .before .before .before .before .before .before .args .t1) (c .before .before .before .before .before .before .before .before .before .before .before .before .before .before .before .args .event .now) (c .before .before .before .before .before .before .before .before .before .before .before .before .before .before .before .args .out .now) (the-task (c .before .before .before .before .before .before .before) _ (c .before .before .before .before .before .k3 .given .1)) (c .before .before .serve .ensures)
+
+returns-4 : tie.Need-returns-4 Inv-loop μ-loop
+returns-4 c = steps-open (c .before .before .before .before .before .before .before .before .before .before .before .before .before .args .t1) (c .before .before .before .before .before .before .before .before .before .before .before .before .before .args .event .now) (c .before .before .before .before .before .before .before .before .before .before .before .before .before .args .out .now) (the-task (c .before .before .before .before .before) _ (c .before .before .before .k4 .given .1)) (c .before .opening .ensures) (c .placed2 .ensures)
 
 pub step-spec : {M : Type 1} → statement M
 step-spec =
     tie.close
     (tie.spec
-    slots-of-requires
+    Inv-loop
+    μ-loop
+    loop-holds
+    mul-c
+    element-copy-out-c
+    slot-ok-requires
+    mul-names
+    array-set-from-names
+    add-i
+    loop-less
+    loop-again
     keeps-rules-requires
+    task-for-requires
+    enum-known-k
     refused-requires
+    enum-known-k-2
+    mul-c-2
+    element-copy-out-c-2
+    try-slot-requires
+    placed-requires
+    enum-known-k-3
+    serve-requires
+    enum-known-k-4
+    opening-requires
+    placed-requires-2
     returns
-    decode-requires
-    enum-known-d
-    refused-requires-2
-    enum-known-d-2
-    timely-requires
-    returns-2
     same-length
-    returns-3)
+    returns-2
+    same-length-2
+    returns-3
+    returns-4)

@@ -1,0 +1,233 @@
+-- What a call is to do is what the table of refusals and the rules say. Assumes nothing.
+use mathlib.Core.Path.{_≡_, refl, sym, ap, _∙_}
+use mathlib.Core.Bool.{Bool, true, false, cond, _&&_}
+use mathlib.Core.List.{List, _++_, map}
+use Prim.Native.Nat.{ℕ, suc, _+_, _≤_, _<_}
+use native.Mathlib.Omega.{arith}
+use native.Mathlib.Numerals.{add-one}
+use lib.Dec.{leb, ltb, eqb}
+use lib.ListN.{length, drop, getD, set}
+use borrow.Author.Tests.{le-leb, lt-leb, le-ltb, lt-ltb}
+use Rattle.format.proofs.Tests.{either}
+use Rattle.profile.specs.declared.Profile.{Profile}
+use Rattle.profile.specs.Profile.{profileOk}
+use Rattle.event.specs.declared.Name.{Name}
+use Rattle.event.specs.declared.Activation.{Activation}
+use Rattle.event.specs.declared.Event.{Event}
+use Rattle.event.specs.declared.Event.the-variants as E
+use Rattle.event.specs.declared.Decoded.{Decoded}
+use Rattle.event.specs.declared.Decoded.the-variants as D
+use Rattle.event.specs.Rows.{Row}
+use Rattle.event.specs.Event.{decoded}
+use Rattle.event.proofs.Theorems.{Activated, activated as activate-in, profiled, released}
+use Rattle.context.specs.declared.Context.{Context}
+use Rattle.context.specs.declared.slots.Slot.{Slot}
+use Rattle.context.specs.declared.slots.Found.{Found}
+use Rattle.context.specs.declared.slots.Found.the-variants.{At, Nothing}
+use Rattle.context.specs.Sound.{slotsOk}
+use Rattle.context.specs.Slots.{slotOf, isFree, bears, firstFrom, distinct}
+use Rattle.history.specs.Lists.{All}
+use Rattle.history.specs.Log.{Said, activates, tells, tellsAll}
+use Rattle.node.specs.declared.Node.{Node}
+use Rattle.node.specs.declared.Heard.{Heard}
+use Rattle.node.specs.declared.Heard.the-variants as H
+use Rattle.node.specs.declared.task.Task.{Task}
+use Rattle.node.specs.declared.task.Task.the-variants as K
+use Rattle.node.specs.Sound.{sound, latest, mostAccepted}
+use Rattle.node.specs.Step.{Brought, broughtBy, takes, activated, tableRows, laterRows, stepOf, Steps, Outs}
+use Rattle.node.specs.Shape.{Shaped}
+use Rattle.node.specs.Told.{Sounding}
+use Rattle.node.specs.Range.{across, along, slotNext, slotOut, Turns, advanced, triedOf, Tries, servedOf, Serves}
+use Rattle.node.specs.Task.{oneAt, namedTask, freeAt, openAt, openTask, taskOf, timelyTask, taskFor, doneBy, FairEvent}
+use Rattle.node.proofs.Found.{first-is, none-at, first-below}
+use Rattle.node.proofs.Ranges.{across-none, across-more, along-none, along-more}
+use Rattle.node.proofs.Served.{outs-tell, outs-all, outs-activate, outs-8, outs-9, outs-10}
+use Rattle.node.proofs.Calls.{outs-late, outs-early, outs-many, outs-timely, is-sound, steps-13, steps-octets, steps-said}
+
+-- an event that octets say is in range
+pub fair-event : (s : List ℕ) {t : ℕ} {e : Event} → decoded s ≡ D.Said t e → FairEvent e
+fair-event s {e = E.Activate a} d = tt
+fair-event s {e = E.Traffic n up down} d = tt
+fair-event s {e = E.Profile n q} d = profiled s d
+fair-event s {e = E.Tariff} d = tt
+fair-event s {e = E.Release n c} d = released s d
+fair-event s {e = E.Tick} d = tt
+fair-event s {e = E.Management n} d = tt
+
+-- ---- a slot heard alone
+
+module _ (n : Node) (i t : ℕ) (h : Heard) (d : Context) (l : i < length (n .contexts)) where
+  abbrev here : Context
+  here = getD (n .contexts) i d
+
+  alone : along i (i + 1) (slotOut (n .profile) t h) (n .contexts) ≡ slotOut (n .profile) t h here
+  alone = rw (add-one i) (along-more (slotOut (n .profile) t h) i i (n .contexts) d (omega arith) l ∙ rw (along-none (slotOut (n .profile) t h) i (n .contexts)))
+
+  placed : across i (i + 1) (slotNext (n .profile) t h) (n .contexts) ≡ set (n .contexts) i (slotNext (n .profile) t h here)
+  placed = rw (add-one i) (across-more (slotNext (n .profile) t h) i i (n .contexts) d (omega arith) l ∙ rw (across-none (slotNext (n .profile) t h) i (n .contexts)))
+
+  -- what is answered of it is answered of the node, with what then stands in its place
+  served-one : {b b′ : List ℕ} {a k a′ k′ : ℕ} {c : Context} {m : Node} → Tries (n .profile) t h here b b′ a c k → a′ ≡ a
+      → m ≡ cond (eqb a 0) (advanced n t (set (n .contexts) i c)) n → k′ ≡ cond (eqb a 0) k 0 → Serves n i (i + 1) t h b b′ a′ m k′
+  unfolding servedOf triedOf
+  served-one {b} {b′} {a} {k} {a′} {k′} {c} {m} w p q r =
+      let x = slotOut (n .profile) t h here in
+      either (length x) (length b)
+      (λ y.
+      let e = rw (le-leb (length x) (length b) y) at (w .is) in
+      let u = ap (λ (z : ℕ × (Context × (ℕ × List ℕ))). z .0) e in
+      let v = ap (λ (z : ℕ × (Context × (ℕ × List ℕ))). z .1 .0) e in
+      let f : m ≡ advanced n t (set (n .contexts) i (slotNext (n .profile) t h here)) = q ∙ rw (u, v) in
+      let g : k′ ≡ length x = r ∙ rw u (ap (λ (z : ℕ × (Context × (ℕ × List ℕ))). z .1 .1 .0) e) in
+      let o : a′ ≡ 0 = p ∙ u in
+      record { is = rw (alone, placed, le-leb (length x) (length b) y) (λ j. (o j, (f j, (g j, e j .1 .1 .1)))) })
+      (λ y.
+      let e = rw (lt-leb (length x) (length b) y) at (w .is) in
+      let u = ap (λ (z : ℕ × (Context × (ℕ × List ℕ))). z .0) e in
+      let f : m ≡ n = q ∙ rw u in
+      let g : k′ ≡ 0 = r ∙ rw u in
+      let o : a′ ≡ 11 = p ∙ u in
+      record { is = rw (alone, placed, lt-leb (length x) (length b) y) (λ j. (o j, (f j, (g j, e j .1 .1 .1)))) })
+
+module _ (p : Profile) (t : ℕ) (h : Heard) (c : Context) (b : List ℕ) where
+  pub tries-full : {size : ℕ} → size ≡ length (slotOut p t h c) → length b < size → Tries p t h c b b 11 c 0
+  unfolding triedOf
+  tries-full e l = record { is = rw (lt-leb (length (slotOut p t h c)) (length b) (omega arith)) }
+
+  pub tries-done : {b′ : List ℕ} {at : ℕ} {c′ : Context} → length (slotOut p t h c) ≤ length b → Turns (slotNext p t h c) (slotOut p t h c) b b′ 0 c′ at → Tries p t h c b b′ 0 c′ at
+  unfolding triedOf
+  tries-done {b′} {at} {c′} l w =
+      let x = slotOut p t h c in
+      let e = w .written .end in
+      let z : at ≡ length x = omega arith in
+      let v = w .value in
+      let u : b′ ≡ x ++ drop (length x) b = w .written .buf ∙ ap (λ (j : ℕ). x ++ drop j b) z in
+      record { is = rw (le-leb (length x) (length b) l) (λ i. (0, (v i, (z i, u i)))) }
+
+-- ---- the task is what the table says
+
+-- what the code may count on while it does it
+abbrev pub Fit : Node → List ℕ → Task → Type 0
+Fit n s (K.Refuse k) = Unit {0}
+Fit n s (K.One i t h) = (i < 16) × Sounding n t
+Fit n s (K.All t h) = Sounding n t
+Fit n s (K.Open i t a) = (i < 16) × (Sounding n t × Activated s a)
+
+pub record Tasked (n : Node) (s b : List ℕ) (k : Task) : Type 0 where
+  pub done : stepOf n s b ≡ doneBy n s b k
+  pub fit : Fit n s k
+
+module _ (n : Node) (s b : List ℕ) (z : All Shaped (n .contexts)) (whole : length (n .contexts) ≡ 16) where
+  refused-task : {j : ℕ} → Steps n s b b j n 0 → Tasked n s b (K.Refuse j)
+  unfolding doneBy
+  refused-task w = record { done = sym (w .is); fit = tt }
+
+  module _ (t : ℕ) (so : Sounding n t) where
+    abbrev names : List Slot
+    names = map slotOf (n .contexts)
+
+    module _ (w : Said (Unit {0}) Name Brought Heard) (conv : (b′ : List ℕ) (a k : ℕ) (r : Node) → Outs (tableRows n t w b) n t w b b′ a r k → Steps n s b b′ a r k) where
+      tell-task : (m : Name) (h : Heard) → w ≡ tells m h → (f : Found) → firstFrom (bears m) 0 names ≡ f → Tasked n s b (oneAt t h f)
+      unfolding doneBy
+      tell-task m h e (At i) q =
+          let f = first-is (bears m) (n .contexts) q in
+          let r = servedOf n i (i + 1) t h b in
+          let v : Serves n i (i + 1) t h b (r .1 .1 .1) (r .0) (r .1 .0) (r .1 .1 .0) = record { is = refl } in
+          let o : Outs (tableRows n t w b) n t w b (r .1 .1 .1) (r .0) (r .1 .0) (r .1 .1 .0) = rw e (outs-tell n t b so z m h f v) in
+          record { done = sym (conv _ _ _ _ o .is); fit = (omega (arith, first-below f), so) }
+      tell-task m h e Nothing q = refused-task (conv _ _ _ _ (rw e (outs-8 n t b m refl refl h (none-at (bears m) 0 (n .contexts) q) refl)))
+
+      all-task : (h : Heard) → w ≡ tellsAll h → Tasked n s b (K.All t h)
+      unfolding doneBy
+      all-task h e =
+          let r = servedOf n 0 16 t h b in
+          let v : Serves n 0 16 t h b (r .1 .1 .1) (r .0) (r .1 .0) (r .1 .1 .0) = record { is = refl } in
+          let o : Outs (tableRows n t w b) n t w b (r .1 .1 .1) (r .0) (r .1 .0) (r .1 .1 .0) = rw e (outs-all n t b so z h whole v) in
+          record { done = sym (conv _ _ _ _ o .is); fit = so }
+
+      open-task : (a : Activation) → w ≡ activates (a .name) (λ g. broughtBy a s) → Activated s a → (f g : Found) → firstFrom (bears (a .name)) 0 names ≡ f → firstFrom isFree 0 names ≡ g
+          → Tasked n s b (openAt t a f g)
+      unfolding doneBy
+      open-task a e x (At i) g q r = refused-task (conv _ _ _ _ (rw e (outs-9 n t b (a .name) refl refl (λ g. broughtBy a s) (first-is (bears (a .name)) (n .contexts) q) refl)))
+      open-task a e x Nothing (At i) q r =
+          let f = first-is isFree (n .contexts) r in
+          let o = outs-activate n t b so z (a .name) (λ g. broughtBy a s) (none-at (bears (a .name)) 0 (n .contexts) q) f {c = activated (n .profile) t (a .name) (broughtBy a s)} refl refl refl refl in
+          record { done = sym (conv _ _ _ _ (rw e o) .is); fit = (omega (arith, first-below f), (so, x)) }
+      open-task a e x Nothing Nothing q r =
+          refused-task (conv _ _ _ _ (rw e (outs-10 n t b (a .name) refl refl (λ g. broughtBy a s) (none-at (bears (a .name)) 0 (n .contexts) q) (none-at isFree 0 (n .contexts) r) refl)))
+
+    module _ (ok : sound n ≡ true) where
+      kind-task : (e : Event) → decoded s ≡ D.Said t e → Tasked n s b (taskOf names t e)
+      unfolding taskOf namedTask openTask
+      kind-task e q = go e q
+        where
+          later : {e : Event} → decoded s ≡ D.Said t e → (b′ : List ℕ) (a k : ℕ) (r : Node) → Outs (tableRows n t (takes e s) b) n t (takes e s) b b′ a r k → Steps n s b b′ a r k
+          later {e} q b′ a k r o = steps-said n s b ok q (outs-timely n t (takes e s) b (so .until) (so .since) (so .few) o)
+
+          go : (e : Event) → decoded s ≡ D.Said t e → Tasked n s b (taskOf names t e)
+          go (E.Activate a) q = open-task (takes (E.Activate a) s) (later q) a refl (activate-in s q) (firstFrom (bears (a .name)) 0 names) (firstFrom isFree 0 names) refl refl
+          go (E.Traffic m up down) q = tell-task (takes (E.Traffic m up down) s) (later q) m (H.Traffic up down) refl (firstFrom (bears m) 0 names) refl
+          go (E.Profile m p) q = tell-task (takes (E.Profile m p) s) (later q) m (H.Profile p) refl (firstFrom (bears m) 0 names) refl
+          go E.Tariff q = all-task (takes E.Tariff s) (later q) H.Tariff refl
+          go (E.Release m c) q = tell-task (takes (E.Release m c) s) (later q) m (H.Release c) refl (firstFrom (bears m) 0 names) refl
+          go E.Tick q = all-task (takes E.Tick s) (later q) H.Tick refl
+          go (E.Management m) q = tell-task (takes (E.Management m) s) (later q) m H.Management refl (firstFrom (bears m) 0 names) refl
+
+  module _ (ok : sound n ≡ true) (t : ℕ) (e : Event) (q : decoded s ≡ D.Said t e) where
+    abbrev w : Said (Unit {0}) Name Brought Heard
+    w = takes e s
+
+    timely-task : Tasked n s b (timelyTask (n .clock) (n .accepted) (map slotOf (n .contexts)) t e)
+    unfolding timelyTask
+    timely-task =
+        either t latest
+        (λ m. either (n .clock) t
+        (λ l. either mostAccepted (n .accepted)
+        (λ y. rw (le-ltb latest t m, le-ltb t (n .clock) l, le-leb mostAccepted (n .accepted) y) (refused-task (steps-said n s b ok q (outs-many n t w b refl refl m l y refl))))
+        (λ y. rw (le-ltb latest t m, le-ltb t (n .clock) l, lt-leb mostAccepted (n .accepted) y) (kind-task t (record { sound = ok; since = l; until = m; few = y }) ok e q)))
+        (λ l. rw (le-ltb latest t m, lt-ltb t (n .clock) l) (refused-task (steps-said n s b ok q (outs-early n t w b refl refl m l refl)))))
+        (λ m. rw (lt-ltb latest t m) (refused-task (steps-said n s b ok q (outs-late n t w b refl refl m refl))))
+
+  said-task : sound n ≡ true → (d : Decoded) → decoded s ≡ d → Tasked n s b (taskFor true (n .clock) (n .accepted) (map slotOf (n .contexts)) d)
+  unfolding taskFor
+  said-task ok (D.Refused k) q = refused-task (steps-octets n s b ok q refl refl refl)
+  said-task ok (D.Said t e) q = timely-task ok t e q
+
+  pub tasked : (ok : Bool) → sound n ≡ ok → Tasked n s b (taskFor ok (n .clock) (n .accepted) (map slotOf (n .contexts)) (decoded s))
+  unfolding taskFor
+  tasked false e = refused-task (steps-13 n s b e refl refl refl)
+  tasked true e = said-task e (decoded s) refl
+
+-- as the code finds it out
+pub tasked-by : (n : Node) (s b : List ℕ) → All Shaped (n .contexts) → length (n .contexts) ≡ 16 → {names : List Slot} {good ok : Bool} {k : Task}
+    → (names ≡ map slotOf (n .contexts)) × (good ≡ slotsOk (n .profile .limits) (n .profile .zone) (n .clock) (n .accepted) (n .contexts))
+    → ok ≡ (profileOk (n .profile) && leb (n .clock) latest && leb (n .accepted) mostAccepted && distinct names && good)
+    → k ≡ taskFor ok (n .clock) (n .accepted) names (decoded s) → Tasked n s b k
+tasked-by n s b z whole {names} {good} {ok} {k} looked e q =
+    let w : sound n ≡ ok = is-sound n (looked .0) (e ∙ rw (looked .1)) in
+    rw q (rw (looked .0) (tasked n s b z whole ok w))
+
+-- ---- what the code answers when it has done it
+
+module _ (n : Node) (s b : List ℕ) where
+  pub steps-refused : {j a k : ℕ} {m : Node} → Tasked n s b (K.Refuse j) → a ≡ j → m ≡ n → k ≡ 0 → Steps n s b b a m k
+  unfolding doneBy
+  steps-refused {j} {a} {k} {m} x p q r = let y : _≡_ {A = ℕ × (Node × (ℕ × List ℕ))} (a, (m, (k, b))) (j, (n, (0, b))) = (λ i. (p i, (q i, (r i, b)))) in record { is = y ∙ sym (x .done) }
+
+  pub steps-one : {i t : ℕ} {h : Heard} (d : Context) → length (n .contexts) ≡ 16 → {b′ : List ℕ} {a k a′ k′ : ℕ} {c : Context} {m : Node} → Tasked n s b (K.One i t h)
+      → Tries (n .profile) t h (getD (n .contexts) i d) b b′ a c k
+      → (a′ ≡ a) × ((m ≡ cond (eqb a 0) (advanced n t (set (n .contexts) i c)) n) × (k′ ≡ cond (eqb a 0) k 0)) → Steps n s b b′ a′ m k′
+  unfolding doneBy
+  steps-one {i} {t} {h} d whole x w p = record { is = served-one n i t h d (omega (arith, x .fit .0)) w (p .0) (p .1 .0) (p .1 .1) .is ∙ sym (x .done) }
+
+  pub steps-all : {t : ℕ} {h : Heard} {b′ : List ℕ} {a k : ℕ} {m : Node} → Tasked n s b (K.All t h) → Serves n 0 16 t h b b′ a m k → Steps n s b b′ a m k
+  unfolding doneBy
+  steps-all x w = record { is = w .is ∙ sym (x .done) }
+
+  pub steps-open : {i t : ℕ} {v : Activation} {c : Context} {a k : ℕ} {m : Node} → Tasked n s b (K.Open i t v) → c ≡ activated (n .profile) t (v .name) (broughtBy v s)
+      → (a ≡ 0) × ((m ≡ advanced n t (set (n .contexts) i c)) × (k ≡ 0)) → Steps n s b b a m k
+  unfolding doneBy
+  steps-open {i} {t} {v} {c} {a} {k} {m} x e p =
+      let q : m ≡ advanced n t (set (n .contexts) i (activated (n .profile) t (v .name) (broughtBy v s))) = p .1 .0 ∙ ap (λ (z : Context). advanced n t (set (n .contexts) i z)) e in
+      let y : _≡_ {A = ℕ × (Node × (ℕ × List ℕ))} (a, (m, (k, b))) (0, (advanced n t (set (n .contexts) i (activated (n .profile) t (v .name) (broughtBy v s))), (0, b))) = (λ i. (p .0 i, (q i, (p .1 .1 i, b)))) in
+      record { is = y ∙ sym (x .done) }

@@ -1,0 +1,26 @@
+-- `node::task::named` meets its contract. Assumes nothing.
+use mathlib.Core.Path.{sym, _∙_}
+use Rattle.node.specs.Task.{namedTask}
+use borrow.Author.Needs.{needs}
+use Rattle.node.proofs.task.named.Statement.{statement}
+use Rattle.node.proofs.task.named.Tie as tie
+
+find-requires : tie.Need-find-requires
+find-requires c κs = search needs
+
+enum-known-found : tie.Need-enum-known-found
+enum-known-found c = search needs
+
+enum-told : tie.Need-enum-told
+enum-told c = search needs
+
+returns : tie.Need-returns
+unfolding namedTask
+returns c = (rw (sym (c .before .before .before .find .ensures) ∙ c .before .found .given .1), c .before .before .before .before .pre)
+
+returns-2 : tie.Need-returns-2
+unfolding namedTask
+returns-2 c = (rw (sym (c .before .before .find .ensures) ∙ c .enum-told .given .1), tt)
+
+pub named-spec : {M : Type 1} → statement M
+named-spec = tie.close (tie.spec find-requires enum-known-found enum-told returns returns-2)

@@ -1,0 +1,44 @@
+-- `node::task::task_for` meets its contract. Assumes nothing.
+use mathlib.Core.Path.{sym, _∙_}
+use borrow.Author.Tests.{not-true, not-false}
+use Rattle.node.specs.Task.{taskFor}
+use Rattle.node.proofs.Tasks.{fair-event}
+use borrow.Author.Needs.{needs}
+use Rattle.node.proofs.task.task_for.Statement.{statement}
+use Rattle.node.proofs.task.task_for.Tie as tie
+
+returns : tie.Need-returns
+unfolding taskFor
+returns c = (rw (not-true (c .before .before .args .sound) (c .if1 .taken)), tt)
+
+decode-requires : tie.Need-decode-requires
+decode-requires c κs = search needs
+
+enum-known-d : tie.Need-enum-known-d
+enum-known-d c = search needs
+
+enum-known-d-2 : tie.Need-enum-known-d-2
+enum-known-d-2 c = search needs
+
+timely-requires : tie.Need-timely-requires
+timely-requires c κs = fair-event (c .before .before .before .before .before .before .args .event .now) (sym (c .before .before .before .decode .ensures) ∙ c .before .d2 .given .1)
+
+returns-2 : tie.Need-returns-2
+unfolding taskFor
+returns-2 c = (rw (not-false (c .before .before .before .before .before .before .args .sound) (c .before .before .before .before .if1 .left), sym (c .before .before .before .decode .ensures) ∙ c .before .d .given .1), tt)
+
+returns-3 : tie.Need-returns-3
+unfolding taskFor
+returns-3 c = rw (not-false (c .before .before .before .before .before .before .before .args .sound) (c .before .before .before .before .before .if1 .left), sym (c .before .before .before .before .decode .ensures) ∙ c .before .before .d2 .given .1) (c .timely .ensures)
+
+pub task-for-spec : {M : Type 1} → statement M
+task-for-spec =
+    tie.close
+    (tie.spec
+    returns
+    decode-requires
+    enum-known-d
+    enum-known-d-2
+    timely-requires
+    returns-2
+    returns-3)

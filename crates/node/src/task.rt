@@ -1,0 +1,99 @@
+// What a call is to do, by the names of the slots and the event. Nothing here has the table in hand: a node has 12,232 octets, and each
+// function that takes it copies it.
+use crate::Heard;
+use context::slots;
+use context::slots::Found;
+use context::slots::Slot;
+use event::Activation;
+use event::Decoded;
+use event::Event;
+use event::Name;
+ghost use mathlib.Core.Path.{_≡_};
+ghost use Rattle.event.specs.Event.{decoded};
+ghost use Rattle.node.specs.Told.{Fair};
+ghost use Rattle.node.specs.Task.{namedTask, openTask, taskOf, timelyTask, taskFor, FairEvent, FairTask};
+
+pub enum Task {
+    // the number of a refusal
+    Refuse(u8),
+    // the context in a slot hears something, at a time
+    One(usize, u32, Heard),
+    // all contexts do
+    All(u32, Heard),
+    // an activation fills a free slot, at a time
+    Open(usize, u32, Activation),
+}
+
+// The context of a name hears h.
+fn named(names: [Slot; 16], t: u32, name: Name, h: Heard) -> Task
+    requires { ⌜ Fair h ⌝ }
+    ensures { λ r. ⌜ (r ≡ namedTask names t name h) × FairTask r ⌝ }
+{
+    let found = slots::find(names, name);
+    match found {
+        Found::At(i) => Task::One(i, t, h),
+        Found::Nothing => Task::Refuse(8),
+    }
+}
+
+// An activation takes the lowest free slot.
+fn open(names: [Slot; 16], t: u32, a: Activation) -> Task
+    ensures { λ r. ⌜ (r ≡ openTask names t a) × FairTask r ⌝ }
+{
+    let name = a.name;
+    if let Found::At(_) = slots::find(names, name) {
+        return Task::Refuse(9);
+    }
+    let free = slots::lowest_free(names);
+    match free {
+        Found::At(i) => Task::Open(i, t, a),
+        Found::Nothing => Task::Refuse(10),
+    }
+}
+
+// What an event does that comes in time, by its kind.
+fn task_of(names: [Slot; 16], t: u32, e: Event) -> Task
+    requires { ⌜ FairEvent e ⌝ }
+    ensures { λ r. ⌜ (r ≡ taskOf names t e) × FairTask r ⌝ }
+{
+    match e {
+        Event::Activate(a) => open(names, t, a),
+        Event::Traffic(name, up, down) => named(names, t, name, Heard::Traffic(up, down)),
+        Event::Profile(name, q) => named(names, t, name, Heard::Profile(q)),
+        Event::Tariff => Task::All(t, Heard::Tariff),
+        Event::Release(name, cause) => named(names, t, name, Heard::Release(cause)),
+        Event::Tick => Task::All(t, Heard::Tick),
+        Event::Management(name) => named(names, t, name, Heard::Management),
+    }
+}
+
+// The time first, then whether one more event may be accepted.
+fn timely(clock: u32, accepted: u64, names: [Slot; 16], t: u32, e: Event) -> Task
+    requires { ⌜ FairEvent e ⌝ }
+    ensures { λ r. ⌜ (r ≡ timelyTask clock accepted names t e) × FairTask r ⌝ }
+{
+    if 3155759999 < t {
+        return Task::Refuse(6);
+    }
+    if t < clock {
+        return Task::Refuse(6);
+    }
+    if 1000000000000000 <= accepted {
+        return Task::Refuse(7);
+    }
+    task_of(names, t, e)
+}
+
+// The rows of the refusal table before room is looked for: 13, then those of the event's octets, then those of the time and the name.
+pub fn task_for(sound: bool, clock: u32, accepted: u64, names: [Slot; 16], event: &[u8]) -> Task
+    ensures { λ r. ⌜ (r ≡ taskFor sound clock accepted names (decoded (now (event .entry)))) × FairTask r ⌝ }
+{
+    if !sound {
+        return Task::Refuse(13);
+    }
+    let d = event::decode(event);
+    match d {
+        Decoded::Refused(k) => Task::Refuse(k),
+        Decoded::Said(t, e) => timely(clock, accepted, names, t, e),
+    }
+}
