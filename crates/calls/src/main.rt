@@ -5,11 +5,11 @@
 // The calls of a file are run from a fresh node, each on the node that the last one handed back, refused ones among them. A line a
 // call: the answer, the written length, the written octets in hex (docs/FORMATS.md).
 mod broken;
-mod window;
+mod call;
 
+use call::Head;
 use libc::STDERR_FILENO;
 use node::Node;
-use window::Head;
 use window::Place;
 
 // The node that the last call handed back; where the next call lies, and its number, from 1; and whether to go on.
@@ -44,7 +44,7 @@ fn called(s: State, event: &[u8], room: usize, out: &mut [u8]) -> State {
         setup::fail(b"calls", b"standard output");
     }
     let node = r.node;
-    let next = window::after(place, event.len());
+    let next = call::after(place, event.len());
     State {
         node,
         place: next,
@@ -54,9 +54,9 @@ fn called(s: State, event: &[u8], room: usize, out: &mut [u8]) -> State {
 }
 
 // More of the file, or its end.
-fn read_on(fd: i32, s: State, window: &mut [u8]) -> State {
+fn read_on(fd: i32, s: State, held: &mut [u8]) -> State {
     let p = s.place;
-    let f = window::fill(fd, window, p);
+    let f = window::fill(fd, held, p);
     let q = f.place;
     if f.got > 0 {
         return moved(s, q, true);
@@ -72,12 +72,12 @@ fn read_on(fd: i32, s: State, window: &mut [u8]) -> State {
 }
 
 // One call, or more of the file.
-fn turn(fd: i32, s: State, window: &mut [u8; 4096], out: &mut [u8; 20000]) -> State {
+fn turn(fd: i32, s: State, held: &mut [u8; 4096], out: &mut [u8; 20000]) -> State {
     let p = s.place;
-    let h = window::look(window, p);
+    let h = call::look(held, p);
     match h {
-        Head::Whole(room, length) => called(s, window::event(window, p, length), room, out),
-        Head::Part => read_on(fd, s, window),
+        Head::Whole(room, length) => called(s, call::event(held, p, length), room, out),
+        Head::Part => read_on(fd, s, held),
         Head::Room(n) => {
             broken::write_room(s.number, p.offset, n);
             moved(s, p, false)
@@ -91,7 +91,7 @@ fn turn(fd: i32, s: State, window: &mut [u8; 4096], out: &mut [u8; 20000]) -> St
 
 // A proved loop has to end, and nothing says that a file does. So it counts its turns down, from a number that no run uses up.
 fn run(fd: i32, node: Node) {
-    let mut window = io::buffer();
+    let mut held = io::buffer();
     let mut out = [0u8; 20000];
     let mut s = State {
         node,
@@ -105,7 +105,7 @@ fn run(fd: i32, node: Node) {
     };
     let mut turns = u64::MAX;
     while turns > 0 && s.going {
-        s = turn(fd, s, &mut window, &mut out);
+        s = turn(fd, s, &mut held, &mut out);
         turns -= 1;
     }
 }

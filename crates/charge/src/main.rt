@@ -7,8 +7,8 @@
 //
 // No contract can say what is read or written: each function is proved safe and ending.
 mod count;
+mod events;
 mod said;
-mod window;
 
 use libc::STDERR_FILENO;
 use libc::STDOUT_FILENO;
@@ -70,9 +70,9 @@ fn called(s: State, event: &[u8], out: &mut [u8]) -> State {
 }
 
 // More of the file, or its end.
-fn read_on(fd: i32, s: State, window: &mut [u8]) -> State {
+fn read_on(fd: i32, s: State, held: &mut [u8]) -> State {
     let p = s.place;
-    let f = window::fill(fd, window, p);
+    let f = window::fill(fd, held, p);
     let place = f.place;
     if f.got < 0 {
         setup::fail(b"charge", b"the file of events");
@@ -90,24 +90,24 @@ fn read_on(fd: i32, s: State, window: &mut [u8]) -> State {
 }
 
 // One event, or more of the file, or the end.
-fn turn(fd: i32, s: State, window: &mut [u8; 4096], out: &mut [u8; 16416]) -> State {
+fn turn(fd: i32, s: State, held: &mut [u8; 4096], out: &mut [u8; 16416]) -> State {
     let p = s.place;
     let here = window::left(p);
     if here < 291 {
         if !s.ended {
-            return read_on(fd, s, window);
+            return read_on(fd, s, held);
         }
     }
     if here == 0 {
         return stopped(s);
     }
-    called(s, window::next(window, p), out)
+    called(s, events::next(held, p), out)
 }
 
 // A proved loop has to end, and nothing says that a file does. So it counts its turns down, from a number that no run uses up. The buffer
 // has room for 16 records of 1,024 octets with their marks, which is more than an event can write.
 fn run(fd: i32, node: Node) -> Tally {
-    let mut window = io::buffer();
+    let mut held = io::buffer();
     let mut out = [0u8; 16416];
     let place = Place {
         at: 0,
@@ -128,7 +128,7 @@ fn run(fd: i32, node: Node) -> Tally {
     };
     let mut turns = u64::MAX;
     while turns > 0 && s.going {
-        s = turn(fd, s, &mut window, &mut out);
+        s = turn(fd, s, &mut held, &mut out);
         turns -= 1;
     }
     s.tally

@@ -8,14 +8,14 @@
 // docs/FORMATS.md has both forms.
 //
 // No contract can say what is read or written: each function is proved safe and ending.
+mod found;
 mod json;
 mod out;
 mod text;
 mod value;
-mod window;
 
+use found::Found;
 use libc::STDERR_FILENO;
-use window::Found;
 use window::Place;
 
 // The longest record with its mark.
@@ -61,9 +61,9 @@ fn turned(s: State, turn: Turn) -> State {
 }
 
 // More of the file, or its end.
-fn read_on(fd: i32, s: State, window: &mut [u8]) -> State {
+fn read_on(fd: i32, s: State, held: &mut [u8]) -> State {
     let p = s.place;
-    let f = window::fill(fd, window, p);
+    let f = window::fill(fd, held, p);
     let place = f.place;
     if f.got < 0 {
         fail(b"the record list");
@@ -128,7 +128,7 @@ fn show_one(json: bool, s: State, here: &[u8], text: &mut [u8; 4096]) -> State {
     if here.len() == 0 {
         return turned(s, Turn::Done);
     }
-    let f = window::look(here);
+    let f = found::look(here);
     match f {
         Found::Value(e) => show_value(json, s, window::part(here, 2, e), text),
         Found::NoMark => turned(s, Turn::NoMark),
@@ -142,16 +142,16 @@ fn take_turn(
     fd: i32,
     json: bool,
     s: State,
-    window: &mut [u8; 65536],
+    held: &mut [u8; 65536],
     text: &mut [u8; 4096],
 ) -> State {
     let p = s.place;
     if !s.ended {
         if window::left(p) < LONGEST {
-            return read_on(fd, s, window);
+            return read_on(fd, s, held);
         }
     }
-    show_one(json, s, window::part(window, p.at, p.end), text)
+    show_one(json, s, window::part(held, p.at, p.end), text)
 }
 
 fn is_going(s: State) -> bool {
@@ -212,7 +212,7 @@ fn finish(s: State, text: &[u8; 4096]) {
 
 // A proved loop has to end, and nothing says that a file does. So it counts its turns down, from a number that no run uses up.
 fn run(fd: i32, json: bool) {
-    let mut window = io::large_buffer();
+    let mut held = io::large_buffer();
     let mut text = [0u8; 4096];
     let mut s = State {
         place: Place {
@@ -227,7 +227,7 @@ fn run(fd: i32, json: bool) {
     };
     let mut turns = u64::MAX;
     while turns > 0 && is_going(s) {
-        s = take_turn(fd, json, s, &mut window, &mut text);
+        s = take_turn(fd, json, s, &mut held, &mut text);
         turns -= 1;
     }
     finish(s, &text);

@@ -1,10 +1,10 @@
--- `charge::window::front` is safe and ends. Assumes nothing.
+-- `window::front` meets its contract. Assumes nothing.
 use mathlib.Core.Path.{sym}
 use native.Mathlib.Omega.{arith}
-use lib.Seq.{length-take-le}
+use lib.Seq.{length-take-le, take-all}
 use borrow.Author.Needs.{needs}
-use Rattle.charge.proofs.window.front.Statement.{statement}
-use Rattle.charge.proofs.window.front.Tie as tie
+use Rattle.window.proofs.front.Statement.{statement}
+use Rattle.window.proofs.front.Tie as tie
 
 slice-aggregate-result : tie.Need-slice-aggregate-result
 slice-aggregate-result c = sym (length-take-le (c .before .before .args .n) (c .before .before .args .s .now) (omega arith))
@@ -13,7 +13,7 @@ returns : tie.Need-returns
 returns c = search needs
 
 returns-2 : tie.Need-returns-2
-returns-2 c = search needs
+returns-2 c = sym (take-all (c .before .args .n) (c .before .args .s .now) (c .if1 .left))
 
 pub front-spec : {M : Type 1} → statement M
 front-spec = tie.close (tie.spec slice-aggregate-result returns returns-2)

@@ -1,13 +1,11 @@
--- `calls::window::to_front` is safe and ends. Assumes nothing.
+-- `window::to_front` is safe and ends. Assumes nothing.
 use mathlib.Core.Path.{_≡_, refl}
 use Prim.Native.Nat.{_-_, _≤_}
 use native.Mathlib.Omega.{arith}
 use lib.ListN.{length}
 use borrow.Author.Needs.{needs}
-use Rattle.calls.proofs.window.to_front.Statement.{statement}
-use Rattle.calls.proofs.window.to_front.Tie as tie
-
--- `calls::window::to_front` is safe and ends. Assumes nothing.
+use Rattle.window.proofs.to_front.Statement.{statement}
+use Rattle.window.proofs.to_front.Tie as tie
 
 abbrev Inv-loop : tie.InvT-loop
 Inv-loop window₀ p n i₀ window i = (i ≤ n) × (length window ≡ length window₀)

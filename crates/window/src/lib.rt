@@ -1,9 +1,14 @@
-// The file of events, seen through a window of 4,096 octets.
-use event::framing;
+// A file seen through a window: octets that are held, of which some are left to look at, and more read behind them.
+//
+// What lies there is for the program to say. `fill` reads, so no contract can say what comes of it.
 use std::num::wrapping_add_u64;
 use std::num::wrapping_add_usize;
+ghost use mathlib.Core.Path.{_≡_};
+ghost use Prim.Native.Nat.{_+_, _-_, _%_, _^_};
+ghost use lib.ListN.{take};
+ghost use Rattle.window.specs.Part.{partOf};
 
-// Where the next event lies: in the window from `at` on, where octets of the file stand up to `end`; in the file after `offset` octets.
+// Where the next thing lies: in the window from `at` on, where octets of the file stand up to `end`; in the file after `offset` octets.
 pub struct Place {
     pub at: usize,
     pub end: usize,
@@ -18,48 +23,46 @@ pub struct Filled {
 }
 
 // How many octets of the window are left.
-pub fn left(p: Place) -> usize {
+pub fn left(p: Place) -> usize
+    ensures { λ r. ⌜ r ≡ p .end - p .at ⌝ }
+{
     if p.at < p.end {
         return p.end - p.at;
     }
     0
 }
 
-// What is left in the window.
-fn rest(window: &[u8], p: Place) -> &[u8] {
-    let a = p.at;
-    let b = p.end;
+// The octets of s from one place to another; none where that is no part of s.
+pub fn part(s: &[u8], a: usize, b: usize) -> &[u8]
+    ensures { λ r. ⌜ now r ≡ partOf a b (now (s .entry)) ⌝ }
+{
     if b < a {
-        return &window[..0];
+        return &s[..0];
     }
-    if window.len() < b {
-        return &window[..0];
+    if s.len() < b {
+        return &s[..0];
     }
-    &window[a..b]
+    &s[a..b]
 }
 
 // The first n octets of s; all where there are fewer.
-pub fn front(s: &[u8], n: usize) -> &[u8] {
+pub fn front(s: &[u8], n: usize) -> &[u8]
+    ensures { λ r. ⌜ now r ≡ take n (now (s .entry)) ⌝ }
+{
     if n < s.len() {
         return &s[..n];
     }
     s
 }
 
-// The next event. The window has to hold the longest event (291 octets, an activate whose n is 255) or all that is left of the file.
-// Where the octets there are no event, it is all that is left in the window. That may be less than is left of the file: then 291
-// octets or more are there, so it is a kind or a mark that is none, which is refused whatever follows.
-pub fn next(window: &[u8], p: Place) -> &[u8] {
-    let s = rest(window, p);
-    front(s, framing::next_length(s))
-}
-
-// The place after an event.
-pub fn after(p: Place, length: usize) -> Place {
+// The place n octets on.
+pub fn after(p: Place, n: usize) -> Place
+    ensures { λ r. ⌜ (r .at ≡ (p .at + n) % 2 ^ 64) × ((r .end ≡ p .end) × (r .offset ≡ (p .offset + n) % 2 ^ 64)) ⌝ }
+{
     Place {
-        at: wrapping_add_usize(p.at, length),
+        at: wrapping_add_usize(p.at, n),
         end: p.end,
-        offset: wrapping_add_u64(p.offset, length as u64),
+        offset: wrapping_add_u64(p.offset, n as u64),
     }
 }
 
