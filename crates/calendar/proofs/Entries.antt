@@ -4,7 +4,7 @@ use mathlib.Core.List.{List, [], _∷_}
 use Prim.Native.Nat.{ℕ, zero, suc, _+_, _<_}
 use native.Mathlib.Nat.{le-of-suc-le-suc, not-suc-le-zero, zero-add, add-zero, add-suc, suc-add}
 use lib.ListN.{getD}
-use Rattle.calendar.specs.Month.{monthLen, firstDay}
+use Rattle.calendar.specs.Month.{monthLen, firstDay, Table}
 use Rattle.calendar.proofs.Months.{start, next}
 
 -- the days on which month k and those after it begin, n in all, where month k begins on day f
@@ -23,3 +23,7 @@ from (suc n) k f e (suc i) h =
 -- what stands at i is the day on which month i begins
 pub entry : (n i : ℕ) → i < n → getD (days n 0 0) i 0 ≡ firstDay i
 entry n i h = from n 0 0 start i h ∙ ap firstDay (zero-add i)
+
+-- so what is this list, entry for entry, is the calendar's table
+pub table-of : (l : List ℕ) → l ≡ days 1200 0 0 → Table l
+table-of l e = record { begins = λ k h. ap (λ (m : List ℕ). getD m k 0) e ∙ entry 1200 k h }

@@ -45,3 +45,7 @@ pub record Dated (d k p : ℕ) : Type 0 where
   pub place : p ≡ monthDay d .1
   pub known : k < 1200
   pub small : p < 31
+
+-- A table of the days on which the months from 2000 to 2099 begin: what the code's own is, and what a look at it may rely on.
+pub record Table (l : List ℕ) : Type 0 where
+  pub begins : (k : ℕ) → k < 1200 → getD l k 0 ≡ firstDay k

@@ -2,22 +2,21 @@
 ghost use mathlib.Core.Path.{_≡_};
 ghost use Prim.Native.Nat.{_<_};
 ghost use Rattle.calendar.specs.Bound.{Is};
-ghost use Rattle.calendar.specs.Month.{monthDay, Dated};
+ghost use Rattle.calendar.specs.Month.{monthDay, Dated, Table};
 ghost use Rattle.calendar.specs.Stamp.{monthVal};
 use crate::digits::less_one;
 use crate::digits::of_bcd;
-use crate::table::first_day;
+use crate::table::day_in;
 
 // The month in which a day lies: the first whose next one begins after that day. No month is longer than 31 days, so it is
-// looked for from day / 31 on, at most 22 months before it. (A look at the table costs more than it seems: the compiler lays a
-// constant array out on the stack each time.)
-fn month_of(day: u32) -> u32
-    requires { ⌜ day < 36525 ⌝ }
+// looked for from day / 31 on, at most 22 months before it.
+fn month_of(first: &[u16; 1200], day: u32) -> u32
+    requires { ⌜ Table (now first) × (day < 36525) ⌝ }
     ensures { λ r. ⌜ r ≡ monthDay day .0 ⌝ }
 {
     let mut month = day / 31;
     while month < 1199 {
-        if day < first_day(month + 1) {
+        if day < day_in(first, month + 1) {
             return month;
         }
         month += 1;
@@ -31,14 +30,14 @@ pub struct Date {
     pub place: u32,
 }
 
-pub fn date_of(day: u32) -> Date
-    requires { ⌜ day < 36525 ⌝ }
+pub fn date_of(first: &[u16; 1200], day: u32) -> Date
+    requires { ⌜ Table (now first) × (day < 36525) ⌝ }
     ensures { λ r. ⌜ Dated day (r .month) (r .place) ⌝ }
 {
-    let month = month_of(day);
+    let month = month_of(first, day);
     Date {
         month,
-        place: day - first_day(month),
+        place: day - day_in(first, month),
     }
 }
 

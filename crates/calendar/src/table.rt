@@ -2,7 +2,7 @@
 ghost use mathlib.Core.Path.{_≡_};
 ghost use Prim.Native.Nat.{_<_};
 ghost use Rattle.calendar.specs.Bound.{Is};
-ghost use Rattle.calendar.specs.Month.{firstDay};
+ghost use Rattle.calendar.specs.Month.{firstDay, Table};
 
 // Month k, counted from January 2000, begins FIRST[k] days after 2000-01-01.
 const FIRST: [u16; 1200] = [
@@ -1208,12 +1208,20 @@ const FIRST: [u16; 1200] = [
     36494,
 ];
 
-// The day on which a month begins. That the table is the calendar's is proved here, once, for all its entries.
-pub fn first_day(month: u32) -> u32
-    requires { ⌜ month < 1200 ⌝ }
+// The table, to be held by one who looks at it more than once: the compiler lays a constant array out on the stack each time that it
+// is named. That it is the calendar's is proved here, once, for all its entries.
+pub fn first_days() -> [u16; 1200]
+    ensures { λ r. ⌜ Table r ⌝ }
+{
+    FIRST
+}
+
+// The day on which a month begins, by a table that is the calendar's.
+pub fn day_in(first: &[u16; 1200], month: u32) -> u32
+    requires { ⌜ Table (now first) × (month < 1200) ⌝ }
     ensures { λ r. ⌜ Is (firstDay month) 36525 r ⌝ }
 {
-    widened(FIRST[month as usize])
+    widened(first[month as usize])
 }
 
 // The same number. (A cast of an entry on the spot would ask how large the entry is.)

@@ -10,17 +10,17 @@ use Rattle.calendar.proofs.month.date_of.Tie as tie
 month-of-requires : tie.Need-month-of-requires
 month-of-requires c κs = search needs
 
-first-day-requires : tie.Need-first-day-requires
-first-day-requires c κs = omega (arith, lies (c .before .args .day) (search needs))
+day-in-requires : tie.Need-day-in-requires
+day-in-requires c κs = (c .before .pre .0, omega (arith, lies (c .before .args .day) (search needs)))
 
-sub-t4 : tie.Need-sub-t4
-sub-t4 c =
+sub-t5 : tie.Need-sub-t5
+sub-t5 c =
     let l = lies (c .before .before .args .day) (search needs) in
     let e = ap firstDay (c .before .month-of .ensures) in
     omega arith
 
 returns : tie.Need-returns
-returns c = dated (c .before .before .args .day) _ _ (search needs) (c .before .month-of .ensures) (c .first-day .ensures .same)
+returns c = dated (c .before .before .args .day) _ _ (search needs) (c .before .month-of .ensures) (c .day-in .ensures .same)
 
 pub date-of-spec : {M : Type 1} → statement M
-date-of-spec = tie.close (tie.spec month-of-requires first-day-requires sub-t4 returns)
+date-of-spec = tie.close (tie.spec month-of-requires day-in-requires sub-t5 returns)

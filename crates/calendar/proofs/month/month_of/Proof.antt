@@ -11,19 +11,19 @@ use Rattle.calendar.proofs.month.month_of.Statement.{statement}
 use Rattle.calendar.proofs.month.month_of.Tie as tie
 
 abbrev Inv-loop : tie.InvT-loop
-Inv-loop day month₀ month = (month ≤ 1199) × (firstDay month ≤ day)
+Inv-loop first day month₀ month = (month ≤ 1199) × (firstDay month ≤ day)
 
 abbrev μ-loop : tie.MeasureT-loop
-μ-loop day month₀ month = 1199 - month
+μ-loop first day month₀ month = 1199 - month
 
 loop-holds : tie.Need-loop-holds Inv-loop μ-loop
 loop-holds c = omega (arith, slow (c .args .day / 31))
 
-add-first-day : tie.Need-add-first-day Inv-loop μ-loop
-add-first-day c = search needs
+add-day-in : tie.Need-add-day-in Inv-loop μ-loop
+add-day-in c = search needs
 
-first-day-requires : tie.Need-first-day-requires Inv-loop μ-loop
-first-day-requires c κs = search needs
+day-in-requires : tie.Need-day-in-requires Inv-loop μ-loop
+day-in-requires c κs = search needs
 
 returns : tie.Need-returns Inv-loop μ-loop
 returns c =
@@ -53,8 +53,8 @@ month-of-spec =
     Inv-loop
     μ-loop
     loop-holds
-    add-first-day
-    first-day-requires
+    add-day-in
+    day-in-requires
     returns
     add-month
     loop-less
