@@ -3,14 +3,14 @@
 use mathlib.Core.Path.{_≡_, refl, sym, ap, ap₂, _∙_}
 use mathlib.Core.Bool.{Bool, true, false, not, _&&_, Bool·beq}
 use mathlib.Core.List.{List, [], _∷_}
-use Prim.Native.Nat.{ℕ, zero, suc, _+_, _≤_, _<_}
+use Prim.Native.Nat.{ℕ, zero, suc, _+_, _-_, _≤_, _<_}
 use native.Mathlib.Numerals.{add-one}
 use native.Mathlib.Omega.{arith}
 use lib.Dec.{leb, ltb, eqb, eqb→eq}
 use lib.ListN.{length, take, drop, getD, drop-of-length-le, length-drop}
 use lib.Seq.{drop-cons, getD-take, length-take-le}
 use borrow.Author.Tests.{le-leb, lt-leb}
-use Rattle.format.proofs.Tests.{T-true, true-T, and-l, and-r}
+use Rattle.format.proofs.Tests.{by, T-true, true-T, and-l, and-r}
 use Rattle.calendar.specs.declared.Stamp.{Stamp}
 use Rattle.container.specs.declared.Container.{Container}
 use Rattle.container.specs.Qos.{sameQos, noQos}
@@ -31,15 +31,15 @@ module _ (v : List Container) (n : ℕ) (r : n ≤ length v) where
   front-end i h = drop-of-length-le (take n v) {i = i} (omega (arith, length-take-le n v r))
 
   module _ (z t i : ℕ) (d : Container) where
-    pub stand-no : i < n → stands z t (getD v i d) ≡ false → false ≡ allStand z t (drop i (take n v))
+    stand-no : i < n → stands z t (getD v i d) ≡ false → false ≡ allStand z t (drop i (take n v))
     unfolding allStand
     stand-no h e = rw (front-cons i d h, e)
 
-    pub stand-more : i < n → stands z t (getD v i d) ≡ true → allStand z (getD v i d .time .seconds) (drop (i + 1) (take n v)) ≡ allStand z t (drop i (take n v))
+    stand-more : i < n → stands z t (getD v i d) ≡ true → allStand z (getD v i d .time .seconds) (drop (i + 1) (take n v)) ≡ allStand z t (drop i (take n v))
     unfolding allStand
     stand-more h e = rw (front-cons i d h, e)
 
-  pub stand-end : (z t i : ℕ) → n ≤ i → true ≡ allStand z t (drop i (take n v))
+  stand-end : (z t i : ℕ) → n ≤ i → true ≡ allStand z t (drop i (take n v))
   unfolding allStand
   stand-end z t i h = rw (front-end i h)
 
@@ -47,15 +47,15 @@ module _ (v : List Container) (n : ℕ) (r : n ≤ length v) where
     two : drop i (take n v) ≡ getD v i d ∷ getD v (i + 1) e ∷ drop (i + 1 + 1) (take n v)
     two = front-cons i d (omega arith) ∙ ap {B = List Container} (λ l. getD v i d ∷ l) (front-cons (i + 1) e h)
 
-    pub follow-no : follows (getD v i d) (getD v (i + 1) e) ≡ false → false ≡ allFollow (drop i (take n v))
+    follow-no : follows (getD v i d) (getD v (i + 1) e) ≡ false → false ≡ allFollow (drop i (take n v))
     unfolding allFollow
     follow-no q = rw (two, q)
 
-    pub follow-more : follows (getD v i d) (getD v (i + 1) e) ≡ true → allFollow (drop (i + 1) (take n v)) ≡ allFollow (drop i (take n v))
+    follow-more : follows (getD v i d) (getD v (i + 1) e) ≡ true → allFollow (drop (i + 1) (take n v)) ≡ allFollow (drop i (take n v))
     unfolding allFollow
     follow-more q = rw (two, front-cons (i + 1) e h, q)
 
-  pub follow-end : (i : ℕ) → n ≤ i + 1 → true ≡ allFollow (drop i (take n v))
+  follow-end : (i : ℕ) → n ≤ i + 1 → true ≡ allFollow (drop i (take n v))
   unfolding allFollow
   follow-end i h = single (drop i (take n v)) (omega (arith, length-drop i (take n v), length-take-le n v r))
     where
@@ -140,7 +140,7 @@ module _ (v : List Container) (n : ℕ) (opening : Stamp) where
   pub ok-many : 15 < n → false ≡ (leb n 15 && listOk opening (take n v))
   ok-many h = rw (lt-leb n 15 h)
 
-  pub ok-rules : (i : ℕ) (d : Container) {a b : Bool} → n ≡ suc i → n ≤ 15 → n ≤ length v
+  ok-rules : (i : ℕ) (d : Container) {a b : Bool} → n ≡ suc i → n ≤ 15 → n ≤ length v
       → a ≡ allStand (opening .zone) (opening .seconds) (take n v) → b ≡ allFollow (take n v)
       → (a && b && eqb (getD v i d .condition) 2) ≡ (leb n 15 && listOk opening (take n v))
   unfolding listOk
@@ -150,6 +150,69 @@ module _ (v : List Container) (n : ℕ) (opening : Stamp) where
       let w : eqb (getD v i d .condition) 2 ≡ lastEnds cs = ap (λ (c : Container). eqb (c .condition) 2) (sym (getD-take n v i d (omega arith))) ∙ last-at cs i d (l ∙ e) in
       rw (p, q, w, all-stand (opening .zone) (opening .seconds) cs, le-leb n 15 h, le-leb 1 (length cs) (omega arith), le-leb (length cs) 15 (omega arith))
       (gather (eachOk cs) (lastAlone cs) (oneOffset (opening .zone) cs) (inOrder (opening .seconds) cs) (qosRule cs) (allFollow cs) (lastEnds cs) (all-follow cs (omega arith)))
+
+-- ---- the loop of `list_ok`
+
+-- Where it stands at i, which is not past the last: what is left to look at, from the time t on, decides. (It began at the time f.)
+pub record Turning (v : List Container) (n z f t i : ℕ) : Type 0 where
+  pub before : i < n
+  pub stood : allStand z t (drop i (take n v)) ≡ allStand z f (take n v)
+  pub followed : allFollow (drop i (take n v)) ≡ allFollow (take n v)
+
+pub turning-none : (v : List Container) (n z f : ℕ) → 1 ≤ n → Turning v n z f f 0
+turning-none v n z f h = record { before = omega arith; stood = refl; followed = refl }
+
+module _ (v : List Container) (n : ℕ) (r : n ≤ length v) {z f t i : ℕ} (s : Turning v n z f t i) (d : Container) where
+  -- one container more
+  pub turning-more : (e : Container) → i + 1 < n → (stands z t (getD v i d) && follows (getD v i d) (getD v (i + 1) e)) ≡ true
+      → Turning v n z f (getD v i d .time .seconds) (i + 1)
+  turning-more e h q =
+      let a = stands z t (getD v i d) in
+      let b = follows (getD v i d) (getD v (i + 1) e) in
+      let w = true-T (a && b) q in
+      record {
+        before = h;
+        stood = stand-more v n r z t i d (s .before) (T-true a (and-l a b w)) ∙ s .stood;
+        followed = follow-more v n r i d e h (T-true b (and-r a b w)) ∙ s .followed;
+      }
+
+  -- at the last one, it alone decides
+  last-stands : n ≤ i + 1 → stands z t (getD v i d) ≡ allStand z f (take n v)
+  last-stands h =
+      by (stands z t (getD v i d))
+      (λ q. q ∙ stand-end v n r z (getD v i d .time .seconds) (i + 1) h ∙ stand-more v n r z t i d (s .before) q ∙ s .stood)
+      (λ q. q ∙ stand-no v n r z t i d (s .before) q ∙ s .stood)
+
+  last-follows : n ≤ i + 1 → true ≡ allFollow (take n v)
+  last-follows h = follow-end v n r i h ∙ s .followed
+
+-- what one test refuses, the rules do
+refused : (a b s f l : Bool) → (a && b) ≡ false → (a ≡ false → false ≡ s) → (b ≡ false → false ≡ f) → false ≡ (s && f && l)
+refused false b s f l e p q = ap (λ (x : Bool). x && f && l) (p refl)
+refused true b s f l e p q = never s ∙ ap (λ (x : Bool). s && x && l) (q e)
+  where
+    never : (s : Bool) → false ≡ (s && false && l)
+    never true = refl
+    never false = refl
+
+module _ (v : List Container) (n : ℕ) (opening : Stamp) (k : n ≤ 15) (r : n ≤ length v) {t i : ℕ} (s : Turning v n (opening .zone) (opening .seconds) t i) (d : Container) where
+  pub turning-no : (e : Container) → i + 1 < n → (stands (opening .zone) t (getD v i d) && follows (getD v i d) (getD v (i + 1) e)) ≡ false
+      → false ≡ (leb n 15 && listOk opening (take n v))
+  turning-no e h q =
+      refused (stands (opening .zone) t (getD v i d)) (follows (getD v i d) (getD v (i + 1) e)) _ _ (eqb (getD v (n - 1) d .condition) 2) q
+      (λ a. stand-no v n r (opening .zone) t i d (s .before) a ∙ s .stood)
+      (λ b. follow-no v n r i d e h b ∙ s .followed)
+      ∙ ok-rules v n opening (n - 1) d (omega (arith, s .before)) k r refl refl
+
+  pub turning-end : {a : Bool} → n ≤ i + 1 → a ≡ stands (opening .zone) t (getD v i d)
+      → (a && eqb (getD v i d .condition) 2) ≡ (leb n 15 && listOk opening (take n v))
+  turning-end {a} h q =
+      and-true a (eqb (getD v i d .condition) 2)
+      ∙ ok-rules v n opening i d (omega (arith, s .before)) k r (q ∙ last-stands v n r s d h) (last-follows v n r s d h)
+    where
+      and-true : (a l : Bool) → (a && l) ≡ (a && true && l)
+      and-true true l = refl
+      and-true false l = refl
 
 -- ---- places that are not used
 

@@ -6,11 +6,10 @@ use crate::single;
 use calendar::Stamp;
 ghost use mathlib.Core.Path.{_≡_};
 ghost use mathlib.Core.Bool.{_&&_, Bool·beq};
-ghost use Prim.Native.Nat.{_≤_};
 ghost use lib.Dec.{leb};
 ghost use lib.ListN.{take};
 ghost use Rattle.container.specs.List.{listOk, changes};
-ghost use Rattle.container.specs.Turns.{stands, allStand, follows, allFollow};
+ghost use Rattle.container.specs.Turns.{stands, follows};
 
 // Do the first n containers of v keep the rules of a record that opened at a time?
 pub fn list_ok(v: [Container; 15], n: usize, opening: Stamp) -> bool
@@ -22,28 +21,30 @@ pub fn list_ok(v: [Container; 15], n: usize, opening: Stamp) -> bool
     if 15 < n {
         return false;
     }
-    let last = v[n - 1];
-    let stand = all_stand(v, n, opening.zone, opening.seconds);
-    let follow = all_follow(v, n);
-    stand & follow & (last.condition == 2)
-}
-
-// Is each container as it must be, in the zone, and not before the one that it follows, the first not before t?
-fn all_stand(v: [Container; 15], n: usize, zone: u16, t: u32) -> bool
-    requires { ⌜ n ≤ 15 ⌝ }
-    ensures { λ r. ⌜ r ≡ allStand zone t (take n v) ⌝ }
-{
+    let zone = opening.zone;
     let mut i: usize = 0;
-    let mut from = t;
-    while i < n {
+    let mut from = opening.seconds;
+    while i + 1 < n {
         let c = v[i];
-        if !stands(c, zone, from) {
+        let d = v[i + 1];
+        if !turns(c, d, zone, from) {
             return false;
         }
         from = c.time.seconds;
         i += 1;
     }
-    true
+    let last = v[i];
+    let stand = stands(last, zone, from);
+    stand & (last.condition == 2)
+}
+
+// Is c as it must be, in the zone, and not before a time, and may d follow it?
+fn turns(c: Container, d: Container, zone: u16, from: u32) -> bool
+    ensures { λ r. ⌜ r ≡ (stands zone from c && follows c d) ⌝ }
+{
+    let stand = stands(c, zone, from);
+    let follow = follows(c, d);
+    stand & follow
 }
 
 // Is a container as it must be, in the zone, and not before a time?
@@ -53,23 +54,6 @@ fn stands(c: Container, zone: u16, from: u32) -> bool
     let t = c.time;
     let ok = single::container_ok(c);
     ok & (t.zone == zone) & (from <= t.seconds)
-}
-
-// May each container follow the one before it?
-fn all_follow(v: [Container; 15], n: usize) -> bool
-    requires { ⌜ n ≤ 15 ⌝ }
-    ensures { λ r. ⌜ r ≡ allFollow (take n v) ⌝ }
-{
-    let mut i: usize = 0;
-    while i + 1 < n {
-        let c = v[i];
-        let d = v[i + 1];
-        if !follows(c, d) {
-            return false;
-        }
-        i += 1;
-    }
-    true
 }
 
 // May d follow c: c is not the last, and their profiles differ exactly where a QoS change ended c?

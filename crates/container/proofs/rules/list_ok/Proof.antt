@@ -1,46 +1,110 @@
--- `container::rules::list_ok` meets its contract: what the two loops find, and the last container's condition, are the rules. Assumes
+-- `container::rules::list_ok` meets its contract. The loop's invariant: what is left to look at, from the last time on, decides. Assumes
 -- nothing.
-use mathlib.Core.Path.{_≡_}
+use mathlib.Core.Path.{_≡_, sym, _∙_}
 use Prim.Native.Nat.{_-_}
 use native.Mathlib.Omega.{arith}
 use lib.ListN.{length}
+use borrow.Author.Tests.{not-true, not-false}
 use borrow.Author.Needs.{needs}
-use Rattle.container.proofs.Turns.{ok-few, ok-many, ok-rules}
+use Rattle.container.proofs.Turns.{ok-few, ok-many, Turning, turning-none, turning-more, turning-no, turning-end}
 use Rattle.container.proofs.rules.list_ok.Statement.{statement}
 use Rattle.container.proofs.rules.list_ok.Tie as tie
 
-returns : tie.Need-returns
+abbrev Inv-loop : tie.InvT-loop
+Inv-loop n v zone i₀ from₀ i from = Turning v n zone from₀ from i
+
+abbrev μ-loop : tie.MeasureT-loop
+μ-loop n v zone i₀ from₀ i from = n - i
+
+returns : tie.Need-returns Inv-loop μ-loop
 returns c = let a = c .before .args in ok-few (a .t1) (a .n) (a .opening) (c .if1 .taken)
 
-returns-2 : tie.Need-returns-2
+returns-2 : tie.Need-returns-2 Inv-loop μ-loop
 returns-2 c = let a = c .before .before .args in ok-many (a .t1) (a .n) (a .opening) (c .if2 .taken)
 
-mul-last : tie.Need-mul-last
+loop-holds : tie.Need-loop-holds Inv-loop μ-loop
+loop-holds c = let a = c .before .before .args in turning-none (a .t1) (a .n) _ _ (omega (arith, c .before .if1 .left))
+
+add-loop : tie.Need-add-loop Inv-loop μ-loop
+add-loop c = search needs
+
+mul-c : tie.Need-mul-c Inv-loop μ-loop
+mul-c c = search needs
+
+array-copy-out-c : tie.Need-array-copy-out-c Inv-loop μ-loop
+array-copy-out-c c = search needs
+
+add-d : tie.Need-add-d Inv-loop μ-loop
+add-d c = search needs
+
+mul-d : tie.Need-mul-d Inv-loop μ-loop
+mul-d c = search needs
+
+array-copy-out-d : tie.Need-array-copy-out-d Inv-loop μ-loop
+array-copy-out-d c = search needs
+
+turns-requires : tie.Need-turns-requires Inv-loop μ-loop
+turns-requires c κs = search needs
+
+returns-3 : tie.Need-returns-3 Inv-loop μ-loop
+returns-3 c =
+    let a = c .before .before .before .before .before .before .before .before .args in
+    let l = c .before .before .before .before .before .loop in
+    let z : length (a .t1) ≡ 15 = search needs in
+    let h = c .before .before .before .before .before .before .if2 .left in
+    turning-no (a .t1) (a .n) (a .opening) (omega (arith, h)) (omega (arith, h)) (l .inv) _ _ (c .before .before .before .before .loop-test .taken) (sym (c .before .turns .ensures) ∙ not-true _ (c .if3 .taken))
+
+add-i : tie.Need-add-i Inv-loop μ-loop
+add-i c = search needs
+
+loop-less : tie.Need-loop-less Inv-loop μ-loop
+loop-less c = search needs
+
+loop-again : tie.Need-loop-again Inv-loop μ-loop
+loop-again c =
+    let a = c .before .before .before .before .before .before .before .before .args in
+    let l = c .before .before .before .before .before .loop in
+    let z : length (a .t1) ≡ 15 = search needs in
+    turning-more (a .t1) (a .n) (omega (arith, c .before .before .before .before .before .before .if2 .left)) (l .inv) _ _ (c .before .before .before .before .loop-test .taken) (sym (c .before .turns .ensures) ∙ not-false _ (c .if3 .left))
+
+mul-last : tie.Need-mul-last Inv-loop μ-loop
 mul-last c = search needs
 
-array-copy-out-last : tie.Need-array-copy-out-last
+array-copy-out-last : tie.Need-array-copy-out-last Inv-loop μ-loop
 array-copy-out-last c = search needs
 
-all-stand-requires : tie.Need-all-stand-requires
-all-stand-requires c κs = search needs
+stands-requires : tie.Need-stands-requires Inv-loop μ-loop
+stands-requires c κs = search needs
 
-all-follow-requires : tie.Need-all-follow-requires
-all-follow-requires c κs = search needs
-
-returns-3 : tie.Need-returns-3
-returns-3 c =
-    let a = c .before .before .before .before .before .before .args in
+returns-4 : tie.Need-returns-4 Inv-loop μ-loop
+returns-4 c =
+    let a = c .before .before .before .before .before .before .before .args in
+    let l = c .before .before .before .before .loop in
     let z : length (a .t1) ≡ 15 = search needs in
-    ok-rules (a .t1) (a .n) (a .opening) (a .n - 1) _ (omega (arith, c .before .before .before .before .before .if1 .left)) (omega (arith, c .before .before .before .before .if2 .left)) (omega (arith, c .before .before .before .before .if2 .left)) (c .before .before .all-stand .ensures) (c .before .all-follow .ensures)
+    let h = c .before .before .before .before .before .if2 .left in
+    turning-end (a .t1) (a .n) (a .opening) (omega (arith, h)) (omega (arith, h)) (l .inv) _ (omega (arith, c .before .before .before .loop-test .left)) (c .before .stands .ensures)
 
 pub list-ok-spec : {M : Type 1} → statement M
 list-ok-spec =
     tie.close
     (tie.spec
+    Inv-loop
+    μ-loop
     returns
     returns-2
+    loop-holds
+    add-loop
+    mul-c
+    array-copy-out-c
+    add-d
+    mul-d
+    array-copy-out-d
+    turns-requires
+    returns-3
+    add-i
+    loop-less
+    loop-again
     mul-last
     array-copy-out-last
-    all-stand-requires
-    all-follow-requires
-    returns-3)
+    stands-requires
+    returns-4)
