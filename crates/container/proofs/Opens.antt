@@ -3,20 +3,21 @@
 use mathlib.Core.Path.{_≡_, refl, sym, ap, _∙_}
 use mathlib.Core.Bool.{Bool, true, false, not, _&&_, and-true, and-false, and-assoc}
 use mathlib.Core.List.{List, [], _∷_, _++_}
-use Prim.Native.Nat.{ℕ, suc, _+_, _-_, _≤_, _<_}
+use Prim.Native.Nat.{ℕ, zero, suc, _+_, _-_, _≤_, _<_}
 use native.Mathlib.Numerals.{add-one}
 use native.Mathlib.Omega.{arith}
 use lib.Dec.{leb, ltb, eqb}
 use lib.ListN.{length, take, drop, getD, set, length-append, length-take, length-drop, length-set, take-append-drop, drop-of-length-le}
-use lib.Seq.{take-suc, take-suc-set, drop-cons, drop-set-lt, getD-take, length-take-le, drop-append-seam}
-use borrow.Author.Tests.{not-true, not-false, leb-true, le-leb, lt-leb, lt-ltb, eq-eqb}
+use lib.Seq.{take-suc, take-suc-set, take-all, take-append-le, drop-append-le, drop-cons, drop-set-lt, getD-take, length-take-le, drop-append-seam}
+use borrow.Author.Tests.{not-true, not-false, leb-true, leb-false, ltb-true, ltb-false, le-leb, lt-ltb, le-ltb, eq-eqb}
 use Rattle.format.proofs.Tests.{both}
 use Rattle.container.specs.declared.Qos.{Qos}
 use Rattle.container.specs.declared.Container.{Container}
+use Rattle.container.specs.declared.open.Run.{Run}
 use Rattle.container.specs.Container.{containerOk}
 use Rattle.container.specs.List.{eachOk, lastAlone, oneOffset, inOrder, changes, qosRule, listOk, noContainers, padded, blanks, isBlank}
-use Rattle.container.specs.Open.{midway, timesTo, qosRun, openOk, volumeOf}
-use Rattle.container.specs.Turns.{precedes}
+use Rattle.container.specs.Open.{midway, timesTo, qosRun, openOk, volumeOf, heldOk}
+use Rattle.container.specs.Turns.{precedes, turned}
 use Rattle.container.proofs.Turns.{blanks-are, are-blanks}
 
 -- ---- tests that pass together
@@ -210,42 +211,93 @@ padded-more v n c size h b =
 
 -- ---- the loops
 
--- the test goes from the last container to the first: those before i decide, where q′ follows them and they must not pass t
-pub record Before (v : List Container) (z o : ℕ) (q : Qos) (now n : ℕ) (q′ : Qos) (t i : ℕ) : Type 0 where
-  pub most : i ≤ n
-  pub same : openOk z o q′ t (take i v) ≡ openOk z o q now (take n v)
+-- what is left of a limit once some is spent suffices for the rest where the limit suffices for all
+pub below-left : (x u d limit : ℕ) → ltb (x + (u + d)) limit ≡ ltb x (limit - u - d)
+below-left x u d limit = by (ltb x (limit - u - d)) refl
+  where
+    by : (b : Bool) → ltb x (limit - u - d) ≡ b → ltb (x + (u + d)) limit ≡ b
+    by true h = lt-ltb (x + (u + d)) limit (omega (arith, ltb-true x (limit - u - d) h))
+    by false h = le-ltb (x + (u + d)) limit (omega (arith, ltb-false x (limit - u - d) h))
 
-pub before-all : {v : List Container} {z o : ℕ} {q : Qos} {now n : ℕ} → Before v z o q now n q now n
-before-all {v} {z} {o} {q} {now} {n} = record { most = omega arith; same = refl }
+last-first : (a p x : Bool) → (a && p && true && x) ≡ (a && true && x && p)
+last-first false p x = refl
+last-first true true x = sym (and-true x)
+last-first true false x = sym (and-false x)
 
-pub too-many : (n : ℕ) (b : Bool) → 15 < n → false ≡ (leb n 15 && b)
-too-many n b h = rw (lt-leb n 15 h)
+last-second : (a b p x : Bool) → (a && (b && p) && x) ≡ (a && b && x && p)
+last-second false b p x = refl
+last-second true false p x = refl
+last-second true true true x = sym (and-true x)
+last-second true true false x = sym (and-false x)
 
-module _ {v : List Container} {z o : ℕ} {q : Qos} {now n : ℕ} {q′ : Qos} {t i : ℕ} (s : Before v z o q now n q′ t i) (few : n ≤ 15) where
-  module _ (d : Container) (h : 0 < i) (long : n ≤ length v) where
-    here : openOk z o q′ t (take i v) ≡ (openOk z o (getD v (i - 1) d .qos) (getD v (i - 1) d .time .seconds) (take (i - 1) v) && precedes z q′ t (getD v (i - 1) d))
-    here =
-        let e : suc (i - 1) ≡ i = omega arith in
-        let w : take i v ≡ take (i - 1) v ++ (getD v (i - 1) d ∷ []) = ap (λ (j : ℕ). take j v) (sym e) ∙ take-suc v (i - 1) d (omega (arith, s .most)) in
-        ap (openOk z o q′ t) w ∙ open-snoc (getD v (i - 1) d) z o q′ t (take (i - 1) v)
+blanks-more : (c : Container) (cs : List Container) → blanks (cs ++ (c ∷ [])) ≡ (blanks cs && isBlank c)
+unfolding blanks
+blanks-more c cs = each-more c isBlank blanks refl (λ x xs. refl) cs
 
-    pub before-no : {r : Bool} → r ≡ precedes z q′ t (getD v (i - 1) d) → not r ≡ true → false ≡ (leb n 15 && openOk z o q now (take n v))
-    before-no {r} e f =
-        rw (le-leb n 15 few)
-        (sym (sym (s .same) ∙ here ∙ rw (sym e ∙ not-true r f, and-false (openOk z o (getD v (i - 1) d .qos) (getD v (i - 1) d .time .seconds) (take (i - 1) v)))))
+-- one place more of the array, at the end: one that is used, and one that is not
+module _ (z o : ℕ) (q : Qos) (t left n : ℕ) (w : List Container) (c : Container) where
+  held-used : length w < n → heldOk z o q t left n (w ++ (c ∷ [])) ≡ (heldOk z o (c .qos) (c .time .seconds) (left - c .uplink - c .downlink) n w && precedes z q t c)
+  unfolding heldOk blanks
+  held-used h =
+      let m : length (w ++ (c ∷ [])) ≤ n = omega (arith, length-append w (c ∷ [])) in
+      rw (take-all n (w ++ (c ∷ [])) m, drop-of-length-le (w ++ (c ∷ [])) m, take-all n w (omega arith), drop-of-length-le w {i = n} (omega arith), open-snoc c z o q t w, volume-more c w, below-left (volumeOf w) (c .uplink) (c .downlink) left)
+      (last-first (openOk z o (c .qos) (c .time .seconds) w) (precedes z q t c) (ltb (volumeOf w) (left - c .uplink - c .downlink)))
 
-    pub before-next : {r : Bool} → r ≡ precedes z q′ t (getD v (i - 1) d) → not r ≡ false → Before v z o q now n (getD v (i - 1) d .qos) (getD v (i - 1) d .time .seconds) (i - 1)
-    before-next {r} e f =
+  held-unused : n ≤ length w → heldOk z o q t left n (w ++ (c ∷ [])) ≡ (heldOk z o q t left n w && isBlank c)
+  unfolding heldOk
+  held-unused h =
+      rw (take-append-le n w (c ∷ []) h, drop-append-le n w (c ∷ []) h, blanks-more c (drop n w))
+      (last-second (openOk z o q t (take n w)) (blanks (drop n w)) (isBlank c) (ltb (volumeOf (take n w)) left))
+
+held-nil : (z o : ℕ) (q : Qos) (t left n : ℕ) → heldOk z o q t left n [] ≡ (leb o t && ltb 0 left)
+unfolding heldOk openOk eachOk midway oneOffset timesTo qosRun blanks volumeOf
+held-nil z o q t left zero = ap (λ (b : Bool). b && ltb 0 left) (and-true (leb o t && true) ∙ and-true (leb o t))
+held-nil z o q t left (suc n) = ap (λ (b : Bool). b && ltb 0 left) (and-true (leb o t && true) ∙ and-true (leb o t))
+
+-- the test goes from the last place to the first: those before i decide, with what the others leave to them
+pub record Held (v : List Container) (z o : ℕ) (s₀ : Run) (n : ℕ) (s : Run) (i : ℕ) : Type 0 where
+  pub most : i ≤ length v
+  pub same : heldOk z o (s .after) (s .until) (s .left) n (take i v) ≡ heldOk z o (s₀ .after) (s₀ .until) (s₀ .left) n v
+
+pub held-all : {v : List Container} {z o : ℕ} {s : Run} {n i : ℕ} → length v ≡ i → Held v z o s n s i
+held-all {v} {z} {o} {s} {n} {i} e = record { most = omega arith; same = ap (heldOk z o (s .after) (s .until) (s .left) n) (take-all i v (omega arith)) }
+
+module _ {v : List Container} {z o : ℕ} {s₀ : Run} {n : ℕ} {s : Run} {i : ℕ} (k : Held v z o s₀ n s i) where
+  module _ (d : Container) (h : 0 < i) {r : Run} (e : r ≡ turned z (leb i n) (getD v (i - 1) d) s) where
+    here : heldOk z o (s .after) (s .until) (s .left) n (take i v) ≡ (heldOk z o (r .after) (r .until) (r .left) n (take (i - 1) v) && r .ok)
+    unfolding turned
+    here = ap (heldOk z o (s .after) (s .until) (s .left) n) w ∙ rw e (by (leb i n) refl)
+      where
+        x : Container
+        x = getD v (i - 1) d
+
+        w : take i v ≡ take (i - 1) v ++ (x ∷ [])
+        w =
+            let f : suc (i - 1) ≡ i = omega arith in
+            ap (λ (j : ℕ). take j v) (sym f) ∙ take-suc v (i - 1) d (omega (arith, k .most))
+
+        m : length (take (i - 1) v) ≡ i - 1
+        m = length-take-le (i - 1) v (omega (arith, k .most))
+
+        by : (b : Bool) → leb i n ≡ b
+            → heldOk z o (s .after) (s .until) (s .left) n (take (i - 1) v ++ (x ∷ [])) ≡ (heldOk z o (turned z b x s .after) (turned z b x s .until) (turned z b x s .left) n (take (i - 1) v) && turned z b x s .ok)
+        by true f = held-used z o (s .after) (s .until) (s .left) n (take (i - 1) v) x (omega (arith, m, leb-true i n f))
+        by false f = held-unused z o (s .after) (s .until) (s .left) n (take (i - 1) v) x (omega (arith, m, leb-false i n f))
+
+    pub held-no : not (r .ok) ≡ true → false ≡ heldOk z o (s₀ .after) (s₀ .until) (s₀ .left) n v
+    held-no f = sym (sym (k .same) ∙ here ∙ rw (not-true (r .ok) f, and-false (heldOk z o (r .after) (r .until) (r .left) n (take (i - 1) v))))
+
+    pub held-next : not (r .ok) ≡ false → Held v z o s₀ n r (i - 1)
+    held-next f =
         record {
-          most = omega (arith, s .most);
-          same = sym (sym (s .same) ∙ here ∙ rw (sym e ∙ not-false r f, and-true (openOk z o (getD v (i - 1) d .qos) (getD v (i - 1) d .time .seconds) (take (i - 1) v))));
+          most = omega (arith, k .most);
+          same = sym (sym (k .same) ∙ here ∙ rw (not-false (r .ok) f, and-true (heldOk z o (r .after) (r .until) (r .left) n (take (i - 1) v))));
         }
 
-  pub before-end : i ≤ 0 → leb o t ≡ (leb n 15 && openOk z o q now (take n v))
-  unfolding openOk eachOk midway oneOffset timesTo qosRun
-  before-end h =
+  pub held-end : i ≤ 0 → (leb o (s .until) && ltb 0 (s .left)) ≡ heldOk z o (s₀ .after) (s₀ .until) (s₀ .left) n v
+  held-end h =
       let e : i ≡ 0 = omega arith in
-      rw (le-leb n 15 few) (sym (and-true (leb o t)) ∙ ap (λ (j : ℕ). openOk z o q′ t (take j v)) (sym e) ∙ s .same)
+      sym (held-nil z o (s .after) (s .until) (s .left) n) ∙ ap (λ (j : ℕ). heldOk z o (s .after) (s .until) (s .left) n (take j v)) (sym e) ∙ k .same
 
 -- the volumes are spent from the first container to the last: those from i on have still to be
 pub record LeftRest (v : List Container) (n limit left i : ℕ) : Type 0 where

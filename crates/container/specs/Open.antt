@@ -3,9 +3,10 @@ use mathlib.Core.Bool.{Bool, true, _&&_}
 use mathlib.Core.List.{List, [], _∷_}
 use Prim.Native.Nat.{ℕ, _+_}
 use lib.Dec.{leb, ltb}
+use lib.ListN.{take, drop}
 use Rattle.container.specs.declared.Qos.{Qos}
 use Rattle.container.specs.declared.Container.{Container}
-use Rattle.container.specs.List.{eachOk, oneOffset, changes}
+use Rattle.container.specs.List.{eachOk, oneOffset, changes, blanks}
 
 -- conditions 0 or 1: none of them ended the record
 unfoldable pub midway : List Container → Bool
@@ -31,3 +32,7 @@ openOk zone opening q now cs = eachOk cs && midway cs && oneOffset zone cs && ti
 unfoldable pub volumeOf : List Container → ℕ
 volumeOf [] = 0
 volumeOf (c ∷ cs) = c .uplink + c .downlink + volumeOf cs
+
+-- an array that holds the containers of an open record in its first n places, with less counted in them than a limit, and nothing after them
+unfoldable pub heldOk : ℕ → ℕ → Qos → ℕ → ℕ → ℕ → List Container → Bool
+heldOk zone opening q now limit n v = openOk zone opening q now (take n v) && blanks (drop n v) && ltb (volumeOf (take n v)) limit

@@ -2,12 +2,13 @@
 -- the rules of specs/List.antt, and proofs/Opens.antt those of specs/Open.antt. Assumes nothing.
 use mathlib.Core.Bool.{Bool, true, false, _&&_}
 use mathlib.Core.List.{List, [], _∷_}
-use Prim.Native.Nat.{ℕ}
+use Prim.Native.Nat.{ℕ, _-_}
 use lib.Dec.{leb, ltb, eqb}
 use Rattle.container.specs.declared.Qos.{Qos}
 use Rattle.container.specs.declared.Container.{Container}
+use Rattle.container.specs.declared.open.Run.{Run}
 use Rattle.container.specs.Container.{containerOk}
-use Rattle.container.specs.List.{changes}
+use Rattle.container.specs.List.{changes, isBlank}
 
 -- a container as it must be, in the zone z, not before t
 unfoldable pub stands : ℕ → ℕ → Container → Bool
@@ -37,3 +38,8 @@ lastEnds (c ∷ d ∷ cs) = lastEnds (d ∷ cs)
 -- c may stand in an open record, before what has the QoS q and ends at t or later: as it must be, and it did not end the record
 unfoldable pub precedes : ℕ → Qos → ℕ → Container → Bool
 precedes z q t c = containerOk c && ltb (c .condition) 2 && eqb (c .time .zone) z && leb (c .time .seconds) t && changes c q
+
+-- one place more of an array, from the last to the first: is it as it must be, and what does it leave to those before it?
+unfoldable pub turned : ℕ → Bool → Container → Run → Run
+turned z true c s = record { ok = precedes z (s .after) (s .until) c; after = c .qos; until = c .time .seconds; left = s .left - c .uplink - c .downlink }
+turned z false c s = record { ok = isBlank c; after = s .after; until = s .until; left = s .left }

@@ -3,36 +3,77 @@ use crate::Container;
 use crate::Qos;
 use crate::rules;
 use crate::single;
+use crate::unused;
 ghost use mathlib.Core.Path.{_≡_};
-ghost use mathlib.Core.Bool.{_&&_};
 ghost use Prim.Native.Nat.{_-_};
-ghost use lib.Dec.{leb};
 ghost use lib.ListN.{take};
-ghost use Rattle.container.specs.Open.{openOk, volumeOf};
-ghost use Rattle.container.specs.Turns.{precedes};
+ghost use Rattle.container.specs.Open.{heldOk, volumeOf};
+ghost use Rattle.container.specs.Turns.{precedes, turned};
 
-// Do the first n containers of v keep the rules of a record that opened at a time in a zone, with q in force now?
-// From the last container to the first: each must fit the QoS that follows it, and the time that it must not pass.
-pub fn open_ok(v: [Container; 15], n: usize, zone: u16, opening: u32, q: Qos, now: u32) -> bool
-    ensures { λ r. ⌜ r ≡ (leb n 15 && openOk zone opening q now (take n v)) ⌝ }
+// Are the first n containers of v those of a record that opened at a time in a zone, with q in force now, with less counted in them than
+// a limit, and is every place after them zero? From the last place to the first, in one turn: an array is copied for each function that
+// takes it.
+pub fn held_ok(
+    v: [Container; 15],
+    n: usize,
+    zone: u16,
+    opening: u32,
+    q: Qos,
+    now: u32,
+    limit: u64,
+) -> bool
+    ensures { λ r. ⌜ r ≡ heldOk zone opening q now limit n v ⌝ }
 {
-    if 15 < n {
-        return false;
-    }
-    let mut i = n;
-    let mut after = q;
-    let mut until = now;
+    let mut s = Run {
+        ok: true,
+        after: q,
+        until: now,
+        left: limit,
+    };
+    let mut i: usize = 15;
     while 0 < i {
         let c = v[i - 1];
-        if !precedes(c, zone, after, until) {
+        s = turn(c, i <= n, zone, s);
+        if !s.ok {
             return false;
         }
-        let p = c.qos;
-        after = p;
-        until = c.time.seconds;
         i -= 1;
     }
-    opening <= until
+    (opening <= s.until) & (0 < s.left)
+}
+
+// What the places from one on leave to those before it: whether it was as it must be itself, the QoS that follows, the time that must
+// not be passed, and what is left of the limit.
+struct Run {
+    ok: bool,
+    after: Qos,
+    until: u32,
+    left: u64,
+}
+
+// One place more: a container that is used must fit what follows it, one that is not must be zero.
+fn turn(c: Container, used: bool, zone: u16, s: Run) -> Run
+    ensures { λ r. ⌜ r ≡ turned zone used c s ⌝ }
+{
+    let q = s.after;
+    if used {
+        let ok = precedes(c, zone, q, s.until);
+        let left = spend(spend(s.left, c.uplink), c.downlink);
+        let p = c.qos;
+        return Run {
+            ok,
+            after: p,
+            until: c.time.seconds,
+            left,
+        };
+    }
+    let ok = unused::is_blank(c);
+    Run {
+        ok,
+        after: q,
+        until: s.until,
+        left: s.left,
+    }
 }
 
 // Is a container as it must be, in the zone, not the end of its record, not after a time, and right before the QoS q?

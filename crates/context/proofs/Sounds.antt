@@ -1,6 +1,6 @@
 -- What the rules of a sound slot say: of an active context, of a free one, and of the whole table. Assumes nothing.
 use mathlib.Core.Path.{_≡_, refl, sym, ap, _∙_}
-use mathlib.Core.Bool.{Bool, true, false, _&&_}
+use mathlib.Core.Bool.{Bool, true, false, _&&_, and-true, and-false, and-assoc}
 use mathlib.Core.List.{List, [], _∷_}
 use Prim.Native.Nat.{ℕ, zero, suc, _+_, _-_, _≤_, _<_}
 use native.Mathlib.Omega.{arith}
@@ -12,9 +12,10 @@ use Rattle.format.proofs.Tests.{both, true-T}
 use Rattle.ber.specs.Imsi.{imsiOk}
 use Rattle.container.specs.Qos.{qosOk, sameQos, noQos}
 use Rattle.container.specs.List.{blanks, isBlank, noContainers}
-use Rattle.container.specs.Open.{openOk, volumeOf}
+use Rattle.container.specs.Open.{openOk, volumeOf, heldOk}
 use Rattle.container.proofs.Goods.{same-qos}
 use Rattle.container.proofs.Turns.{blanks-are}
+use Rattle.container.proofs.Opens.{below-left}
 use Rattle.scdr.specs.Rules.{allOf, isZero, apnOk}
 use Rattle.scdr.specs.Layout.{fillTo}
 use Rattle.scdr.proofs.Tails.{zeros-are}
@@ -94,26 +95,31 @@ module _ (limits : Limits) (zone clock accepted : ℕ) (c : Context) where
 
 -- ---- how the code finds it
 
--- something is left of a limit where all that is spent lies below it
-module _ (limit : ℕ) (c : Context) where
-  pub volume-is : {x y z : ℕ} → x ≡ limit - volumeOf (used c) → y ≡ x - c .uplink → z ≡ y - c .downlink → ltb 0 z ≡ volumeOk limit c
+-- the open record: what is left of the limit for its containers, once the running one is spent, suffices for them
+module _ (limit zone clock : ℕ) (c : Context) where
+  all-three : (u z o v : Bool) → (z && (o && u && v)) ≡ (u && (z && o) && v)
+  all-three false z o v = rw (and-false o, and-false z)
+  all-three true false o v = refl
+  all-three true true o v = ap (λ (b : Bool). b && v) (and-true o)
+
+  volume-left : volumeOk limit c ≡ ltb (volumeOf (used c)) (limit - c .uplink - c .downlink)
   unfolding volumeOk
-  volume-is {x} {y} {z} e f g = below (ltb 0 z) refl
-    where
-      below : (t : Bool) → ltb 0 z ≡ t → t ≡ ltb (volumeOf (used c) + c .uplink + c .downlink) limit
-      below true h = sym (lt-ltb (volumeOf (used c) + c .uplink + c .downlink) limit (omega (arith, ltb-true 0 z h)))
-      below false h = sym (le-ltb (volumeOf (used c) + c .uplink + c .downlink) limit (omega (arith, ltb-false 0 z h)))
+  volume-left =
+      let e : volumeOf (used c) + c .uplink + c .downlink ≡ volumeOf (used c) + (c .uplink + c .downlink) = omega arith in
+      ap (λ (x : ℕ). ltb x limit) e ∙ below-left (volumeOf (used c)) (c .uplink) (c .downlink) limit
 
-module _ (zone clock : ℕ) (c : Context) {r : Bool} where
-  pub containers-few : c .count ≤ 15 → r ≡ (leb (c .count) 15 && openOk zone (c .opening .seconds) (c .qos) clock (used c)) → (eqb (c .opening .zone) zone && r) ≡ containersOk zone clock c
-  unfolding containersOk
-  containers-few h e = rw (e, le-leb (c .count) 15 h)
+  pub record-is : {r : Bool} {x y : ℕ} → x ≡ limit - c .uplink → y ≡ x - c .downlink → r ≡ heldOk zone (c .opening .seconds) (c .qos) clock y (c .count) (c .containers)
+      → (eqb (c .opening .zone) zone && r) ≡ (unusedOk c && containersOk zone clock c && volumeOk limit c)
+  unfolding heldOk unusedOk containersOk
+  record-is e f h =
+      rw (h, f, e, volume-left)
+      (all-three (blanks (drop (c .count) (c .containers))) (eqb (c .opening .zone) zone) (openOk zone (c .opening .seconds) (c .qos) clock (used c)) (ltb (volumeOf (used c)) (limit - c .uplink - c .downlink)))
 
-  -- there are no more places than 15
-  pub containers-many : length (c .containers) ≡ 15 → 15 < c .count
-      → r ≡ (leb 15 15 && openOk zone (c .opening .seconds) (c .qos) clock (take 15 (c .containers))) → (eqb (c .opening .zone) zone && r) ≡ containersOk zone clock c
-  unfolding containersOk
-  containers-many l h e = rw (e, take-all 15 (c .containers) (omega arith), take-all (c .count) (c .containers) (omega arith))
+-- the rules, as the code joins them
+pub together : (f u d n k v : Bool) → (f && d && n && (u && k && v)) ≡ (f && u && d && n && k && v)
+together false u d n k v = refl
+together true true d n k v = sym (and-assoc (d && n) k v)
+together true false d n k v = and-false (d && n)
 
 -- ---- a free slot
 

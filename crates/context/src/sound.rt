@@ -7,6 +7,7 @@ use profile::Limits;
 use scdr::names;
 use scdr::text;
 ghost use mathlib.Core.Path.{_≡_};
+ghost use mathlib.Core.Bool.{_&&_};
 ghost use Rattle.context.specs.Sound.{fieldsOk, unusedOk, closedOk, countOk, containersOk, volumeOk, contextOk, zeroOk, slotOk, slotsOk};
 
 // Are the stored fields in range, and the octets zero that they do not use?
@@ -20,14 +21,6 @@ pub fn fields_ok(c: Context) -> bool
     let b = names::apn_ok(apn, c.apnlen);
     let d = container::profile::qos_ok(q);
     (c.flags <= 3) & a & b & d
-}
-
-// Is every container place zero that is not used?
-pub fn unused_ok(c: Context) -> bool
-    ensures { λ r. ⌜ r ≡ unusedOk c ⌝ }
-{
-    let v = c.containers;
-    unused::unused_blank(v, c.count)
 }
 
 // Are there fewer closed records than accepted events?
@@ -44,31 +37,17 @@ pub fn count_ok(limit: u8, c: Context) -> bool
     (c.count == c.changes as usize) & (c.changes < limit)
 }
 
-// Do the containers keep the rules of an open record, in the zone? More than 15 places are not there, so a count above is all of them.
-pub fn containers_ok(zone: u16, clock: u32, c: Context) -> bool
-    ensures { λ r. ⌜ r ≡ containersOk zone clock c ⌝ }
+// Is the open record as it must be: its containers in order and in the zone, unused places zero, and something left of the limit once all
+// its volumes are spent? Three rules in one function, so that the containers are copied once.
+pub fn record_ok(limit: u64, zone: u16, clock: u32, c: Context) -> bool
+    ensures { λ r. ⌜ r ≡ (unusedOk c && containersOk zone clock c && volumeOk limit c) ⌝ }
 {
     let v = c.containers;
     let q = c.qos;
     let t = c.opening;
-    let n = c.count;
-    if 15 < n {
-        let all = open::open_ok(v, 15, zone, t.seconds, q, clock);
-        return (t.zone == zone) & all;
-    }
-    let used = open::open_ok(v, n, zone, t.seconds, q, clock);
-    (t.zone == zone) & used
-}
-
-// Is something left of the limit, once all volumes of the open record are spent?
-pub fn volume_ok(limit: u64, c: Context) -> bool
-    ensures { λ r. ⌜ r ≡ volumeOk limit c ⌝ }
-{
-    let v = c.containers;
-    let left = open::left_after(v, c.count, limit);
-    let less = open::spend(left, c.uplink);
-    let least = open::spend(less, c.downlink);
-    0 < least
+    let left = open::spend(open::spend(limit, c.uplink), c.downlink);
+    let held = open::held_ok(v, c.count, zone, t.seconds, q, clock, left);
+    (t.zone == zone) & held
 }
 
 // Is an active context as it must be?
@@ -76,12 +55,10 @@ pub fn context_ok(limits: Limits, zone: u16, clock: u32, accepted: u64, c: Conte
     ensures { λ r. ⌜ r ≡ contextOk limits zone clock accepted c ⌝ }
 {
     let a = fields_ok(c);
-    let b = unused_ok(c);
-    let d = closed_ok(accepted, c);
-    let e = count_ok(limits.changes, c);
-    let f = containers_ok(zone, clock, c);
-    let g = volume_ok(limits.volume, c);
-    a & b & d & e & f & g
+    let b = closed_ok(accepted, c);
+    let d = count_ok(limits.changes, c);
+    let e = record_ok(limits.volume, zone, clock, c);
+    a & b & d & e
 }
 
 // Is every field of a slot zero?
