@@ -1,0 +1,140 @@
+/* The plain C beside the proved program `pace`, doing the same with the same files (bench/run).
+ *
+ *     plain PROFILE EVENTS          the record list of the events, on standard output
+ *     plain PROFILE EVENTS RECORDS  three lines: what the step, the writer and the reader did, and how long they took
+ */
+#include "libc.h"
+#include "plain.h"
+
+enum { HELD = 65536, MOST_RECORDS = 64, EVENTS = 90000, WRITES = 20000, READS = 100000 };
+
+static uint8_t held[HELD];
+static struct plain_record records[MOST_RECORDS];
+static uint8_t out[CHARGING_MOST_OUTPUT];
+
+static _Noreturn void stop(int status, const char *why) {
+    write(2, why, strlen(why));
+    exit(status);
+}
+
+static size_t load(const char *path) {
+    int fd = open(path, 0);
+    if (fd < 0) {
+        perror(path);
+        exit(2);
+    }
+    size_t n = 0;
+    for (long got; n < HELD && (got = read(fd, held + n, HELD - n)) > 0; n += (size_t)got) {}
+    close(fd);
+    return n;
+}
+
+/* The six lines of a profile, in their order. */
+static void fresh_node(const char *path, struct charging_node *n) {
+    unsigned a, b, c, d, changes;
+    int offset;
+    char id[32] = "";
+    held[load(path) % HELD] = 0;
+    memset(n, 0, sizeof *n);
+    if (sscanf((const char *)held, "sgsn %u.%u.%u.%u volume-limit %lu time-limit %u change-limit %u offset %d node-id%*1[ ]%20[^\n]", &a, &b,
+               &c, &d, &n->profile.limits.volume, &n->profile.limits.seconds, &changes, &offset, id) < 8)
+        stop(2, "plain: no profile\n");
+    n->profile.sgsn = a << 24 | b << 16 | c << 8 | d;
+    n->profile.limits.changes = (uint8_t)changes;
+    n->profile.zone = (uint16_t)(offset + 720);
+    n->profile.nodelen = strlen(id);
+    memcpy(n->profile.nodeid, id, n->profile.nodelen);
+}
+
+static size_t event_length(const uint8_t *e) {
+    static const uint8_t lengths[8] = {7, 36, 23, 20, 7, 16, 7, 15};
+    return e[2] == 1 ? 36u + e[35] : lengths[e[2] & 7];
+}
+
+/* Events one after another, from a fresh node on again after the last. */
+static size_t run(const struct charging_node *fresh, size_t n, size_t calls, int show) {
+    static struct charging_node node;
+    size_t octets = 0;
+    for (size_t at = 0; calls > 0; calls--) {
+        if (at >= n) at = 0;
+        if (at == 0) node = *fresh;
+        size_t length = event_length(held + at);
+        struct charging_answer a = plain_step(&node, held + at, length, out, sizeof out);
+        if (a.answer) stop(1, "plain: an event was refused\n");
+        if (show && write(1, out, a.written) < 0) stop(2, "plain: not written\n");
+        octets += a.written;
+        at += length;
+    }
+    return octets;
+}
+
+static size_t events_in(size_t n) {
+    size_t events = 0;
+    for (size_t at = 0; at < n; events++) at += event_length(held + at);
+    return events;
+}
+
+/* The length of the record that stands after the mark at a place. */
+static size_t record_length(const uint8_t *p) {
+    if (p[3] == 0x82) return 4u + p[4] * 256u + p[5];
+    return p[3] == 0x81 ? 3u + p[4] : 2u + p[3];
+}
+
+/* The records of the list one after another, from the first on again after the last. */
+static size_t read_records(size_t n) {
+    static struct plain_record r;
+    size_t sum = 0, at = 0;
+    for (size_t calls = READS; calls > 0; calls--) {
+        if (at >= n) at = 0;
+        size_t length = record_length(held + at);
+        if (plain_read(held + at + 2, length, &r)) stop(1, "plain: a record was refused\n");
+        sum += r.count;
+        at += 2 + length;
+    }
+    return sum;
+}
+
+static size_t keep(size_t n) {
+    size_t kept = 0;
+    for (size_t at = 0; at < n && kept < MOST_RECORDS; kept++) {
+        size_t length = record_length(held + at);
+        if (plain_read(held + at + 2, length, &records[kept])) stop(1, "plain: a record was refused\n");
+        at += 2 + length;
+    }
+    return kept;
+}
+
+static size_t write_records(size_t kept) {
+    size_t octets = 0, i = 0;
+    for (size_t calls = WRITES; calls > 0; calls--, i++) {
+        if (i >= kept) i = 0;
+        struct charging_answer a = plain_write(&records[i], out, sizeof out);
+        if (a.answer) stop(1, "plain: a record was not written\n");
+        octets += a.written;
+    }
+    return octets;
+}
+
+static void say(const char *name, size_t calls, size_t sum, long from) { printf("%s %zu %zu %ld\n", name, calls, sum, clock() - from); }
+
+int main(int argc, char **argv) {
+    if (argc != 3 && argc != 4) {
+        stop(2, "usage: plain PROFILE EVENTS [RECORDS]\n");
+    }
+    static struct charging_node fresh;
+    fresh_node(argv[1], &fresh);
+    size_t n = load(argv[2]);
+    if (argc == 3) {
+        run(&fresh, n, events_in(n), 1);
+        return 0;
+    }
+    long from = clock();
+    say("step", EVENTS, run(&fresh, n, EVENTS, 0), from);
+    n = load(argv[3]);
+    size_t kept = keep(n);
+    from = clock();
+    say("write", WRITES, write_records(kept), from);
+    from = clock();
+    say("read", READS, read_records(n), from);
+    return 0;
+}
