@@ -62,21 +62,20 @@ fn accepted(node: Node, t: u32, contexts: [Context; 16], written: usize) -> Step
     }
 }
 
-// The slots from one place up to another hear h: first the room is looked for, then each writes where the last ended.
-fn serve(node: Node, from: usize, to: usize, t: u32, h: Heard, out: &mut [u8]) -> Stepped
+// All slots hear h: first the room is looked for, then each writes where the last ended.
+fn serve(node: Node, t: u32, h: Heard, out: &mut [u8]) -> Stepped
     requires { ⌜ Ready (node .profile) t (node .contexts) ⌝ }
     requires { ⌜ Fair h ⌝ }
-    requires { ⌜ (from ≤ to) × (to ≤ 16) ⌝ }
     requires { ⌜ node .accepted < mostAccepted ⌝ }
-    ensures { λ r. ⌜ Serves node from to t h (now (out .entry)) (now (out .exit)) (r .answer) (r .node) (r .written) ⌝ }
+    ensures { λ r. ⌜ Serves node 0 16 t h (now (out .entry)) (now (out .exit)) (r .answer) (r .node) (r .written) ⌝ }
 {
     let p = node.profile;
     let cs = node.contexts;
-    let n = table::size_from(p, cs, from, to, t, h);
+    let n = table::size_all(p, cs, t, h);
     if out.len() < n {
         return refused(node, 11);
     }
-    let e = table::hear_from(p, cs, from, to, t, h, out);
+    let e = table::hear_all(p, cs, t, h, out);
     let contexts = e.contexts;
     accepted(node, t, contexts, e.at)
 }
@@ -193,7 +192,7 @@ pub fn step(node: Node, event: &[u8], out: &mut [u8]) -> Stepped
             let c = node.contexts[at];
             placed(node, at, t, emit::try_slot(p, c, t, h, out))
         }
-        Task::All(t, h) => serve(node, 0, 16, t, h, out),
+        Task::All(t, h) => serve(node, t, h, out),
         Task::Open(at, t, a) => {
             let context = opening(p, t, a, event);
             placed(

@@ -1,4 +1,4 @@
-// The table: some of its slots hear something, one after another, each writing where the last ended.
+// The table: all its slots hear something, one after another, each writing where the last ended.
 use crate::Heard;
 use crate::emit;
 use context::Context;
@@ -15,16 +15,15 @@ pub struct Heard16 {
     pub at: usize,
 }
 
-// How many octets the slots from one place up to another write.
-pub fn size_from(p: Profile, cs: [Context; 16], from: usize, to: usize, t: u32, h: Heard) -> usize
+// How many octets they write.
+pub fn size_all(p: Profile, cs: [Context; 16], t: u32, h: Heard) -> usize
     requires { ⌜ Ready p t cs ⌝ }
     requires { ⌜ Fair h ⌝ }
-    requires { ⌜ (from ≤ to) × (to ≤ 16) ⌝ }
-    ensures { λ r. ⌜ r ≡ length (along from to (slotOut p t h) cs) ⌝ }
+    ensures { λ r. ⌜ r ≡ length (along 0 16 (slotOut p t h) cs) ⌝ }
 {
-    let mut i = from;
+    let mut i: usize = 0;
     let mut n: usize = 0;
-    while i < to {
+    while i < 16 {
         let c = cs[i];
         n += emit::slot_size(p, c, t, h);
         i += 1;
@@ -32,26 +31,17 @@ pub fn size_from(p: Profile, cs: [Context; 16], from: usize, to: usize, t: u32, 
     n
 }
 
-// These slots hear h at t, and write from the start of out.
-pub fn hear_from(
-    p: Profile,
-    cs: [Context; 16],
-    from: usize,
-    to: usize,
-    t: u32,
-    h: Heard,
-    out: &mut [u8],
-) -> Heard16
+// They hear h at t, and write from the start of out.
+pub fn hear_all(p: Profile, cs: [Context; 16], t: u32, h: Heard, out: &mut [u8]) -> Heard16
     requires { ⌜ Ready p t cs ⌝ }
     requires { ⌜ Fair h ⌝ }
-    requires { ⌜ (from ≤ to) × (to ≤ 16) ⌝ }
-    requires { ⌜ length (along from to (slotOut p t h) cs) ≤ length (now out) ⌝ }
-    ensures { λ r. ⌜ Turns (across from to (slotNext p t h) cs) (along from to (slotOut p t h) cs) (now (out .entry)) (now (out .exit)) 0 (r .contexts) (r .at) ⌝ }
+    requires { ⌜ length (along 0 16 (slotOut p t h) cs) ≤ length (now out) ⌝ }
+    ensures { λ r. ⌜ Turns (across 0 16 (slotNext p t h) cs) (along 0 16 (slotOut p t h) cs) (now (out .entry)) (now (out .exit)) 0 (r .contexts) (r .at) ⌝ }
 {
     let mut contexts = cs;
-    let mut i = from;
+    let mut i: usize = 0;
     let mut at: usize = 0;
-    while i < to {
+    while i < 16 {
         let c = contexts[i];
         let e = emit::hear_slot(p, c, t, h, out, at);
         let d = e.context;

@@ -5,8 +5,8 @@ use borrow.Author.Needs.{needs}
 use Rattle.node.proofs.step.serve.Statement.{statement}
 use Rattle.node.proofs.step.serve.Tie as tie
 
-size-from-requires : tie.Need-size-from-requires
-size-from-requires c κs = search needs
+size-all-requires : tie.Need-size-all-requires
+size-all-requires c κs = search needs
 
 refused-requires : tie.Need-refused-requires
 refused-requires c κs = search needs
@@ -14,12 +14,12 @@ refused-requires c κs = search needs
 returns : tie.Need-returns
 returns c =
     let s = c .before .before .before .before .before .before in
-    serves-full (s .args .node) (s .args .from) (s .args .to) (s .args .t) (s .args .h) (s .args .out .now) (c .before .before .size-from .ensures) (c .before .if1 .taken) (c .refused .ensures .0) (c .refused .ensures .1 .0) (c .refused .ensures .1 .1)
+    serves-full (s .args .node) 0 16 (s .args .t) (s .args .h) (s .args .out .now) (c .before .before .size-all .ensures) (c .before .if1 .taken) (c .refused .ensures .0) (c .refused .ensures .1 .0) (c .refused .ensures .1 .1)
 
-hear-from-requires : tie.Need-hear-from-requires
-hear-from-requires c κs =
+hear-all-requires : tie.Need-hear-all-requires
+hear-all-requires c κs =
     let s = c .before .before .before .before .before .before in
-    (s .pre .0, (s .pre .1 .0, (s .pre .1 .1 .0, omega (arith, c .before .before .size-from .ensures, c .before .if1 .left))))
+    (s .pre .0, (s .pre .1 .0, omega (arith, c .before .before .size-all .ensures, c .before .if1 .left)))
 
 accepted-requires : tie.Need-accepted-requires
 accepted-requires c κs = search needs
@@ -30,16 +30,16 @@ same-length c = search needs
 returns-2 : tie.Need-returns-2
 returns-2 c =
     let s = c .before .before .before .before .before .before .before .before .before .before .before in
-    serves-done (s .args .node) (s .args .from) (s .args .to) (s .args .t) (s .args .h) (s .args .out .now) (omega (arith, c .before .before .before .before .before .before .before .size-from .ensures, c .before .before .before .before .before .before .if1 .left)) (c .before .before .before .before .hear-from .ensures) (c .accepted .ensures .0) (c .accepted .ensures .1 .0) (c .accepted .ensures .1 .1)
+    serves-done (s .args .node) 0 16 (s .args .t) (s .args .h) (s .args .out .now) (omega (arith, c .before .before .before .before .before .before .before .size-all .ensures, c .before .before .before .before .before .before .if1 .left)) (c .before .before .before .before .hear-all .ensures) (c .accepted .ensures .0) (c .accepted .ensures .1 .0) (c .accepted .ensures .1 .1)
 
 pub serve-spec : {M : Type 1} → statement M
 serve-spec =
     tie.close
     (tie.spec
-    size-from-requires
+    size-all-requires
     refused-requires
     returns
-    hear-from-requires
+    hear-all-requires
     accepted-requires
     same-length
     returns-2)

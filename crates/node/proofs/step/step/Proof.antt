@@ -99,7 +99,7 @@ enum-known-k-3 : tie.Need-enum-known-k-3 Inv-loop μ-loop
 enum-known-k-3 c = search needs
 
 serve-requires : tie.Need-serve-requires Inv-loop μ-loop
-serve-requires c κs = let s = c .before .before .before .before .before .before .before .before .before .before .before .before in let t = the-task (c .before .before .before .before) _ (c .before .before .k3 .given .1) in (ready (s .args .t1) _ (t .fit), (rw (c .before .before .k3 .given .1) at (c .before .before .before .before .task-for .ensures .1), ((omega arith, omega arith), t .fit .few)))
+serve-requires c κs = let s = c .before .before .before .before .before .before .before .before .before .before .before .before in let t = the-task (c .before .before .before .before) _ (c .before .before .k3 .given .1) in (ready (s .args .t1) _ (t .fit), (rw (c .before .before .k3 .given .1) at (c .before .before .before .before .task-for .ensures .1), t .fit .few))
 
 enum-known-k-4 : tie.Need-enum-known-k-4 Inv-loop μ-loop
 enum-known-k-4 c = search needs

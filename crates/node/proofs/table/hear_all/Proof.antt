@@ -1,4 +1,4 @@
--- `node::table::hear_from` meets its contract. Assumes nothing.
+-- `node::table::hear_all` meets its contract. Assumes nothing.
 use Prim.Native.Nat.{_≤_}
 use mathlib.Core.Path.{_≡_}
 use Prim.Native.Nat.{_-_}
@@ -7,20 +7,20 @@ use lib.ListN.{length}
 use Rattle.scdr.proofs.Tails.{length-of-map}
 use Rattle.node.proofs.Ranges.{Hearing, hearing-none, hearing-more, hearing-end, slotted, still, room}
 use borrow.Author.Needs.{needs}
-use Rattle.node.proofs.table.hear_from.Statement.{statement}
-use Rattle.node.proofs.table.hear_from.Tie as tie
+use Rattle.node.proofs.table.hear_all.Statement.{statement}
+use Rattle.node.proofs.table.hear_all.Tie as tie
 
 abbrev Inv-loop : tie.InvT-loop
-Inv-loop p from to t h out₀ contexts₀ i₀ at₀ out contexts i at = Hearing p t h from to contexts₀ out₀ out contexts i at
+Inv-loop p t h out₀ contexts₀ i₀ at₀ out contexts i at = Hearing p t h 0 16 contexts₀ out₀ out contexts i at
 
 abbrev μ-loop : tie.MeasureT-loop
-μ-loop p from to t h out₀ contexts₀ i₀ at₀ out contexts i at = to - i
+μ-loop p t h out₀ contexts₀ i₀ at₀ out contexts i at = 16 - i
 
 whole : (c : tie.Start Inv-loop μ-loop) → length (c .args .cs) ≡ 16
 whole c = search (needs, length-of-map)
 
 loop-holds : tie.Need-loop-holds Inv-loop μ-loop
-loop-holds c = let a = c .before .args in hearing-none (a .p) (a .t) (a .h) (a .from) (a .to) (a .cs) (c .before .pre .1 .1 .0 .0)
+loop-holds c = let a = c .before .args in hearing-none (a .p) (a .t) (a .h) 0 16 (a .cs) (omega arith)
 
 mul-c : tie.Need-mul-c Inv-loop μ-loop
 mul-c c = search needs
@@ -34,8 +34,8 @@ hear-slot-requires c κs =
     let a = s .args in
     let l = c .before .before .before .loop in
     let q = c .before .before .loop-test .taken in
-    let n : a .to ≤ length (a .cs) = omega (arith, whole s, s .pre .1 .1 .0) in
-    (rw (still (a .p) (a .t) (a .h) (a .from) (a .to) (a .cs) (l .inv)) (slotted (a .p) (a .t) (a .h) (a .from) (a .to) (a .cs) _ q n (s .pre .0)), (s .pre .1 .0, rw (still (a .p) (a .t) (a .h) (a .from) (a .to) (a .cs) (l .inv)) (room (a .p) (a .t) (a .h) (a .from) (a .to) (a .cs) (l .inv) _ q n (s .pre .1 .1 .1))))
+    let n : 16 ≤ length (a .cs) = omega (arith, whole s) in
+    (rw (still (a .p) (a .t) (a .h) 0 16 (a .cs) (l .inv)) (slotted (a .p) (a .t) (a .h) 0 16 (a .cs) _ q n (s .pre .0)), (s .pre .1 .0, rw (still (a .p) (a .t) (a .h) 0 16 (a .cs) (l .inv)) (room (a .p) (a .t) (a .h) 0 16 (a .cs) (l .inv) _ q n (s .pre .1 .1))))
 
 mul-contexts : tie.Need-mul-contexts Inv-loop μ-loop
 mul-contexts c = search needs
@@ -54,8 +54,8 @@ loop-again c =
     let s = c .before .before .before .before .before .before .before .before .before in
     let a = s .args in
     let l = c .before .before .before .before .before .before .before .loop in
-    let n : a .to ≤ length (a .cs) = omega (arith, whole s, s .pre .1 .1 .0) in
-    hearing-more (a .p) (a .t) (a .h) (a .from) (a .to) (a .cs) (l .inv) _ (c .before .before .before .before .before .before .loop-test .taken) n (rw (still (a .p) (a .t) (a .h) (a .from) (a .to) (a .cs) (l .inv)) at (c .before .before .before .hear-slot .ensures))
+    let n : 16 ≤ length (a .cs) = omega (arith, whole s) in
+    hearing-more (a .p) (a .t) (a .h) 0 16 (a .cs) (l .inv) _ (c .before .before .before .before .before .before .loop-test .taken) n (rw (still (a .p) (a .t) (a .h) 0 16 (a .cs) (l .inv)) at (c .before .before .before .hear-slot .ensures))
 
 same-length : tie.Need-same-length Inv-loop μ-loop
 same-length c = search needs
@@ -64,10 +64,10 @@ returns : tie.Need-returns Inv-loop μ-loop
 returns c =
     let s = c .before .before .before in
     let a = s .args in
-    hearing-end (a .p) (a .t) (a .h) (a .from) (a .to) (a .cs) (c .loop-test .left) (c .before .loop .inv)
+    hearing-end (a .p) (a .t) (a .h) 0 16 (a .cs) (c .loop-test .left) (c .before .loop .inv)
 
-pub hear-from-spec : {M : Type 1} → statement M
-hear-from-spec =
+pub hear-all-spec : {M : Type 1} → statement M
+hear-all-spec =
     tie.close
     (tie.spec
     Inv-loop

@@ -1,4 +1,4 @@
--- `node::table::size_from` meets its contract. Assumes nothing.
+-- `node::table::size_all` meets its contract. Assumes nothing.
 use mathlib.Core.Path.{_≡_}
 use Prim.Native.Nat.{_-_}
 use native.Mathlib.Omega.{arith}
@@ -6,21 +6,21 @@ use lib.ListN.{length}
 use Rattle.scdr.proofs.Tails.{length-of-map}
 use Rattle.node.proofs.Ranges.{Sizing, sizing-none, sizing-more, sizing-end, slotted}
 use borrow.Author.Needs.{needs}
-use Rattle.node.proofs.table.size_from.Statement.{statement}
-use Rattle.node.proofs.table.size_from.Tie as tie
+use Rattle.node.proofs.table.size_all.Statement.{statement}
+use Rattle.node.proofs.table.size_all.Tie as tie
 
 abbrev Inv-loop : tie.InvT-loop
-Inv-loop p from to t h cs i₀ n₀ i n = Sizing p t h from to cs i n
+Inv-loop p t h cs i₀ n₀ i n = Sizing p t h 0 16 cs i n
 
 abbrev μ-loop : tie.MeasureT-loop
-μ-loop p from to t h cs i₀ n₀ i n = to - i
+μ-loop p t h cs i₀ n₀ i n = 16 - i
 
 -- the table has 16 slots
 whole : (c : tie.Start Inv-loop μ-loop) → length (c .args .t2) ≡ 16
 whole c = search (needs, length-of-map)
 
 loop-holds : tie.Need-loop-holds Inv-loop μ-loop
-loop-holds c = let a = c .args in sizing-none (a .p) (a .t) (a .h) (a .from) (a .to) (a .t2) (c .pre .1 .1 .0)
+loop-holds c = let a = c .args in sizing-none (a .p) (a .t) (a .h) 0 16 (a .t2) (omega arith)
 
 mul-c : tie.Need-mul-c Inv-loop μ-loop
 mul-c c = search needs
@@ -32,7 +32,7 @@ slot-size-requires : tie.Need-slot-size-requires Inv-loop μ-loop
 slot-size-requires c κs =
     let s = c .before .before .before in
     let a = s .args in
-    (slotted (a .p) (a .t) (a .h) (a .from) (a .to) (a .t2) _ (c .before .loop-test .taken) (omega (arith, whole s, s .pre .1 .1 .1)) (s .pre .0), s .pre .1 .0)
+    (slotted (a .p) (a .t) (a .h) 0 16 (a .t2) _ (c .before .loop-test .taken) (omega (arith, whole s)) (s .pre .0), s .pre .1)
 
 add-n : tie.Need-add-n Inv-loop μ-loop
 add-n c = omega (arith, c .before .before .before .loop .inv .few, c .slot-size .ensures .most)
@@ -47,16 +47,16 @@ loop-again : tie.Need-loop-again Inv-loop μ-loop
 loop-again c =
     let s = c .before .before .before .before in
     let a = s .args in
-    sizing-more (a .p) (a .t) (a .h) (a .from) (a .to) (a .t2) _ (c .before .before .loop-test .taken) (omega (arith, whole s, s .pre .1 .1 .1)) (c .before .before .before .loop .inv) (c .slot-size .ensures)
+    sizing-more (a .p) (a .t) (a .h) 0 16 (a .t2) _ (c .before .before .loop-test .taken) (omega (arith, whole s)) (c .before .before .before .loop .inv) (c .slot-size .ensures)
 
 returns : tie.Need-returns Inv-loop μ-loop
 returns c =
     let s = c .before .before in
     let a = s .args in
-    sizing-end (a .p) (a .t) (a .h) (a .from) (a .to) (a .t2) (c .loop-test .left) (c .before .loop .inv)
+    sizing-end (a .p) (a .t) (a .h) 0 16 (a .t2) (c .loop-test .left) (c .before .loop .inv)
 
-pub size-from-spec : {M : Type 1} → statement M
-size-from-spec =
+pub size-all-spec : {M : Type 1} → statement M
+size-all-spec =
     tie.close
     (tie.spec
     Inv-loop
