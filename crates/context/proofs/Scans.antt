@@ -7,12 +7,11 @@ use native.Mathlib.Numerals.{add-one}
 use native.Mathlib.Omega.{arith}
 use lib.ListN.{length, take, drop, getD, set, length-map, length-set, drop-of-length-le, List·getD-map}
 use lib.Seq.{drop-cons, take-suc, take-suc-set, take-all}
-use Rattle.event.specs.declared.Name.{Name}
 use Rattle.profile.specs.declared.Limits.{Limits}
 use Rattle.context.specs.declared.Context.{Context}
 use Rattle.context.specs.declared.slots.Slot.{Slot}
 use Rattle.context.specs.declared.slots.Found.the-variants.{At, Nothing}
-use Rattle.context.specs.Slots.{slotOf, isFree, bears, firstFrom, noneBears, distinct}
+use Rattle.context.specs.Slots.{slotOf, isActive, isFree, bears, firstFrom, noneBears, distinct, clash}
 use Rattle.context.specs.Sound.{slotOk, slotsOk}
 
 -- ---- a rule of a list that looks at one element after another
@@ -43,12 +42,24 @@ module _ {A : Type 0} {rule : List A → Bool} {p : A → List A → Bool} (k : 
   pub rest-end : length l ≤ i → true ≡ rule (drop from l)
   rest-end h = sym (k .none) ∙ ap rule (sym (drop-of-length-le l h)) ∙ s .same
 
--- what the three rules ask
-pub none-asks : (n : Name) → Asks (noneBears n) (λ s ss. not (bears n s))
-unfolding noneBears
-none-asks n = record { step = λ s ss. refl; none = refl }
+-- a slot that is free, or has a name that none of some others has: each of these must not clash with it
+abbrev pub alone : Slot → List Slot → Bool
+alone s ss = isFree s || noneBears (s .name) ss
 
-pub distinct-asks : Asks distinct (λ s ss. isFree s || noneBears (s .name) ss)
+-- what the three rules ask
+pub alone-asks : (s : Slot) → Asks (alone s) (λ t ts. not (clash s t))
+unfolding isFree noneBears clash
+alone-asks s = record { step = λ t ts. one (isActive s) (bears (s .name) t) (noneBears (s .name) ts); none = nil (isActive s) }
+  where
+    one : (a b x : Bool) → (not a || (not b && x)) ≡ (not (a && b) && (not a || x))
+    one true b x = refl
+    one false b x = refl
+
+    nil : (a : Bool) → (not a || true) ≡ true
+    nil true = refl
+    nil false = refl
+
+pub distinct-asks : Asks distinct alone
 unfolding distinct
 distinct-asks = record { step = λ s ss. refl; none = refl }
 

@@ -2,10 +2,8 @@
 use crate::Context;
 use event::Name;
 ghost use mathlib.Core.Path.{_≡_};
-ghost use mathlib.Core.Bool.{_||_};
 ghost use mathlib.Core.List.{map};
-ghost use lib.ListN.{drop};
-ghost use Rattle.context.specs.Slots.{slotOf, sameName, isFree, bears, firstFrom, noneBears, distinct};
+ghost use Rattle.context.specs.Slots.{slotOf, sameName, isFree, bears, firstFrom, distinct, clash};
 
 // What names a slot: its first field is 1 where it is active.
 pub struct Slot {
@@ -71,44 +69,34 @@ pub fn lowest_free(slots: [Slot; 16]) -> Found
     Found::Nothing
 }
 
-// Has each active slot a name of its own?
+// Has each active slot a name of its own? Each is compared with those after it. Both loops stand here, so that the array is not
+// handed on, and copied, for each slot.
 pub fn all_distinct(slots: [Slot; 16]) -> bool
     ensures { λ r. ⌜ r ≡ distinct slots ⌝ }
 {
     let mut i: usize = 0;
     while i < 16 {
         let s = slots[i];
-        if !is_alone(s, slots, i + 1) {
-            return false;
+        let mut j = i + 1;
+        while j < 16 {
+            let t = slots[j];
+            if clash(s, t) {
+                return false;
+            }
+            j += 1;
         }
         i += 1;
     }
     true
 }
 
-// Is a slot free, or does none from a place on have its name?
-fn is_alone(s: Slot, slots: [Slot; 16], from: usize) -> bool
-    ensures { λ r. ⌜ r ≡ (isFree s || noneBears (s .name) (drop from slots)) ⌝ }
+// Are two slots active, with the same name?
+fn clash(s: Slot, t: Slot) -> bool
+    ensures { λ r. ⌜ r ≡ clash s t ⌝ }
 {
     let name = s.name;
-    let free = is_free(s);
-    let none = none_bears(name, slots, from);
-    free | none
-}
-
-// Has no slot from a place on this name?
-fn none_bears(name: Name, slots: [Slot; 16], from: usize) -> bool
-    ensures { λ r. ⌜ r ≡ noneBears name (drop from slots) ⌝ }
-{
-    let mut i = from;
-    while i < 16 {
-        let s = slots[i];
-        if bears(name, s) {
-            return false;
-        }
-        i += 1;
-    }
-    true
+    let same = bears(name, t);
+    (s.active == 1) & same
 }
 
 // What names each slot of the table.
