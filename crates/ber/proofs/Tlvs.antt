@@ -81,6 +81,11 @@ pub tlv-yes : (t : ℕ) (c : List ℕ) → length c < 65536 → tlvForm t c ≡ 
 unfolding tlvForm
 tlv-yes t c h = rw (lt-ltb (length c) 65536 h)
 
+-- one whose length takes one octet
+pub tlv-short : (t : ℕ) (c : List ℕ) → length c < 128 → tlvForm t c ≡ some (t ∷ length c ∷ c)
+unfolding tlvEnc lenEnc
+tlv-short t c h = tlv-yes t c (omega arith) ∙ rw (lt-ltb (length c) 128 h)
+
 pub tlv-no : (t : ℕ) (c : List ℕ) → 65536 ≤ length c → tlvForm t c ≡ none
 unfolding tlvForm
 tlv-no t c h = rw (le-ltb (length c) 65536 h)
