@@ -1,7 +1,7 @@
 -- The parts in which the code writes a record's fields make its body. Assumes nothing.
 use mathlib.Core.Path.{_≡_}
 use mathlib.Core.List.{List, [], _∷_, _++_, append-assoc, append-nil}
-use Prim.Native.Nat.{ℕ}
+use Prim.Native.Nat.{ℕ, _≤_}
 use native.Mathlib.Omega.{arith}
 use lib.Dec.{T, leb, le→leb}
 use lib.ListN.{length, take}
@@ -42,6 +42,13 @@ body-parts r =
     (tlvEnc 0xAF (containers .enc (take (r .count) (r .containers))))
     (tlvEnc 0x90 (stampEnc (r .opening))) (tlvEnc 0x91 (intEnc 9 (duration r))) (flagEnc 0x92 (r .change)) (tlvEnc 0x93 (r .cause ∷ [])) (optEnc 0x95 counted (unless0 (r .number)))
     (optEnc 0x96 (between 1 20) (unlessNone (take (r .nodelen) (r .nodeid))))
+
+-- a record within the rules has 1 to 15 containers
+pub count-known : (r : Record) → T (within r) → length (r .containers) ≡ 15 → (1 ≤ r .count) × (r .count ≤ 15)
+count-known r t l =
+    let p = places-rules r (withins r t .list) in
+    let k = list-rules (r .opening) (take (r .count) (r .containers)) (p .list) in
+    (omega (arith, k .least, length-take-le (r .count) (r .containers) (omega (arith, p .most))), p .most)
 
 -- what the writer of a list asks
 pub list-asks : (r : Record) → T (within r) → length (r .containers) ≡ 15 → T (leb 1 (r .count) && leb (r .count) 15 && eachOk (take (r .count) (r .containers)))

@@ -52,8 +52,5 @@ pub duration-none : (t : ℕ) (cs : List Container) (n : ℕ) → n ≡ 0 → 0 
 unfolding lastTime
 duration-none t cs n e = rw e (omega arith)
 
-pub duration-past : (t : ℕ) (cs : List Container) (n : ℕ) (d : Container) → 1 ≤ n → n ≤ length cs → getD cs (n - 1) d .time .seconds < t → 0 ≡ durationFrom t (take n cs)
-duration-past t cs n d h k l = omega (arith, last-is t cs n d h k)
-
 pub duration-is : (t : ℕ) (cs : List Container) (n : ℕ) (d : Container) → 1 ≤ n → n ≤ length cs → getD cs (n - 1) d .time .seconds - t ≡ durationFrom t (take n cs)
 duration-is t cs n d h k = ap (λ (x : ℕ). x - t) (sym (last-is t cs n d h k))

@@ -19,7 +19,8 @@ pub fn put_body(out: &mut [u8], r: Record) -> usize
     let v = r.containers;
     let opening = r.opening;
     let nodeid = r.nodeid;
-    let lasts = duration::duration(v, r.count, opening);
+    let last = v[r.count - 1];
+    let lasts = duration::lasted(last, opening);
     let a = parts::put_front(out, 0, r.network, imsi, r.sgsn, r.charging);
     let b = parts::put_pdp(out, a, r.ggsn, apn, r.apnlen, r.pdptype, r.address);
     let c = list::put_list(out, b, 0xAF, v, r.count);

@@ -1,10 +1,10 @@
 -- `scdr::duration::duration` meets its contract. Assumes nothing.
-use mathlib.Core.Path.{_≡_}
+use mathlib.Core.Path.{_≡_, _∙_}
 use native.Mathlib.Omega.{arith}
 use lib.ListN.{length}
 use borrow.Author.Needs.{needs}
 use Rattle.container.specs.Container.{noContainer}
-use Rattle.scdr.proofs.Namings.{duration-none, duration-past, duration-is}
+use Rattle.scdr.proofs.Namings.{duration-none, duration-is}
 use Rattle.scdr.proofs.duration.duration.Statement.{statement}
 use Rattle.scdr.proofs.duration.duration.Tie as tie
 
@@ -20,17 +20,14 @@ mul-c c = search needs
 array-copy-out-c : tie.Need-array-copy-out-c
 array-copy-out-c c = search needs
 
+lasted-requires : tie.Need-lasted-requires
+lasted-requires c κs = search needs
+
 returns-2 : tie.Need-returns-2
 returns-2 c =
-    let a = c .before .before .before .before .before .before .args in
+    let a = c .before .before .before .args in
     let l : length (a .t1) ≡ 15 = search needs in
-    duration-past (a .opening .seconds) (a .t1) (a .n) noContainer (omega arith) (omega (arith, c .before .before .before .before .before .before .pre)) (c .if2 .taken)
-
-returns-3 : tie.Need-returns-3
-returns-3 c =
-    let a = c .before .before .before .before .before .before .before .before .args in
-    let l : length (a .t1) ≡ 15 = search needs in
-    duration-is (a .opening .seconds) (a .t1) (a .n) noContainer (omega arith) (omega (arith, c .before .before .before .before .before .before .before .before .pre))
+    c .lasted .ensures ∙ duration-is (a .opening .seconds) (a .t1) (a .n) noContainer (omega arith) (omega (arith, c .before .before .before .pre))
 
 pub duration-spec : {M : Type 1} → statement M
-duration-spec = tie.close (tie.spec returns sub-c mul-c array-copy-out-c returns-2 returns-3)
+duration-spec = tie.close (tie.spec returns sub-c mul-c array-copy-out-c lasted-requires returns-2)
