@@ -1,5 +1,4 @@
 // A record for scripts: a JSON object on one line, with 12.15's names. Fields that are absent are left out.
-use crate::out;
 use crate::value;
 use container::Container;
 use container::Qos;
@@ -101,7 +100,7 @@ fn put_type(text: &mut [u8; 4096], waiting: usize, t: u16) -> usize {
 fn put_pdp(text: &mut [u8; 4096], waiting: usize, r: Record) -> usize {
     let apn = r.apn;
     let w = put_address(text, waiting, b"ggsnAddressUsed", r.ggsn);
-    let w = put_string(text, w, b"accessPointName", out::front(&apn, r.apnlen));
+    let w = put_string(text, w, b"accessPointName", window::front(&apn, r.apnlen));
     let w = put_type(text, w, r.pdptype);
     put_address(text, w, b"servedPDPAddress", r.address)
 }
@@ -184,7 +183,7 @@ fn put_closing(text: &mut [u8; 4096], waiting: usize, r: Record) -> usize {
 // The last of them, and the end of the object.
 fn put_end(text: &mut [u8; 4096], waiting: usize, r: Record) -> usize {
     let nodeid = r.nodeid;
-    let w = put_node(text, waiting, out::front(&nodeid, r.nodelen));
+    let w = put_node(text, waiting, window::front(&nodeid, r.nodelen));
     out::put_all(text, w, b"}\n")
 }
 

@@ -10,7 +10,6 @@
 // No contract can say what is read or written: each function is proved safe and ending.
 mod found;
 mod json;
-mod out;
 mod text;
 mod value;
 

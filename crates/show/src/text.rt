@@ -1,5 +1,4 @@
 // A record for a person: a line a field with 12.15's name for it, and the containers as a table.
-use crate::out;
 use crate::value;
 use container::Container;
 use container::Qos;
@@ -80,7 +79,7 @@ fn put_type(text: &mut [u8; 4096], waiting: usize, t: u16) -> usize {
 fn put_pdp(text: &mut [u8; 4096], waiting: usize, r: Record) -> usize {
     let apn = r.apn;
     let w = put_address(text, waiting, b"ggsnAddressUsed", r.ggsn);
-    let w = put_word(text, w, b"accessPointName", out::front(&apn, r.apnlen));
+    let w = put_word(text, w, b"accessPointName", window::front(&apn, r.apnlen));
     let w = put_type(text, w, r.pdptype);
     put_address(text, w, b"servedPDPAddress", r.address)
 }
@@ -144,7 +143,7 @@ fn put_closing(text: &mut [u8; 4096], waiting: usize, r: Record) -> usize {
     let w = put_flag(text, waiting, b"sgsnChange", r.change);
     let w = put_cause(text, w, r.cause);
     let w = put_sequence(text, w, r.number);
-    put_node(text, w, out::front(&nodeid, r.nodelen))
+    put_node(text, w, window::front(&nodeid, r.nodelen))
 }
 
 // Why a container ended, in words.

@@ -1,5 +1,4 @@
 // The values of a record's fields, as both forms write them.
-use crate::out;
 use calendar::Stamp;
 use container::Container;
 

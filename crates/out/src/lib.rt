@@ -1,6 +1,6 @@
 // Characters on their way to standard output: they wait in a buffer, which is written where it is full, and at the end.
 //
-// Each function puts something behind the characters that wait, and answers how many wait then: 4097 once a write has failed.
+// No contract can say what is written: each function is proved safe and ending. Each puts something behind the characters that wait, and answers how many wait then: 4097 once a write has failed.
 use libc::STDOUT_FILENO;
 
 // One character.
@@ -30,17 +30,13 @@ pub fn put_all(text: &mut [u8; 4096], waiting: usize, s: &[u8]) -> usize {
     w
 }
 
-// The first n octets of s; all where there are fewer.
-pub fn front(s: &[u8], n: usize) -> &[u8] {
-    if n < s.len() {
-        return &s[..n];
-    }
-    s
-}
-
 // So many spaces, at most 32.
 pub fn put_spaces(text: &mut [u8; 4096], waiting: usize, n: usize) -> usize {
-    put_all(text, waiting, front(b"                                ", n))
+    put_all(
+        text,
+        waiting,
+        window::front(b"                                ", n),
+    )
 }
 
 // A number.
@@ -84,10 +80,21 @@ pub fn put_octet(text: &mut [u8; 4096], waiting: usize, x: u8) -> usize {
     put(text, w, digit(x % 16))
 }
 
+// The octets of s, two digits each.
+pub fn put_hex(text: &mut [u8; 4096], waiting: usize, s: &[u8]) -> usize {
+    let mut w = waiting;
+    let mut i: usize = 0;
+    while i < s.len() {
+        w = put_octet(text, w, s[i]);
+        i += 1;
+    }
+    w
+}
+
 // Writes what waits, and answers whether all was written.
 pub fn write_out(text: &[u8; 4096], waiting: usize) -> bool {
     if 4096 < waiting {
         return false;
     }
-    io::write_all(STDOUT_FILENO, front(text, waiting))
+    io::write_all(STDOUT_FILENO, window::front(text, waiting))
 }

@@ -1,10 +1,10 @@
--- `words::line::put_all` is safe and ends. Assumes nothing.
+-- `out::put_hex` is safe and ends. Assumes nothing.
 use Prim.Native.Nat.{_-_, _≤_}
 use native.Mathlib.Omega.{arith}
 use lib.ListN.{length}
 use borrow.Author.Needs.{needs}
-use Rattle.words.proofs.line.put_all.Statement.{statement}
-use Rattle.words.proofs.line.put_all.Tie as tie
+use Rattle.out.proofs.put_hex.Statement.{statement}
+use Rattle.out.proofs.put_hex.Tie as tie
 
 abbrev Inv-loop : tie.InvT-loop
 Inv-loop text₀ waiting s w₀ i₀ text w i = i ≤ length s
@@ -15,11 +15,11 @@ abbrev μ-loop : tie.MeasureT-loop
 loop-holds : tie.Need-loop-holds Inv-loop μ-loop
 loop-holds c = omega arith
 
-shared-slice-read-put : tie.Need-shared-slice-read-put Inv-loop μ-loop
-shared-slice-read-put c = search needs
+shared-slice-read-put-octet : tie.Need-shared-slice-read-put-octet Inv-loop μ-loop
+shared-slice-read-put-octet c = search needs
 
-put-requires : tie.Need-put-requires Inv-loop μ-loop
-put-requires c κs = search needs
+put-octet-requires : tie.Need-put-octet-requires Inv-loop μ-loop
+put-octet-requires c κs = search needs
 
 add-i : tie.Need-add-i Inv-loop μ-loop
 add-i c = search needs
@@ -33,15 +33,15 @@ loop-again c = search needs
 returns : tie.Need-returns Inv-loop μ-loop
 returns c = search needs
 
-pub put-all-spec : {M : Type 1} → statement M
-put-all-spec =
+pub put-hex-spec : {M : Type 1} → statement M
+put-hex-spec =
     tie.close
     (tie.spec
     Inv-loop
     μ-loop
     loop-holds
-    shared-slice-read-put
-    put-requires
+    shared-slice-read-put-octet
+    put-octet-requires
     add-i
     loop-less
     loop-again
