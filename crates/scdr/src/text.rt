@@ -48,16 +48,15 @@ pub fn node_chars(s: &[u8]) -> bool
     true
 }
 
-// Are all of s zero?
+// Are all of s zero? The octets are gathered, with no test between them, so that many are taken at once.
 pub fn zeros(s: &[u8]) -> bool
     ensures { λ r. ⌜ r ≡ allOf isZero (now (s .entry)) ⌝ }
 {
+    let mut all = 0u8;
     let mut i = 0;
     while i < s.len() {
-        if s[i] != 0 {
-            return false;
-        }
+        all = all | s[i];
         i += 1;
     }
-    true
+    all == 0
 }
