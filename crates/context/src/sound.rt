@@ -1,4 +1,4 @@
-// A slot as it must be: what 01's "A sound node" says of each context, a function for each rule.
+// A slot as it must be: what 01's "A sound node" says of each context, a function for each rule, and one for the three of the containers.
 use crate::Context;
 use ber::imsi;
 use container::open;
