@@ -1,7 +1,8 @@
 // The node: its profile, clock and sixteen contexts as one value; when it is sound; and what an event does to it.
 //
-// sound has the rules of a node and a fresh one; step the whole call. Under it: closing says what an event is to a context (a report, a
-// change, a closing), turn what then stands of it, emit what it writes, table how the slots hear one after another.
+// sound has the rules of a node and a fresh one; step the whole call. Under it: task finds out what a call is to do; closing says what an
+// event is to a context (a report, a change, a closing), turn what then stands of it, emit what it writes, table how the slots hear one
+// after another.
 //
 // No public function has a `requires`: each answers for every input.
 mod closing;
