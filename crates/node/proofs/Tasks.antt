@@ -224,10 +224,14 @@ module _ (n : Node) (s b : List ℕ) where
   unfolding doneBy
   steps-all x w = record { is = w .is ∙ sym (x .done) }
 
-  pub steps-open : {i t : ℕ} {v : Activation} {c : Context} {a k : ℕ} {m : Node} → Tasked n s b (K.Open i t v) → c ≡ activated (n .profile) t (v .name) (broughtBy v s)
-      → (a ≡ 0) × ((m ≡ advanced n t (set (n .contexts) i c)) × (k ≡ 0)) → Steps n s b b a m k
+  pub steps-open : {i t : ℕ} {v : Activation} {c : Context} {a k a′ k′ : ℕ} {m : Node} → Tasked n s b (K.Open i t v)
+      → (a ≡ 0) × ((c ≡ activated (n .profile) t (v .name) (broughtBy v s)) × (k ≡ 0))
+      → (a′ ≡ a) × ((m ≡ cond (eqb a 0) (advanced n t (set (n .contexts) i c)) n) × (k′ ≡ cond (eqb a 0) k 0)) → Steps n s b b a′ m k′
   unfolding doneBy
-  steps-open {i} {t} {v} {c} {a} {k} {m} x e p =
-      let q : m ≡ advanced n t (set (n .contexts) i (activated (n .profile) t (v .name) (broughtBy v s))) = p .1 .0 ∙ ap (λ (z : Context). advanced n t (set (n .contexts) i z)) e in
-      let y : _≡_ {A = ℕ × (Node × (ℕ × List ℕ))} (a, (m, (k, b))) (0, (advanced n t (set (n .contexts) i (activated (n .profile) t (v .name) (broughtBy v s))), (0, b))) = (λ i. (p .0 i, (q i, (p .1 .1 i, b)))) in
+  steps-open {i} {t} {v} {c} {a} {k} {a′} {k′} {m} x o p =
+      let new = activated (n .profile) t (v .name) (broughtBy v s) in
+      let f : a′ ≡ 0 = p .0 ∙ o .0 in
+      let g : m ≡ advanced n t (set (n .contexts) i new) = p .1 .0 ∙ rw (o .0, o .1 .0) in
+      let h : k′ ≡ 0 = p .1 .1 ∙ rw (o .0, o .1 .1) in
+      let y : _≡_ {A = ℕ × (Node × (ℕ × List ℕ))} (a′, (m, (k′, b))) (0, (advanced n t (set (n .contexts) i new), (0, b))) = (λ j. (f j, (g j, (h j, b)))) in
       record { is = y ∙ sym (x .done) }

@@ -133,6 +133,19 @@ fn opening(p: Profile, t: u32, a: Activation, event: &[u8]) -> Context
     }
 }
 
+// What comes of the slot that it fills: nothing is written.
+fn opened(p: Profile, t: u32, a: Activation, event: &[u8]) -> Tried
+    requires { ⌜ Activated (now event) a ⌝ }
+    ensures { λ r. ⌜ (r .answer ≡ 0) × ((r .context ≡ activated p t (a .name) (broughtBy a (now (event .entry)))) × (r .written ≡ 0)) ⌝ }
+{
+    let context = opening(p, t, a, event);
+    Tried {
+        answer: 0,
+        context,
+        written: 0,
+    }
+}
+
 // The node with what came of one slot: the same one where that is a refusal.
 fn placed(node: Node, i: usize, t: u32, k: Tried) -> Stepped
     requires { ⌜ (i < 16) × (node .accepted < mostAccepted) ⌝ }
@@ -174,14 +187,11 @@ pub fn step(node: Node, event: &[u8], out: &mut [u8]) -> Stepped
     while i < 16 {
         let c = node.contexts[i];
         good = good & context::sound::slot_ok(l, p.zone, node.clock, node.accepted, c);
-        let s = Slot {
+        let name = c.name;
+        names[i] = Slot {
             active: c.active,
-            name: Name {
-                id: c.name.id,
-                ggsn: c.name.ggsn,
-            },
+            name,
         };
-        names[i] = s;
         i += 1;
     }
     let sound = sound::keeps_rules(p, node.clock, node.accepted, names, good);
@@ -193,18 +203,6 @@ pub fn step(node: Node, event: &[u8], out: &mut [u8]) -> Stepped
             placed(node, at, t, emit::try_slot(p, c, t, h, out))
         }
         Task::All(t, h) => serve(node, t, h, out),
-        Task::Open(at, t, a) => {
-            let context = opening(p, t, a, event);
-            placed(
-                node,
-                at,
-                t,
-                Tried {
-                    answer: 0,
-                    context,
-                    written: 0,
-                },
-            )
-        }
+        Task::Open(at, t, a) => placed(node, at, t, opened(p, t, a, event)),
     }
 }

@@ -66,7 +66,7 @@ loop-less : tie.Need-loop-less Inv-loop μ-loop
 loop-less c = search needs
 
 loop-again : tie.Need-loop-again Inv-loop μ-loop
-loop-again c = let s = c .before .before .before .before .before .before .before .before in let w = whole s in looking-more _ _ _ _ _ (c .before .before .before .loop .inv) _ (omega arith) (c .slot-ok .ensures)
+loop-again c = let s = c .before .before .before .before .before .before .before .before .before in let w = whole s in looking-more _ _ _ _ _ (c .before .before .before .before .loop .inv) _ (omega arith) (c .before .slot-ok .ensures)
 
 keeps-rules-requires : tie.Need-keeps-rules-requires Inv-loop μ-loop
 keeps-rules-requires c κs = search needs
@@ -104,8 +104,8 @@ serve-requires c κs = let s = c .before .before .before .before .before .before
 enum-known-k-4 : tie.Need-enum-known-k-4 Inv-loop μ-loop
 enum-known-k-4 c = search needs
 
-opening-requires : tie.Need-opening-requires Inv-loop μ-loop
-opening-requires c κs = the-task (c .before .before .before) _ (c .before .k4 .given .1) .fit .1 .1
+opened-requires : tie.Need-opened-requires Inv-loop μ-loop
+opened-requires c κs = the-task (c .before .before .before) _ (c .before .k4 .given .1) .fit .1 .1
 
 placed-requires-2 : tie.Need-placed-requires-2 Inv-loop μ-loop
 placed-requires-2 c κs = let t = the-task (c .before .before .before .before) _ (c .before .before .k4 .given .1) in (t .fit .0, t .fit .1 .0 .few)
@@ -126,7 +126,7 @@ returns-3 : tie.Need-returns-3 Inv-loop μ-loop
 returns-3 c = steps-all (c .before .before .before .before .before .before .before .before .before .before .before .before .before .before .before .args .t1) (c .before .before .before .before .before .before .before .before .before .before .before .before .before .before .before .args .event .now) (c .before .before .before .before .before .before .before .before .before .before .before .before .before .before .before .args .out .now) (the-task (c .before .before .before .before .before .before .before) _ (c .before .before .before .before .before .k3 .given .1)) (c .before .before .serve .ensures)
 
 returns-4 : tie.Need-returns-4 Inv-loop μ-loop
-returns-4 c = steps-open (c .before .before .before .before .before .before .before .before .before .before .before .before .before .args .t1) (c .before .before .before .before .before .before .before .before .before .before .before .before .before .args .event .now) (c .before .before .before .before .before .before .before .before .before .before .before .before .before .args .out .now) (the-task (c .before .before .before .before .before) _ (c .before .before .before .k4 .given .1)) (c .before .opening .ensures) (c .placed2 .ensures)
+returns-4 c = steps-open (c .before .before .before .before .before .before .before .before .before .before .before .before .before .args .t1) (c .before .before .before .before .before .before .before .before .before .before .before .before .before .args .event .now) (c .before .before .before .before .before .before .before .before .before .before .before .before .before .args .out .now) (the-task (c .before .before .before .before .before) _ (c .before .before .before .k4 .given .1)) (c .before .opened .ensures) (c .placed2 .ensures)
 
 pub step-spec : {M : Type 1} → statement M
 step-spec =
@@ -155,7 +155,7 @@ step-spec =
     enum-known-k-3
     serve-requires
     enum-known-k-4
-    opening-requires
+    opened-requires
     placed-requires-2
     returns
     same-length
