@@ -5,9 +5,8 @@ use mathlib.Core.List.{List, [], _∷_}
 use Prim.Native.Nat.{ℕ, zero, suc, _+_, _-_, _≤_, _<_}
 use native.Mathlib.Omega.{arith}
 use lib.Dec.{leb, ltb, eqb}
-use lib.ListN.{length, take, drop, getD, set, replicate}
-use lib.Seq.{take-all}
-use borrow.Author.Tests.{leb-true, ltb-true, ltb-false, eqb-true, le-leb, lt-ltb, le-ltb, eq-eqb, ne-eqb}
+use lib.ListN.{length, drop, getD, set, replicate}
+use borrow.Author.Tests.{leb-true, ltb-true, eqb-true, le-leb, lt-ltb, eq-eqb, ne-eqb}
 use Rattle.format.proofs.Tests.{both, true-T}
 use Rattle.ber.specs.Imsi.{imsiOk}
 use Rattle.container.specs.Qos.{qosOk, sameQos, noQos}

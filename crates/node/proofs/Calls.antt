@@ -24,9 +24,9 @@ use Rattle.history.specs.Log as L
 use Rattle.node.specs.declared.Node.{Node}
 use Rattle.node.specs.declared.Heard.{Heard}
 use Rattle.node.specs.Sound.{sound, latest, mostAccepted}
-use Rattle.node.specs.Step.{Brought, takes, tableRows, laterRows, saidOf, refusals, outcome, stepOf, Steps, Outs}
+use Rattle.node.specs.Step.{Brought, takes, tableRows, laterRows, saidOf, refusals, outcome, stepOf, Steps}
 use Rattle.node.proofs.Rowed.{numbered-rows, fit-more, fit-first}
-use Rattle.node.proofs.Served.{outs-refused}
+use Rattle.node.proofs.Served.{Outs, outs-refused}
 
 -- ---- what was decoded
 

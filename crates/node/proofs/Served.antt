@@ -1,37 +1,39 @@
 -- What a call answers, by what the table did. Assumes nothing.
 use mathlib.Core.Path.{_≡_, refl, sym, ap, _∙_}
-use mathlib.Core.Bool.{Bool, true, false, not, cond, _&&_}
-use mathlib.Core.List.{List, [], _∷_, _++_, map}
+use mathlib.Core.Bool.{true, false}
+use mathlib.Core.List.{List, _++_, map}
 use Prim.Native.Nat.{ℕ, suc, _+_, _≤_, _<_}
 use native.Mathlib.Numerals.{add-one}
 use native.Mathlib.Omega.{arith}
-use lib.Dec.{leb, ltb, eqb}
-use lib.ListN.{length, take, drop, set}
-use borrow.Author.Tests.{le-leb, lt-leb, le-ltb, lt-ltb, ne-eqb, leb-true}
-use Rattle.format.proofs.Tests.{both, either}
-use Rattle.ber.proofs.Writers.{Put}
-use Rattle.profile.specs.declared.Profile.{Profile}
-use Rattle.profile.specs.Profile.{profileOk}
+use lib.ListN.{length, drop, set}
+use borrow.Author.Tests.{le-leb, lt-leb, le-ltb, lt-ltb, ne-eqb}
+use Rattle.format.proofs.Tests.{either}
 use Rattle.event.specs.declared.Name.{Name}
 use Rattle.event.specs.Rows.{Row, firstFit}
 use Rattle.context.specs.declared.Context.{Context}
-use Rattle.context.specs.Sound.{slotsOk}
 use Rattle.context.specs.Slots.{slotOf, isFree, bears, distinct}
 use Rattle.history.specs.Lists.{All}
-use Rattle.history.specs.Log.{Said, activates, tells, tellsAll, nothing}
-use Rattle.history.specs.Table.{active, free, slotsAfter}
+use Rattle.history.specs.Log.{Said, activates, tells, tellsAll}
+use Rattle.history.specs.Table.{free, slotsAfter}
 use Rattle.node.specs.declared.Node.{Node}
 use Rattle.node.specs.declared.Heard.{Heard}
 use Rattle.node.specs.Sound.{sound, latest, mostAccepted}
-use Rattle.node.specs.Step.{Brought, handling, seen, stood, slots, octetsOf, activated, nodeAfter, recordsOf, output, notActive, isActive, allTaken, tableRows, outcome, Outs}
+use Rattle.node.specs.Step.{Brought, handling, stood, slots, octetsOf, activated, nodeAfter, recordsOf, output, notActive, isActive, allTaken, tableRows, outcome}
 use Rattle.node.specs.Shape.{Shaped}
-use Rattle.node.specs.Told.{Due, Ready, Sounding}
+use Rattle.node.specs.Told.{Ready}
 use Rattle.node.specs.Range.{across, along, slotNext, slotOut, Turns, advanced, servedOf, Serves}
 use Rattle.node.proofs.Rules.{rules}
 use Rattle.node.proofs.Found.{First}
 use Rattle.node.proofs.Heards.{Settled, all-settled, all-after, all-outs, tells-after, tells-outs, found-active, none-active, found-free, none-free, filled}
 
 -- ---- a sound node
+
+-- a sound node, at a time that it takes, with room for one accepted event more
+pub record Sounding (n : Node) (t : ℕ) : Type 0 where
+  pub sound : sound n ≡ true
+  pub since : n .clock ≤ t
+  pub until : t ≤ latest
+  pub few : n .accepted < mostAccepted
 
 module _ (n : Node) (t : ℕ) (s : Sounding n t) where
   pub ready : Ready (n .profile) t (n .contexts)
@@ -69,6 +71,10 @@ module _ (n : Node) (from to t : ℕ) (h : Heard) (b : List ℕ) where
       record { is = rw (le-leb (length x) (length b) l) (λ i. (p i, (v i, (y i, u i)))) }
 
 -- ---- what the call answers then
+
+-- what a call answers by some rows of the table
+pub record Outs (rs : List Row) (n : Node) (t : ℕ) (w : Said (Unit {0}) Name Brought Heard) (b b′ : List ℕ) (answer : ℕ) (n′ : Node) (written : ℕ) : Type 0 where
+  pub is : _≡_ {A = ℕ × (Node × (ℕ × List ℕ))} (answer, (n′, (written, b′))) (outcome (firstFit rs) n t w b)
 
 module _ (n : Node) (t : ℕ) (w : Said (Unit {0}) Name Brought Heard) (b : List ℕ) where
   pub outs-refused : (rs : List Row) (j : ℕ) {a k : ℕ} {m : Node} → firstFit rs ≡ j → (j ≡ 0 → ⊥) → a ≡ j → m ≡ n → k ≡ 0 → Outs rs n t w b b a m k

@@ -2,10 +2,10 @@
 use mathlib.Core.Path.{_≡_, refl, sym, ap, _∙_}
 use mathlib.Core.Bool.{Bool, true, false, cond, _&&_}
 use mathlib.Core.List.{List, _++_, map}
-use Prim.Native.Nat.{ℕ, suc, _+_, _≤_, _<_}
+use Prim.Native.Nat.{ℕ, _+_, _≤_, _<_}
 use native.Mathlib.Omega.{arith}
 use native.Mathlib.Numerals.{add-one}
-use lib.Dec.{leb, ltb, eqb}
+use lib.Dec.{leb, eqb}
 use lib.ListN.{length, drop, getD, set}
 use borrow.Author.Tests.{le-leb, lt-leb, le-ltb, lt-ltb}
 use Rattle.format.proofs.Tests.{either}
@@ -17,7 +17,6 @@ use Rattle.event.specs.declared.Event.{Event}
 use Rattle.event.specs.declared.Event.the-variants as E
 use Rattle.event.specs.declared.Decoded.{Decoded}
 use Rattle.event.specs.declared.Decoded.the-variants as D
-use Rattle.event.specs.Rows.{Row}
 use Rattle.event.specs.Event.{decoded}
 use Rattle.event.proofs.Theorems.{Activated, activated as activate-in, profiled, released}
 use Rattle.context.specs.declared.Context.{Context}
@@ -34,14 +33,13 @@ use Rattle.node.specs.declared.Heard.the-variants as H
 use Rattle.node.specs.declared.task.Task.{Task}
 use Rattle.node.specs.declared.task.Task.the-variants as K
 use Rattle.node.specs.Sound.{sound, latest, mostAccepted}
-use Rattle.node.specs.Step.{Brought, broughtBy, takes, activated, tableRows, laterRows, stepOf, Steps, Outs}
+use Rattle.node.specs.Step.{Brought, broughtBy, takes, activated, tableRows, stepOf, Steps}
 use Rattle.node.specs.Shape.{Shaped}
-use Rattle.node.specs.Told.{Sounding}
 use Rattle.node.specs.Range.{across, along, slotNext, slotOut, Turns, advanced, triedOf, Tries, servedOf, Serves}
-use Rattle.node.specs.Task.{oneAt, namedTask, freeAt, openAt, openTask, taskOf, timelyTask, taskFor, doneBy, FairEvent}
+use Rattle.node.specs.Task.{oneAt, namedTask, openAt, openTask, taskOf, timelyTask, taskFor, doneBy, FairEvent}
 use Rattle.node.proofs.Found.{first-is, none-at, first-below}
 use Rattle.node.proofs.Ranges.{across-none, across-more, along-none, along-more}
-use Rattle.node.proofs.Served.{outs-tell, outs-all, outs-activate, outs-8, outs-9, outs-10}
+use Rattle.node.proofs.Served.{Sounding, Outs, outs-tell, outs-all, outs-activate, outs-8, outs-9, outs-10}
 use Rattle.node.proofs.Calls.{outs-late, outs-early, outs-many, outs-timely, is-sound, steps-13, steps-octets, steps-said}
 
 -- an event that octets say is in range

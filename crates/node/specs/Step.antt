@@ -1,6 +1,6 @@
 -- One call: the refusal table, and what an accepted event does to the node. Assumes nothing.
 use mathlib.Core.Path.{_≡_}
-use mathlib.Core.Bool.{Bool, true, false, not, cond, _||_}
+use mathlib.Core.Bool.{Bool, false, not, cond, _||_}
 use mathlib.Core.Option.{Option, none, some}
 use mathlib.Core.List.{List, [], _∷_, _++_, map}
 use Prim.Native.Nat.{ℕ, _+_}
@@ -184,9 +184,3 @@ stepOf n s b = outcome (firstFit (refusals n s b)) n (timeOf s) (saidOf s) b
 
 pub record Steps (n : Node) (s b b′ : List ℕ) (answer : ℕ) (n′ : Node) (written : ℕ) : Type 0 where
   pub is : _≡_ {A = ℕ × (Node × (ℕ × List ℕ))} (answer, (n′, (written, b′))) (stepOf n s b)
-
--- ---- the parts of a call
-
--- what a call answers by some rows of the table
-pub record Outs (rs : List Row) (n : Node) (t : ℕ) (w : Said (Unit {0}) Name Brought Heard) (b b′ : List ℕ) (answer : ℕ) (n′ : Node) (written : ℕ) : Type 0 where
-  pub is : _≡_ {A = ℕ × (Node × (ℕ × List ℕ))} (answer, (n′, (written, b′))) (outcome (firstFit rs) n t w b)

@@ -12,7 +12,6 @@ use Rattle.profile.specs.declared.Profile.{Profile}
 use Rattle.profile.specs.Profile.{profileOk}
 use Rattle.context.specs.declared.Context.{Context}
 use Rattle.context.specs.Sound.{contextOk, slotOk, slotsOk}
-use Rattle.node.specs.declared.Node.{Node}
 use Rattle.node.specs.declared.Heard.{Heard}
 use Rattle.node.specs.declared.Heard.the-variants as H
 use Rattle.node.specs.declared.closing.Told.{Told}
@@ -66,10 +65,3 @@ pub record Slotted (p : Profile) (t : ℕ) (c : Context) : Type 0 where
 pub record Ready (p : Profile) (t : ℕ) (cs : List Context) : Type 0 where
   pub due : Due p t
   pub sound : slotsOk (p .limits) (p .zone) (due .clock) (due .accepted) cs ≡ true
-
--- a sound node, at a time that it takes, with room for one accepted event more
-pub record Sounding (n : Node) (t : ℕ) : Type 0 where
-  pub sound : sound n ≡ true
-  pub since : n .clock ≤ t
-  pub until : t ≤ latest
-  pub few : n .accepted < mostAccepted

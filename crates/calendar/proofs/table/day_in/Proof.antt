@@ -1,5 +1,5 @@
 -- `calendar::table::day_in` meets its contract: what stands in the table is where the month begins. Assumes nothing.
-use mathlib.Core.Path.{_≡_, _∙_}
+use mathlib.Core.Path.{_∙_}
 use Prim.Native.Nat.{_<_}
 use native.Mathlib.Omega.{arith}
 use borrow.Author.Needs.{needs}

@@ -1,5 +1,4 @@
 -- `container::open::turn` meets its contract: a place that is used, and one that is not. Assumes nothing.
-use mathlib.Core.Path.{_≡_, refl}
 use borrow.Author.Needs.{needs}
 use Rattle.container.specs.Turns.{turned}
 use Rattle.container.proofs.open.turn.Statement.{statement}

@@ -15,7 +15,7 @@ use Rattle.container.specs.List.{containers, eachOk}
 use Rattle.scdr.specs.Rules.{duration}
 use Rattle.scdr.specs.Parts.{endEnc}
 use Rattle.scdr.proofs.Tails.{length-of-map}
-use Rattle.scdr.proofs.Views.{withins, apn-rules, node-rules, places-rules}
+use Rattle.scdr.proofs.Views.{withins, apn-rules, node-rules}
 use Rattle.scdr.proofs.Namings.{duration-is}
 use Rattle.scdr.proofs.Bodies.{body-parts, count-known, list-asks}
 use Rattle.scdr.proofs.body.put_body.Statement.{statement}
