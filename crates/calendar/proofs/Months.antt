@@ -3,38 +3,71 @@ use mathlib.Core.Path.{_≡_, refl, sym, ap, _∙_}
 use mathlib.Core.Bool.{Bool, true, false, cond, _&&_}
 use mathlib.Core.List.{List, [], _∷_}
 use Prim.Native.Nat.{ℕ, zero, suc, _+_, _-_, _*_, _/_, _%_, _≤_, _<_}
-use native.Mathlib.Nat.{zero-add, suc-add}
+use native.Mathlib.Nat.{zero-add, add-zero, add-suc}
 use native.Mathlib.Omega.{arith}
-use lib.Dec.{T, ltb, leb, eqb, leb→le}
+use lib.Dec.{T, ltb, leb, eqb, leb→le, eqb→eq}
 use lib.ListN.{getD}
 use borrow.Author.Tests.{ltb-true, ltb-false, eqb-true}
 use Rattle.format.proofs.Tests.{by, either, and-l, and-r}
-use Rattle.calendar.specs.Month.{leap, plain, monthLen, firstDay, seek, monthDay, Lies, Dated}
+use Rattle.calendar.specs.Month.{leap, plain, monthLen, firstDay, seek, monthDay, Lies, Dated, Row, Placed}
 
 -- January 2000 begins on day 0
-pub start : 0 ≡ firstDay 0
+start : 0 ≡ firstDay 0
 unfolding firstDay
 start = refl
-
--- 2099 ends with day 36,524
-pub end : firstDay 1200 ≡ 36525
-unfolding firstDay monthLen
-end = refl
 
 -- a month begins where the one before it ends
 pub next : (k : ℕ) → firstDay (suc k) ≡ firstDay k + monthLen k
 unfolding firstDay
 next k = refl
 
+-- the days of n months, from month k on
+unfoldable span : ℕ → ℕ → ℕ
+span zero k = 0
+span (suc n) k = span n k + monthLen (k + n)
+
+spans : (n k : ℕ) → firstDay (k + n) ≡ firstDay k + span n k
+unfolding span
+spans zero k = rw (add-zero k) (omega arith)
+spans (suc n) k = rw (add-suc k n) (omega (arith, spans n k, next (k + n)))
+
 -- later months begin no earlier
-more : (n k : ℕ) → firstDay k ≤ firstDay (n + k)
-more zero k = rw (zero-add k) (omega arith)
-more (suc n) k = rw (suc-add n k) (omega (arith, more n k, next (n + k)))
-
 pub later : (j k : ℕ) → j ≤ k → firstDay j ≤ firstDay k
-later j k h = let e : k - j + j ≡ k = omega arith in rw e at (more (k - j) j)
+later j k h =
+    let e : j + (k - j) ≡ k = omega arith in
+    let s = rw e at (spans (k - j) j) in
+    omega arith
 
--- the months of 2000 to 2099 begin in these years
+-- ---- four years
+
+-- a test: n times from month k on, the next four years have 1,461 days
+unfoldable fours : ℕ → ℕ → Bool
+fours zero k = true
+fours (suc n) k = eqb (span 48 k) 1461 && fours n (k + 48)
+
+fours-begin : (n k m : ℕ) → T (fours n k) → m ≤ n → firstDay (k + m * 48) ≡ firstDay k + m * 1461
+unfolding fours
+fours-begin n k zero t h = rw (add-zero k) (omega arith)
+fours-begin zero k (suc m) t h = absurd (omega arith)
+fours-begin (suc n) k (suc m) t h =
+    let e : k + suc m * 48 ≡ k + 48 + m * 48 = omega arith in
+    let s = eqb→eq (span 48 k) 1461 (and-l (eqb (span 48 k) 1461) (fours n (k + 48)) t) in
+    let r = fours-begin n (k + 48) m (and-r (eqb (span 48 k) 1461) (fours n (k + 48)) t) (omega arith) in
+    rw e (omega (arith, spans 48 k))
+
+-- From 2000 to 2099 it passes, as antt computes; so row k of the table, the months of four years, begins with day k * 1461.
+pub row-begins : (k : ℕ) → k ≤ 25 → firstDay (k * 48) ≡ k * 1461
+unfolding span fours monthLen
+row-begins k h =
+    let e = rw (zero-add (k * 48)) at (fours-begin 25 0 k tt h) in
+    omega (arith, start)
+
+-- 2099 ends with day 36,524
+end : firstDay 1200 ≡ 36525
+end = row-begins 25 (omega arith)
+
+-- ---- the months of 2000 to 2099 begin in these years
+
 pub below : (k : ℕ) → k < 1200 → firstDay k ≤ 36525
 below k h = omega (arith, later k 1200 (omega arith), end)
 
@@ -59,7 +92,7 @@ unfolding monthDay
 lies d h = seek-lies 1199 0 0 d start (omega arith) (omega arith) (omega (arith, end))
 
 -- and lies in no other
-pub month-is : (d k : ℕ) → d < 36525 → firstDay k ≤ d → d < firstDay (suc k) → monthDay d .0 ≡ k
+month-is : (d k : ℕ) → d < 36525 → firstDay k ≤ d → d < firstDay (suc k) → monthDay d .0 ≡ k
 month-is d k h u v =
     let l = lies d h in
     let m = monthDay d .0 in
@@ -91,9 +124,9 @@ short k =
     (λ a. rw a (omega (arith, entries plain tt (k % 12))))
 
 -- so each begins at most 31 days after the one before
-pub slow : (k : ℕ) → firstDay k ≤ k * 31
-slow zero = omega (arith, start)
-slow (suc k) = omega (arith, next k, short k, slow k)
+slow : (n k : ℕ) → firstDay (k + n) ≤ firstDay k + n * 31
+slow zero k = rw (add-zero k) (omega arith)
+slow (suc n) k = rw (add-suc k n) (omega (arith, next (k + n), short (k + n), slow n k))
 
 -- a day's month, and what is left of the day there, are its date
 pub dated : (d k f : ℕ) → d < 36525 → k ≡ monthDay d .0 → f ≡ firstDay k → Dated d k (d - f)
@@ -101,3 +134,27 @@ dated d k f h e q =
     let l = lies d h in
     let g = ap firstDay e in
     record { month = e; place = omega arith; known = omega arith; small = omega (arith, short (monthDay d .0)) }
+
+-- ---- a day in the row of its four years
+
+-- the row begins where they do
+pub row-first : (d : ℕ) {l : List ℕ} → d < 36525 → Row (d / 1461) l → getD l 0 0 ≡ d / 1461 * 1461
+row-first d h r = r .begins 0 (omega arith) ∙ ap firstDay (add-zero (d / 1461 * 48)) ∙ row-begins (d / 1461) (omega arith)
+
+-- what comes after it begins after the day
+pub row-until : (d : ℕ) → d < 36525 → d < firstDay (d / 1461 * 48 + 48)
+row-until d h =
+    let e : (d / 1461 + 1) * 48 ≡ d / 1461 * 48 + 48 = omega arith in
+    let r = rw e at (row-begins (d / 1461 + 1) (omega arith)) in
+    omega arith
+
+-- a month for each 31 days before the day is not past it
+pub early : (d n : ℕ) → d < 36525 → n * 31 ≤ d % 1461 → firstDay (d / 1461 * 48 + n) ≤ d
+early d n h l = omega (arith, slow n (d / 1461 * 48), row-begins (d / 1461) (omega arith))
+
+-- the month at place i is the day's where it begins no later, and the next one does
+pub placed : (d i : ℕ) → d < 36525 → i < 48 → firstDay (d / 1461 * 48 + i) ≤ d → d < firstDay (d / 1461 * 48 + (i + 1)) → Placed d i
+placed d i h l u v =
+    let k = d / 1461 * 48 + i in
+    let e : firstDay (d / 1461 * 48 + (i + 1)) ≡ firstDay (suc k) = ap firstDay (omega arith) in
+    record { month = sym (month-is d k h u (omega arith)); known = l }

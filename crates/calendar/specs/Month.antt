@@ -2,7 +2,7 @@
 use mathlib.Core.Bool.{Bool, true, false, cond, not, _&&_, _||_}
 use mathlib.Core.List.{List, [], _∷_}
 use mathlib.Core.Path.{_≡_}
-use Prim.Native.Nat.{ℕ, zero, suc, _+_, _-_, _/_, _%_, _<_}
+use Prim.Native.Nat.{ℕ, zero, suc, _+_, _-_, _*_, _/_, _%_, _<_}
 use lib.Dec.{ltb, eqb}
 use lib.ListN.{getD}
 
@@ -46,6 +46,11 @@ pub record Dated (d k p : ℕ) : Type 0 where
   pub known : k < 1200
   pub small : p < 31
 
--- A table of the days on which the months from 2000 to 2099 begin: what the code's own is, and what a look at it may rely on.
-pub record Table (l : List ℕ) : Type 0 where
-  pub begins : (k : ℕ) → k < 1200 → getD l k 0 ≡ firstDay k
+-- A row of the code's table: the days on which the 48 months of four years begin, from month k * 48 on. A look at it relies on this.
+pub record Row (k : ℕ) (l : List ℕ) : Type 0 where
+  pub begins : (i : ℕ) → i < 48 → getD l i 0 ≡ firstDay (k * 48 + i)
+
+-- What is found for day d in the row of its four years, which have 1,461 days: its month's place i there.
+pub record Placed (d i : ℕ) : Type 0 where
+  pub month : d / 1461 * 48 + i ≡ monthDay d .0
+  pub known : i < 48

@@ -8,15 +8,13 @@ mod zone;
 
 ghost use mathlib.Core.Path.{_≡_};
 ghost use Rattle.calendar.specs.Bound.{Is};
-ghost use Rattle.calendar.specs.Month.{Table};
 ghost use Rattle.calendar.specs.Stamp.{stampOk, stamp, stampRead, Stamped, clockVal};
 use digits::less_one;
 use digits::of_bcd;
 use digits::to_bcd;
 use month::date_of;
 use month::month_named;
-use table::day_in;
-use table::first_days;
+use table::first_day;
 use zone::away_of;
 use zone::sign_of;
 use zone::zone_of;
@@ -52,22 +50,13 @@ pub fn stamp_within(t: Stamp) -> bool
 pub fn stamp_octets(t: Stamp) -> StampOctets
     ensures { λ r. ⌜ Stamped t (r .ok) (r .octets) ⌝ }
 {
-    let first = first_days();
-    octets_by(&first, t)
-}
-
-// The same, by a table that is the calendar's.
-fn octets_by(first: &[u16; 1200], t: Stamp) -> StampOctets
-    requires { ⌜ Table (now first) ⌝ }
-    ensures { λ r. ⌜ Stamped t (r .ok) (r .octets) ⌝ }
-{
     if !stamp_within(t) {
         return StampOctets {
             ok: false,
             octets: [0; 9],
         };
     }
-    let date = date_of(first, t.seconds / 86400);
+    let date = date_of(t.seconds / 86400);
     let second = t.seconds % 86400;
     let size = away_of(t.zone);
     let octets = [
@@ -103,13 +92,12 @@ pub fn stamp_of(s: &[u8]) -> StampRead
     if 1200 <= month {
         return StampRead::NoTime;
     }
-    let first = first_days();
-    let day = day_in(&first, month) + less_one(of_bcd(s[2]));
+    let day = first_day(month) + less_one(of_bcd(s[2]));
     let t = Stamp {
         seconds: day * 86400 + second_of(s[3], s[4], s[5]),
         zone: zone_of(s[6], s[7], s[8]),
     };
-    let again = octets_by(&first, t);
+    let again = stamp_octets(t);
     if !again.ok {
         return StampRead::NoTime;
     }

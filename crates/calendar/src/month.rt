@@ -1,22 +1,22 @@
 // Months, counted from January 2000.
-ghost use mathlib.Core.Path.{_≡_};
-ghost use Prim.Native.Nat.{_<_};
+ghost use Prim.Native.Nat.{_/_, _<_};
 ghost use Rattle.calendar.specs.Bound.{Is};
-ghost use Rattle.calendar.specs.Month.{monthDay, Dated, Table};
+ghost use Rattle.calendar.specs.Month.{Row, Placed, Dated};
 ghost use Rattle.calendar.specs.Stamp.{monthVal};
 use crate::digits::less_one;
 use crate::digits::of_bcd;
 use crate::table::day_in;
+use crate::table::years;
 
-// The month in which a day lies: the first whose next one begins after that day. No month is longer than 31 days, so it is
-// looked for from day / 31 on, at most 22 months before it.
-fn month_of(first: &[u16; 1200], day: u32) -> u32
-    requires { ⌜ Table (now first) × (day < 36525) ⌝ }
-    ensures { λ r. ⌜ r ≡ monthDay day .0 ⌝ }
+// The month in which a day lies, as its place in the row of the day's four years: the first whose next one begins after that day.
+// No month is longer than 31 days, so the walk starts at the day in the row / 31, at most one month before it.
+fn place_of(row: &[u16; 48], day: u32) -> u32
+    requires { ⌜ Row (day / 1461) (now row) × (day < 36525) ⌝ }
+    ensures { λ r. ⌜ Placed day r ⌝ }
 {
-    let mut month = day / 31;
-    while month < 1199 {
-        if day < day_in(first, month + 1) {
+    let mut month = (day - day_in(row, 0)) / 31;
+    while month < 47 {
+        if day < day_in(row, month + 1) {
             return month;
         }
         month += 1;
@@ -30,14 +30,17 @@ pub struct Date {
     pub place: u32,
 }
 
-pub fn date_of(first: &[u16; 1200], day: u32) -> Date
-    requires { ⌜ Table (now first) × (day < 36525) ⌝ }
+// Any four years from 2000 to 2099 have 1,461 days, so a division finds the row.
+pub fn date_of(day: u32) -> Date
+    requires { ⌜ day < 36525 ⌝ }
     ensures { λ r. ⌜ Dated day (r .month) (r .place) ⌝ }
 {
-    let month = month_of(first, day);
+    let k = day / 1461;
+    let row = years(k);
+    let i = place_of(&row, day);
     Date {
-        month,
-        place: day - day_in(first, month),
+        month: k * 48 + i,
+        place: day - day_in(&row, i),
     }
 }
 

@@ -29,11 +29,8 @@ month-named-requires c κs = search needs
 returns-2 : tie.Need-returns-2
 returns-2 c = read-late (c .before .before .before .before .before .before .args .s .now) (omega arith)
 
-first-days-requires : tie.Need-first-days-requires
-first-days-requires c κs = search needs
-
-day-in-requires : tie.Need-day-in-requires
-day-in-requires c κs = (c .before .first-days .ensures, omega arith)
+first-day-requires : tie.Need-first-day-requires
+first-day-requires c κs = search needs
 
 shared-slice-read-of-bcd : tie.Need-shared-slice-read-of-bcd
 shared-slice-read-of-bcd c = search needs
@@ -47,8 +44,8 @@ less-one-requires c κs = search needs
 add-day : tie.Need-add-day
 add-day c = search needs
 
-mul-t15 : tie.Need-mul-t15
-mul-t15 c = search needs
+mul-t13 : tie.Need-mul-t13
+mul-t13 c = search needs
 
 shared-slice-read-second-of : tie.Need-shared-slice-read-second-of
 shared-slice-read-second-of c = search needs
@@ -62,8 +59,8 @@ shared-slice-read-second-of-3 c = search needs
 second-of-requires : tie.Need-second-of-requires
 second-of-requires c κs = search needs
 
-add-t18 : tie.Need-add-t18
-add-t18 c = search needs
+add-t15 : tie.Need-add-t15
+add-t15 c = search needs
 
 shared-slice-read-zone-of : tie.Need-shared-slice-read-zone-of
 shared-slice-read-zone-of c = search needs
@@ -77,18 +74,18 @@ shared-slice-read-zone-of-3 c = search needs
 zone-of-requires : tie.Need-zone-of-requires
 zone-of-requires c κs = search needs
 
-octets-by-requires : tie.Need-octets-by-requires
-octets-by-requires c κs = c .before .before .before .before .before .before .before .before .before .before .before .before .before .before .first-days .ensures
+stamp-octets-requires : tie.Need-stamp-octets-requires
+stamp-octets-requires c κs = search needs
 
 -- where the time has been put together: the octets, and the time
 abbrev octets : tie.After-zone-of → List ℕ
-octets c = c .before .before .before .before .before .before .before .before .before .before .before .before .before .before .before .before .before .before .before .before .args .s .now
+octets c = c .before .before .before .before .before .before .before .before .before .before .before .before .before .before .before .before .before .before .args .s .now
 
 abbrev time : tie.After-zone-of → Stamp
 time c =
     let less = c .before .before .before .before .before .before .before .before in
     record {
-      seconds = (less .before .before .before .day-in .result + less .less-one .result) * 86400 + c .before .before .before .before .second-of .result;
+      seconds = (less .before .before .before .first-day .result + less .less-one .result) * 86400 + c .before .before .before .before .second-of .result;
       zone = c .zone-of .result;
     }
 
@@ -98,8 +95,8 @@ said c =
     let less = c .before .before .before .before .before .before .before .before in
     let first = less .before .before .before in
     value (octets c)
-    (first .before .before .before .before .month-named .ensures .same)
-    (first .day-in .ensures .same)
+    (first .before .before .month-named .ensures .same)
+    (first .first-day .ensures .same)
     (less .less-one .ensures ∙ ap (λ (n : ℕ). n - 1) (less .before .of-bcd .ensures .same))
     (c .before .before .before .before .second-of .ensures .same)
     (c .zone-of .ensures)
@@ -109,8 +106,8 @@ true-not-false e = subst T e tt
 
 returns-3 : tie.Need-returns-3
 returns-3 c =
-    let z = c .before .before .before .before in
-    read-out (octets z) (said z) (c .before .before .octets-by .ensures) (not-true _ (c .if3 .taken))
+    let z = c .before .before .before in
+    read-out (octets z) (said z) (c .before .before .stamp-octets .ensures) (not-true _ (c .if3 .taken))
 
 slice-aggregate-same : tie.Need-slice-aggregate-same
 slice-aggregate-same c = search needs
@@ -120,13 +117,13 @@ same-requires c κs = search needs
 
 returns-4 : tie.Need-returns-4
 returns-4 c =
-    let z = c .before .before .before .before .before .before .before .before in
-    read-there (octets z) (said z) (c .before .before .before .before .before .before .octets-by .ensures) (not-false _ (c .before .before .before .before .if3 .left)) (c .before .same .ensures .0 (c .if4 .taken))
+    let z = c .before .before .before .before .before .before .before in
+    read-there (octets z) (said z) (c .before .before .before .before .before .before .stamp-octets .ensures) (not-false _ (c .before .before .before .before .if3 .left)) (c .before .same .ensures .0 (c .if4 .taken))
 
 returns-5 : tie.Need-returns-5
 returns-5 c =
-    let z = c .before .before .before .before .before .before .before .before in
-    read-differs (octets z) (said z) (c .before .before .before .before .before .before .octets-by .ensures) (not-false _ (c .before .before .before .before .if3 .left))
+    let z = c .before .before .before .before .before .before .before in
+    read-differs (octets z) (said z) (c .before .before .before .before .before .before .stamp-octets .ensures) (not-false _ (c .before .before .before .before .if3 .left))
     (λ q. true-not-false (sym (c .before .same .ensures .1 q) ∙ c .if4 .left))
 
 pub stamp-of-spec : {M : Type 1} → statement M
@@ -138,23 +135,22 @@ stamp-of-spec =
     shared-slice-read-month-named-2
     month-named-requires
     returns-2
-    first-days-requires
-    day-in-requires
+    first-day-requires
     shared-slice-read-of-bcd
     of-bcd-requires
     less-one-requires
     add-day
-    mul-t15
+    mul-t13
     shared-slice-read-second-of
     shared-slice-read-second-of-2
     shared-slice-read-second-of-3
     second-of-requires
-    add-t18
+    add-t15
     shared-slice-read-zone-of
     shared-slice-read-zone-of-2
     shared-slice-read-zone-of-3
     zone-of-requires
-    octets-by-requires
+    stamp-octets-requires
     returns-3
     slice-aggregate-same
     same-requires

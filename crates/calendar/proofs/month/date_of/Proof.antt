@@ -1,26 +1,40 @@
 -- `calendar::month::date_of` meets its contract: what is left of a day in its month is its place there. Assumes nothing.
+use mathlib.Core.Path.{_≡_, ap, _∙_}
+use Prim.Native.Nat.{_+_, _*_, _/_}
 use native.Mathlib.Omega.{arith}
-use mathlib.Core.Path.{ap}
 use borrow.Author.Needs.{needs}
 use Rattle.calendar.specs.Month.{firstDay}
 use Rattle.calendar.proofs.Months.{lies, dated}
 use Rattle.calendar.proofs.month.date_of.Statement.{statement}
 use Rattle.calendar.proofs.month.date_of.Tie as tie
 
-month-of-requires : tie.Need-month-of-requires
-month-of-requires c κs = search needs
+years-requires : tie.Need-years-requires
+years-requires c κs = search needs
+
+place-of-requires : tie.Need-place-of-requires
+place-of-requires c κs = search needs
+
+mul-t7 : tie.Need-mul-t7
+mul-t7 c = search needs
+
+add-t8 : tie.Need-add-t8
+add-t8 c = search needs
 
 day-in-requires : tie.Need-day-in-requires
-day-in-requires c κs = (c .before .pre .0, omega (arith, lies (c .before .args .day) (search needs)))
+day-in-requires c κs = search needs
 
-sub-t5 : tie.Need-sub-t5
-sub-t5 c =
-    let l = lies (c .before .before .args .day) (search needs) in
-    let e = ap firstDay (c .before .month-of .ensures) in
+-- what the row has at the place is where the month begins
+begins : (c : tie.After-day-in) → c .day-in .result ≡ firstDay (c .before .before .before .before .before .args .day / 1461 * 48 + c .before .before .place-of .result)
+begins c = c .day-in .ensures ∙ c .before .before .before .before .years .ensures .begins _ (c .before .before .place-of .ensures .known)
+
+sub-t11 : tie.Need-sub-t11
+sub-t11 c =
+    let l = lies (c .before .before .before .before .before .args .day) (search needs) in
+    let e = begins c ∙ ap firstDay (c .before .before .place-of .ensures .month) in
     omega arith
 
 returns : tie.Need-returns
-returns c = dated (c .before .before .args .day) _ _ (search needs) (c .before .month-of .ensures) (c .day-in .ensures .same)
+returns c = dated (c .before .before .before .before .before .args .day) _ _ (search needs) (c .before .before .place-of .ensures .month) (begins c)
 
 pub date-of-spec : {M : Type 1} → statement M
-date-of-spec = tie.close (tie.spec month-of-requires day-in-requires sub-t5 returns)
+date-of-spec = tie.close (tie.spec years-requires place-of-requires mul-t7 add-t8 day-in-requires sub-t11 returns)

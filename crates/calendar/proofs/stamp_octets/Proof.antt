@@ -1,4 +1,4 @@
--- `calendar::octets_by` meets its contract: past the first test the time is in range, so each number has two digits, and the nine
+-- `calendar::stamp_octets` meets its contract: past the first test the time is in range, so each number has two digits, and the nine
 -- octets are the definition's. Assumes nothing.
 use mathlib.Core.Path.{_≡_, sym, _∙_}
 use mathlib.Core.Bool.{true}
@@ -8,8 +8,8 @@ use borrow.Author.Tests.{not-true, not-false}
 use Rattle.format.proofs.Tests.{true-T}
 use Rattle.calendar.specs.Stamp.{stampOk}
 use Rattle.calendar.proofs.Stamps.{day-known, away-known, nine, stamped-yes, stamped-no}
-use Rattle.calendar.proofs.octets_by.Statement.{statement}
-use Rattle.calendar.proofs.octets_by.Tie as tie
+use Rattle.calendar.proofs.stamp_octets.Statement.{statement}
+use Rattle.calendar.proofs.stamp_octets.Tie as tie
 
 -- past the first test
 inside : (c : tie.Else1) → stampOk (c .before .before .args .t) ≡ true
@@ -22,7 +22,7 @@ returns : tie.Need-returns
 returns c = stamped-no (c .before .before .args .t) (sym (c .before .stamp-within .ensures) ∙ not-true _ (c .if1 .taken))
 
 date-of-requires : tie.Need-date-of-requires
-date-of-requires c κs = let e = c .before in (e .before .before .pre, day-known (e .before .before .args .t) (true-T _ (inside e)))
+date-of-requires c κs = let e = c .before in day-known (e .before .before .args .t) (true-T _ (inside e))
 
 away-of-requires : tie.Need-away-of-requires
 away-of-requires c κs = search needs
@@ -79,8 +79,8 @@ returns-2 c =
     (c .before .to-bcd7 .ensures)
     (c .to-bcd8 .ensures))
 
-pub octets-by-spec : {M : Type 1} → statement M
-octets-by-spec =
+pub stamp-octets-spec : {M : Type 1} → statement M
+stamp-octets-spec =
     tie.close
     (tie.spec
     stamp-within-requires
