@@ -1,32 +1,34 @@
 -- A profile and a container read field by field, and what is written put together. Assumes nothing.
 use mathlib.Core.Path.{_≡_, refl, sym, ap, subst, _∙_}
 use mathlib.Core.Bool.{Bool, true, false}
-use mathlib.Core.Option.{Option, none, some}
+use mathlib.Core.Option.{Option, none, some, Option·some-injective}
 use mathlib.Core.List.{List, [], _∷_}
 use Prim.Native.Nat.{ℕ, _-_, _≤_, _<_}
 use native.Mathlib.Omega.{arith}
 use lib.Dec.{T}
 use lib.ListN.{length, take, drop}
+use borrow.Author.Tests.{le-leb}
 use Rattle.format.specs.Maybe.{guard}
 use Rattle.format.specs.Format.{octet, mapped}
+use Rattle.format.proofs.Tests.{by, T-true, and-l}
 use Rattle.format.proofs.Maybe.{guard-yes}
 use Rattle.ber.specs.Int.{int, intEnc}
 use Rattle.ber.specs.Tlv.{tlvEnc, tlvForm}
-use Rattle.ber.specs.Field.{first}
-use Rattle.ber.specs.Read.{nowhere, Reads}
+use Rattle.ber.specs.Field.{first, new, newEnc}
+use Rattle.ber.specs.Read.{nowhere, stay, Reads}
 use Rattle.ber.specs.Write.{Puts}
 use Rattle.ber.proofs.Tlvs.{tlv-yes}
 use Rattle.ber.proofs.Places.{PartIs}
-use Rattle.ber.proofs.Readers.{part-length, Rest, got, first-leaves, rest-field, rest-mapped, rest-refined, end-yes, end-no}
-use Rattle.ber.proofs.Writers.{puts-is, puts-none, Wrote, wrote, wrote-then, wrote-none, filled}
+use Rattle.ber.proofs.Readers.{part-length, Rest, Leaves, got, reads-some, first-leaves, rest-field, rest-mapped, rest-refined, end-yes, end-no}
+use Rattle.ber.proofs.Writers.{puts-is, puts-none, puts-nothing, Wrote, wrote, wrote-then, wrote-none, filled}
 use Rattle.calendar.specs.declared.Stamp.{Stamp}
 use Rattle.calendar.specs.declared.StampRead.the-variants.{Time, NoTime}
 use Rattle.calendar.specs.Stamp.{stamp, stampRead, stampOk, stampEnc}
 use Rattle.container.specs.declared.Qos.{Qos}
 use Rattle.container.specs.declared.Container.{Container}
-use Rattle.container.specs.Qos.{qosOk, qos, noQos, QosLayout, toQos, ofQos}
-use Rattle.container.specs.Container.{containerOk, container, ContainerLayout, toContainer, ofContainer, noStamp}
-use Rattle.container.proofs.Goods.{qos-law, qos-good, container-law, container-good, within}
+use Rattle.container.specs.Qos.{qosOk, sameQos, qos, noQos, QosLayout, toQos, ofQos}
+use Rattle.container.specs.Container.{containerOk, isNew, told, isTold, formed, newForm, container, ContainerLayout, toContainer, ofContainer, noStamp}
+use Rattle.container.proofs.Goods.{qos-law, qos-good, told-none, told-some, container-law, container-good, within}
 
 -- ---- answers of readers
 
@@ -80,33 +82,49 @@ module _ {s : List ℕ} {a b c d e f g h i j : ℕ} (l : length s < nowhere)
     pub qos-there : qosOk profile ≡ true → Rest (qos .dec) s 0 (some profile)
     qos-there t = record { is = fields .is ∙ rw t }
 
--- ---- a container, of octets s that are all its contents
+-- ---- the QoS of a container after another one
 
-module _ {s : List ℕ} {a b c d e up down why : ℕ} {p : Qos} {t : Stamp} (l : length s < nowhere)
-    (r₁ : Reads noQos (first 0xA2 qos) s 0 p a) (r₂ : Reads 0 (first 0x83 int) s a up b) (r₃ : Reads 0 (first 0x84 int) s b down c)
+module _ (z : Container) {s : List ℕ} {v : Qos} {n : ℕ} where
+  pub qos-read : isNew z ≡ true → Reads noQos (first 0xA2 qos) s 0 v n → Reads noQos (new 0xA2 qos (told z)) s 0 v n
+  unfolding new
+  qos-read h r = rw (told-none z h) r
+
+  pub qos-told : isNew z ≡ false → v ≡ z .qos → n ≡ 0 → Reads noQos (new 0xA2 qos (told z)) s 0 v n
+  unfolding new
+  qos-told h e w = rw (told-some z h, e, w) (reads-some (omega arith) (omega arith) refl)
+
+new-leaves : (k : Option Qos) → Leaves (new 0xA2 qos k)
+unfolding new
+new-leaves none = first-leaves 0xA2 qos
+new-leaves (some q) = record { before = λ z p e. ([], ap {B = List ℕ} (λ v. v .1) (Option·some-injective (q, z) p e)) }
+
+-- ---- a container after z, of octets s that are all its contents
+
+module _ (z : Container) {s : List ℕ} {a b c d e up down why : ℕ} {p : Qos} {t : Stamp} (l : length s < nowhere)
+    (r₁ : Reads noQos (new 0xA2 qos (told z)) s 0 p a) (r₂ : Reads 0 (first 0x83 int) s a up b) (r₃ : Reads 0 (first 0x84 int) s b down c)
     (r₄ : Reads 0 (first 0x85 (octet (λ x. true))) s c why d) (r₅ : Reads noStamp (first 0x86 stamp) s d t e) where
   abbrev held : Container
   held = record { qos = p; uplink = up; downlink = down; condition = why; time = t }
 
-  pub container-cut : (e ≡ length s → ⊥) → Rest (container .dec) s 0 none
+  pub container-cut : (e ≡ length s → ⊥) → Rest (container z .dec) s 0 none
   unfolding container qos
   container-cut n =
-      rest-refined containerOk (mapped toContainer ofContainer (ContainerLayout .fmt)) (rest-mapped toContainer ofContainer (ContainerLayout .fmt)
-      (rest-field (got (first-leaves 0xA2 _) l r₁) (rest-field (got (first-leaves 0x83 _) l r₂) (rest-field (got (first-leaves 0x84 _) l r₃)
+      rest-refined containerOk (mapped toContainer ofContainer (ContainerLayout z .fmt)) (rest-mapped toContainer ofContainer (ContainerLayout z .fmt)
+      (rest-field (got (new-leaves (told z)) l r₁) (rest-field (got (first-leaves 0x83 _) l r₂) (rest-field (got (first-leaves 0x84 _) l r₃)
       (rest-field (got (first-leaves 0x85 _) l r₄) (rest-field (got (first-leaves 0x86 _) l r₅) (end-no s e n)))))))
 
   module _ (q : e ≡ length s) where
-    parts : Rest (container .dec) s 0 (guard (containerOk held) held)
+    parts : Rest (container z .dec) s 0 (guard (containerOk held) held)
     unfolding container qos
     parts =
-        rest-refined containerOk (mapped toContainer ofContainer (ContainerLayout .fmt)) (rest-mapped toContainer ofContainer (ContainerLayout .fmt)
-        (rest-field (got (first-leaves 0xA2 _) l r₁) (rest-field (got (first-leaves 0x83 _) l r₂) (rest-field (got (first-leaves 0x84 _) l r₃)
+        rest-refined containerOk (mapped toContainer ofContainer (ContainerLayout z .fmt)) (rest-mapped toContainer ofContainer (ContainerLayout z .fmt)
+        (rest-field (got (new-leaves (told z)) l r₁) (rest-field (got (first-leaves 0x83 _) l r₂) (rest-field (got (first-leaves 0x84 _) l r₃)
         (rest-field (got (first-leaves 0x85 _) l r₄) (rest-field (got (first-leaves 0x86 _) l r₅) (end-yes s e q)))))))
 
-    pub container-out : containerOk held ≡ false → Rest (container .dec) s 0 none
+    pub container-out : containerOk held ≡ false → Rest (container z .dec) s 0 none
     container-out k = record { is = parts .is ∙ rw k }
 
-    pub container-there : containerOk held ≡ true → Rest (container .dec) s 0 (some held)
+    pub container-there : containerOk held ≡ true → Rest (container z .dec) s 0 (some held)
     container-there k = record { is = parts .is ∙ rw k }
 
 -- ---- written
@@ -144,15 +162,59 @@ module _ (q : Qos) {b b₁ b₂ b₃ b₄ b₅ : List ℕ} {f g h i j : ℕ} (ro
       filled-of room (wrote-then (wrote refl p₁) (wrote-then (wrote refl p₂) (wrote-then (wrote refl p₃) (wrote-then (wrote refl p₄) (wrote-then (wrote refl p₅) wrote-none)))))
       (qos-law .fits q (qos-good q ok))
 
-module _ (c : Container) {b b₁ b₂ b₃ b₄ b₅ : List ℕ} {f g h i j : ℕ} (room : length b ≡ 53)
-    (p₁ : Puts (guard (qosOk (c .qos)) (tlvEnc 0xA2 (qos .enc (c .qos)))) b b₁ 0 f) (p₂ : Puts (some (tlvEnc 0x83 (intEnc 9 (c .uplink)))) b₁ b₂ f g)
+-- a QoS after z
+
+module _ (z c : Container) where
+  pub told-always : isNew z ≡ true → true ≡ isTold z c
+  unfolding isTold
+  told-always h = rw h
+
+  pub told-same : isNew z ≡ false → sameQos (z .qos) (c .qos) ≡ isTold z c
+  unfolding isTold
+  told-same h = rw h
+
+module _ (z : Container) (q : Qos) where
+  pub form-own : isNew z ≡ true → guard (qosOk q) (tlvEnc 0xA2 (qos .enc q)) ≡ newForm z q
+  unfolding newForm
+  form-own h = rw h
+
+  pub form-none : isNew z ≡ false → some [] ≡ newForm z q
+  unfolding newForm
+  form-none h = rw h
+
+-- no octets at the front
+pub nothing-front : {b : List ℕ} → Puts (some []) b b 0 0
+unfolding stay
+nothing-front {b} = subst (λ (n : ℕ). Puts (some []) b b 0 n) (rw (le-leb 0 (length b) (omega arith))) puts-nothing
+
+-- which containers have a form after z
+module _ (z c : Container) where
+  pub formed-yes : containerOk c ≡ true → isTold z c ≡ true → formed z c ≡ true
+  formed-yes h k = rw (h, k)
+
+  pub formed-bad : containerOk c ≡ false → formed z c ≡ false
+  formed-bad h = rw h
+
+  pub formed-untold : containerOk c ≡ true → isTold z c ≡ false → formed z c ≡ false
+  formed-untold h k = rw (h, k)
+
+-- what of it stands in front: its octets after z
+pub new-form : (z c : Container) → T (qosOk (c .qos)) → newForm z (c .qos) ≡ some (newEnc 0xA2 qos (told z) (c .qos))
+unfolding newForm
+new-form z c t =
+    by (isNew z)
+    (λ y. rw (y, told-none z y, T-true (qosOk (c .qos)) t))
+    (λ n. rw (n, told-some z n))
+
+module _ (z c : Container) {b b₁ b₂ b₃ b₄ b₅ : List ℕ} {f g h i j : ℕ} (room : length b ≡ 53)
+    (p₁ : Puts (newForm z (c .qos)) b b₁ 0 f) (p₂ : Puts (some (tlvEnc 0x83 (intEnc 9 (c .uplink)))) b₁ b₂ f g)
     (p₃ : Puts (some (tlvEnc 0x84 (intEnc 9 (c .downlink)))) b₂ b₃ g h) (p₄ : Puts (some (tlvEnc 0x85 (c .condition ∷ []))) b₃ b₄ h i)
-    (p₅ : Puts (guard (stampOk (c .time)) (tlvEnc 0x86 (stampEnc (c .time)))) b₄ b₅ i j) (ok : T (containerOk c)) where
-  pub container-filled : Filled (container .enc c) 53 b₅ j
+    (p₅ : Puts (guard (stampOk (c .time)) (tlvEnc 0x86 (stampEnc (c .time)))) b₄ b₅ i j) (ok : T (formed z c)) where
+  pub container-filled : Filled (container z .enc c) 53 b₅ j
   unfolding container qos
   container-filled =
-      let w = within c ok in
+      let w = within c (and-l (containerOk c) (isTold z c) ok) in
       filled-of room
-      (wrote-then (wrote (guard-yes (qosOk (c .qos)) _ (w .qos)) p₁) (wrote-then (wrote refl p₂) (wrote-then (wrote refl p₃) (wrote-then (wrote refl p₄)
+      (wrote-then (wrote (new-form z c (w .qos)) p₁) (wrote-then (wrote refl p₂) (wrote-then (wrote refl p₃) (wrote-then (wrote refl p₄)
       (wrote-then (wrote (guard-yes (stampOk (c .time)) _ (w .time)) p₅) wrote-none)))))
-      (container-law .fits c (container-good c ok))
+      (container-law z .fits c (container-good z c ok))

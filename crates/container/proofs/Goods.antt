@@ -1,23 +1,24 @@
 -- Which values have a form: those that the tests of specs/ take, and no others. The laws of the three formats, and how long their
 -- forms get. Assumes nothing.
-use mathlib.Core.Path.{_≡_, refl, subst}
-use mathlib.Core.Bool.{Bool, true, _&&_}
+use mathlib.Core.Path.{_≡_, refl, sym, subst}
+use mathlib.Core.Bool.{Bool, true, false, not, _&&_, Bool·beq}
+use mathlib.Core.Option.{none, some}
 use mathlib.Core.List.{List, [], _∷_}
 use Prim.Native.Nat.{ℕ, _^_, _≤_, _<_}
 use native.Mathlib.Omega.{arith}
 use lib.Dec.{T, leb, ltb, eqb, leb→le, ltb→lt, eqb→eq, eqb-refl}
 use lib.ListN.{length}
 use Rattle.format.specs.Format.{Law}
-use Rattle.format.proofs.Tests.{T-true, true-T, and-l, and-r, and-i}
-use Rattle.ber.specs.Field.{runGood}
+use Rattle.format.proofs.Tests.{by, T-true, true-T, and-l, and-r, and-i}
+use Rattle.ber.specs.Field.{newGood, runGood}
 use Rattle.ber.proofs.Ints.{int-good}
 use Rattle.calendar.specs.declared.Stamp.{Stamp}
 use Rattle.calendar.specs.Stamp.{stampOk}
 use Rattle.container.specs.declared.Qos.{Qos}
 use Rattle.container.specs.declared.Container.{Container}
 use Rattle.container.specs.Qos.{qosOk, sameQos, qos, QosCodec}
-use Rattle.container.specs.Container.{containerOk, container, ContainerCodec}
-use Rattle.container.specs.List.{eachOk, lastAlone, oneOffset, inOrder, qosRule, listOk, containers, ListCodec}
+use Rattle.container.specs.Container.{containerOk, isNew, told, isTold, formed, container, ContainerCodec, noContainer}
+use Rattle.container.specs.List.{eachOk, lastAlone, oneOffset, inOrder, changes, qosRule, listOk, containers, allFormed, ListCodec}
 
 -- five tests that all pass
 five : (a b c d e : Bool) → T (a && b && c && d && e) → T a × T b × T c × T d × T e
@@ -33,9 +34,9 @@ pub qos-law : Law qos
 unfolding qos
 qos-law = QosCodec .law
 
-pub container-law : Law container
+pub container-law : (b : Container) → Law (container b)
 unfolding container
-container-law = ContainerCodec .law
+container-law b = ContainerCodec b .law
 
 pub containers-law : Law containers
 unfolding containers
@@ -47,9 +48,9 @@ pub qos-most : qos .most ≡ 15
 unfolding qos
 qos-most = refl
 
-pub container-most : container .most ≡ 53
+pub container-most : (b : Container) → container b .most ≡ 53
 unfolding container
-container-most = refl
+container-most b = refl
 
 pub containers-most : containers .most ≡ 825
 unfolding containers
@@ -104,45 +105,96 @@ within c t =
     let (q, u, d, w, s) = five (qosOk (c .qos)) (ltb (c .uplink) (2 ^ 40)) (ltb (c .downlink) (2 ^ 40)) (leb (c .condition) 2) (stampOk (c .time)) t in
     record { qos = q; uplink = ltb→lt (c .uplink) (2 ^ 40) u; downlink = ltb→lt (c .downlink) (2 ^ 40) d; condition = w; time = s }
 
-pub container-good : (c : Container) → T (containerOk c) → container .good c
-unfolding container qos
-container-good c t =
-    let w = within c t in
-    ((qos-good (c .qos) (w .qos), (int-good (c .uplink) (omega (arith, w .uplink)), (int-good (c .downlink) (omega (arith, w .downlink)), (tt, (w .time, tt))))), t)
+-- after a container that tells no QoS, and after one that tells it
 
-pub good-container : (c : Container) → container .good c → T (containerOk c)
-unfolding container
-good-container c g = g .1
+pub told-none : (b : Container) → isNew b ≡ true → told b ≡ none
+unfolding told
+told-none b h = rw h
+
+pub told-some : (b : Container) → isNew b ≡ false → told b ≡ some (b .qos)
+unfolding told
+told-some b h = rw h
+
+new-good : (b c : Container) → T (qosOk (c .qos)) → T (isTold b c) → newGood 0xA2 qos (told b) (c .qos)
+unfolding isTold
+new-good b c q t =
+    by (isNew b)
+    (λ y. rw (told-none b y) (qos-good (c .qos) q))
+    (λ n. rw (told-some b n) (sym (same-qos (b .qos) (c .qos) (T-true _ (rw n at t)))))
+
+good-new : (b c : Container) → newGood 0xA2 qos (told b) (c .qos) → T (isTold b c)
+unfolding isTold
+good-new b c g =
+    by (isNew b)
+    (λ y. rw y tt)
+    (λ n. rw n (true-T _ (qos-same (b .qos) (c .qos) (sym (rw (told-some b n) at g)))))
+
+pub container-good : (b c : Container) → T (formed b c) → container b .good c
+unfolding container qos
+container-good b c t =
+    let k = and-l (containerOk c) (isTold b c) t in
+    let w = within c k in
+    ((new-good b c (w .qos) (and-r (containerOk c) (isTold b c) t), (int-good (c .uplink) (omega (arith, w .uplink)), (int-good (c .downlink) (omega (arith, w .downlink)), (tt, (w .time, tt))))), k)
+
+pub good-container : (b c : Container) → container b .good c → T (formed b c)
+unfolding container qos
+good-container b c g = and-i (containerOk c) (isTold b c) (g .1) (good-new b c (g .0 .0))
 
 -- ---- a list
 
-run-good : (cs : List Container) → T (eachOk cs) → runGood 0x30 container cs
-unfolding eachOk
-run-good [] t = tt
-run-good (c ∷ cs) t = (container-good c (and-l (containerOk c) (eachOk cs) t), run-good cs (and-r (containerOk c) (eachOk cs) t))
+run-good : (b : Container) (cs : List Container) → T (allFormed b cs) → runGood 0x30 container b cs
+unfolding allFormed
+run-good b [] t = tt
+run-good b (c ∷ cs) t = (container-good b c (and-l (formed b c) (allFormed c cs) t), run-good c cs (and-r (formed b c) (allFormed c cs) t))
 
-good-run : (cs : List Container) → runGood 0x30 container cs → T (eachOk cs)
-unfolding eachOk
-good-run [] g = tt
-good-run (c ∷ cs) g = and-i (containerOk c) (eachOk cs) (good-container c (g .0)) (good-run cs (g .1))
+good-run : (b : Container) (cs : List Container) → runGood 0x30 container b cs → T (allFormed b cs)
+unfolding allFormed
+good-run b [] g = tt
+good-run b (c ∷ cs) g = and-i (formed b c) (allFormed c cs) (good-container b c (g .0)) (good-run c cs (g .1))
 
-pub each-good : (cs : List Container) → T (eachOk cs) → 1 ≤ length cs → length cs ≤ 15 → containers .good cs
+pub each-good : (cs : List Container) → T (allFormed noContainer cs) → 1 ≤ length cs → length cs ≤ 15 → containers .good cs
 unfolding containers container
-each-good cs t l h = (run-good cs t, l, h)
+each-good cs t l h = (run-good noContainer cs t, l, h)
 
-pub good-each : (cs : List Container) → containers .good cs → T (eachOk cs) × (1 ≤ length cs) × (length cs ≤ 15)
+pub good-each : (cs : List Container) → containers .good cs → T (allFormed noContainer cs) × (1 ≤ length cs) × (length cs ≤ 15)
 unfolding containers container
-good-each cs g = (good-run cs (g .0), g .1, g .2)
+good-each cs g = (good-run noContainer cs (g .0), g .1, g .2)
+
+-- The rules between containers tell each QoS: after a QoS change it is there, and else it is the same.
+module _ (b : Container) where
+  changes-told : (c : Container) → T (changes b (c .qos)) → T (isTold b c)
+  unfolding isTold isNew
+  changes-told c t = by (isNew b) (λ y. rw y tt) (λ n. rw n (true-T _ (alike (sameQos (b .qos) (c .qos)) (rw n at t))))
+    where
+      alike : (x : Bool) → T (Bool·beq (not x) false) → x ≡ true
+      alike true t = refl
+      alike false t = absurd t
+
+rule-formed : (b : Container) (cs : List Container) → T (eachOk cs) → T (qosRule (b ∷ cs)) → T (allFormed b cs)
+unfolding allFormed eachOk qosRule
+rule-formed b [] t r = tt
+rule-formed b (c ∷ cs) t r =
+    and-i (formed b c) (allFormed c cs)
+    (and-i (containerOk c) (isTold b c) (and-l (containerOk c) (eachOk cs) t) (changes-told b c (and-l (changes b (c .qos)) (qosRule (c ∷ cs)) r)))
+    (rule-formed c cs (and-r (containerOk c) (eachOk cs) t) (and-r (changes b (c .qos)) (qosRule (c ∷ cs)) r))
+
+-- so a list that keeps them has a form
+pub first-formed : (cs : List Container) → T (eachOk cs) → T (qosRule cs) → T (allFormed noContainer cs)
+unfolding allFormed eachOk isTold isNew
+first-formed [] t r = tt
+first-formed (c ∷ cs) t r =
+    and-i (formed noContainer c) (allFormed c cs) (and-i (containerOk c) true (and-l (containerOk c) (eachOk cs) t) tt) (rule-formed c cs (and-r (containerOk c) (eachOk cs) t) r)
 
 -- what keeps the rules has a form
 pub list-good : (opening : Stamp) (cs : List Container) → T (listOk opening cs) → containers .good cs
 unfolding listOk
 list-good opening cs t =
     let n = leb 1 (length cs) && leb (length cs) 15 in
-    let a = and-l (n && eachOk cs && lastAlone cs && oneOffset (opening .zone) cs && inOrder (opening .seconds) cs) (qosRule cs) t in
+    let q = n && eachOk cs && lastAlone cs && oneOffset (opening .zone) cs && inOrder (opening .seconds) cs in
+    let a = and-l q (qosRule cs) t in
     let b = and-l (n && eachOk cs && lastAlone cs && oneOffset (opening .zone) cs) (inOrder (opening .seconds) cs) a in
     let c = and-l (n && eachOk cs && lastAlone cs) (oneOffset (opening .zone) cs) b in
     let d = and-l (n && eachOk cs) (lastAlone cs) c in
     let m = and-l n (eachOk cs) d in
-    each-good cs (and-r n (eachOk cs) d)
+    each-good cs (first-formed cs (and-r n (eachOk cs) d) (and-r q (qosRule cs) t))
     (leb→le 1 (length cs) (and-l (leb 1 (length cs)) (leb (length cs) 15) m)) (leb→le (length cs) 15 (and-r (leb 1 (length cs)) (leb (length cs) 15) m))

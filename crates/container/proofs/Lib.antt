@@ -3,3 +3,4 @@ pub mod Fields
 pub mod Lists
 pub mod Turns
 pub mod Opens
+pub mod Printed

@@ -9,7 +9,7 @@ use native.Mathlib.Nat.{le-of-suc-le-suc, not-suc-le-zero}
 use native.Mathlib.Omega.{arith}
 use lib.Dec.{T, leb}
 use lib.ListN.{length, take, drop, getD, set, length-set, take-append-drop}
-use lib.Seq.{take-suc, take-suc-set, getD-take, length-take-le, drop-set-lt, drop-drop, take-at, drop-at}
+use lib.Seq.{take-suc, take-suc-set, take-take, getD-take, length-take-le, drop-set-lt, drop-drop, take-at, drop-at}
 use borrow.Author.Tests.{le-leb, lt-leb}
 use borrow.Rule.Slice.PartMut.{midOf, putMid}
 use Rattle.format.specs.Maybe.{bind, guard}
@@ -23,54 +23,54 @@ use Rattle.ber.proofs.Tlvs.{tlv-fits}
 use Rattle.ber.proofs.Readers.{Got, Rest, rest-whole, run-end, run-past, run-full, run-more}
 use Rattle.ber.proofs.Writers.{Put, put-then, put-is, put-part, part-room, puts-is, puts-room, wrote-none}
 use Rattle.container.specs.declared.Container.{Container}
-use Rattle.container.specs.Container.{containerOk, container}
-use Rattle.container.specs.List.{eachOk, containers, noContainers, listed, Listed}
+use Rattle.container.specs.Container.{formed, container, noContainer}
+use Rattle.container.specs.List.{allFormed, containers, noContainers, listed, Listed}
 use Rattle.container.proofs.Goods.{container-law, container-good, container-most, containers-law, containers-most, each-good}
 use Rattle.container.proofs.Fields.{Filled}
 
 -- ---- reading
 
 module _ (s : List ℕ) where
-  -- n were read into v, up to a place: what stands there, after them, is what stands at the front; the rest of v is blank
-  pub record SoFar (v : List Container) (n at : ℕ) : Type 0 where
+  -- n were read into v, up to a place, z the last of them: what stands there, after z, is what stands at the front; the rest of v is blank
+  pub record SoFar (v : List Container) (n at : ℕ) (z : Container) : Type 0 where
     pub most : n ≤ 15
     pub size : length v ≡ 15
     pub blank : drop n v ≡ noContainers (15 - n)
-    pub rest : (o : Option (List Container)) → Rest (runDec 0x30 container (15 - n)) s at o → Rest (runDec 0x30 container 15) s 0 (bind o (λ vs. some (take n v ++ vs)))
+    pub rest : (o : Option (List Container)) → Rest (runDec 0x30 container z (15 - n)) s at o → Rest (runDec 0x30 container noContainer 15) s 0 (bind o (λ vs. some (take n v ++ vs)))
 
   bind-id : (o : Option (List Container)) → bind o (λ vs. some vs) ≡ o
   bind-id none = refl
   bind-id (some vs) = refl
 
-  pub sofar-none : (v : List Container) → length v ≡ 15 → v ≡ noContainers 15 → SoFar v 0 0
-  sofar-none v l e = record { most = omega arith; size = l; blank = e; rest = λ o r. rw (bind-id o) r }
+  pub sofar-none : (v : List Container) (z : Container) → length v ≡ 15 → v ≡ noContainers 15 → z ≡ noContainer → SoFar v 0 0 z
+  sofar-none v z l e w = record { most = omega arith; size = l; blank = e; rest = λ o r. rw (bind-id o) (rw w at r) }
 
   one-less : (k : ℕ) → drop 1 (noContainers (suc k)) ≡ noContainers k
   unfolding noContainers
   one-less k = refl
 
-  pub sofar-more : {v : List Container} {n at m : ℕ} {c : Container} → SoFar v n at → at < length s → n < 15 → Got (first 0x30 container) s at c m → SoFar (set v n c) (n + 1) m
-  sofar-more {v} {n} {at} {m} {c} f h k g =
+  pub sofar-more : {v : List Container} {n at m : ℕ} {z c : Container} → SoFar v n at z → at < length s → n < 15 → Got (first 0x30 (container z)) s at c m → SoFar (set v n c) (n + 1) m c
+  sofar-more {v} {n} {at} {m} {z} {c} f h k g =
       let e : suc (15 - (n + 1)) ≡ 15 - n = omega arith in
       record {
         most = omega arith;
         size = length-set v n c ∙ f .size;
         blank = drop-set-lt (n + 1) v n c (omega arith) ∙ sym (drop-drop 1 n v) ∙ ap (drop 1) (f .blank ∙ ap noContainers (sym e)) ∙ one-less (15 - (n + 1));
         rest = λ o r.
-            let q = subst (λ (j : ℕ). Rest (runDec 0x30 container j) s at (bind o (λ vs. some (c ∷ vs)))) e (run-more 0x30 container s (15 - (n + 1)) at h g r) in
+            let q = subst (λ (j : ℕ). Rest (runDec 0x30 container z j) s at (bind o (λ vs. some (c ∷ vs)))) e (run-more 0x30 container s z (15 - (n + 1)) at h g r) in
             let w : take (n + 1) (set v n c) ≡ take n v ++ (c ∷ []) = rw (add-one, take-suc-set v n c (omega (arith, f .size))) in
-            subst (λ (z : Option (List Container)). Rest (runDec 0x30 container 15) s 0 z)
+            subst (λ (y : Option (List Container)). Rest (runDec 0x30 container noContainer 15) s 0 y)
             (bind-bind o (λ vs. some (c ∷ vs)) (λ vs. some (take n v ++ vs))
             ∙ bind-same o _ (λ vs. some (take (n + 1) (set v n c) ++ vs))
             (λ vs. ap {B = Option (List Container)} some (sym (append-assoc (take n v) (c ∷ []) vs) ∙ ap (λ (z : List Container). z ++ vs) (sym w))))
             (f .rest (bind o (λ vs. some (c ∷ vs))) q);
       }
 
-  module _ {v : List Container} {n at : ℕ} (f : SoFar v n at) where
+  module _ {v : List Container} {n at : ℕ} {z : Container} (f : SoFar v n at z) where
     -- all of s was read
-    whole : at ≡ length s → runDec 0x30 container 15 s ≡ some (take n v)
+    whole : at ≡ length s → runDec 0x30 container noContainer 15 s ≡ some (take n v)
     whole e =
-        rest-whole (subst (λ (z : List Container). Rest (runDec 0x30 container 15) s 0 (some z)) (append-nil (take n v)) (f .rest (some []) (run-end 0x30 container s (15 - n) at e)))
+        rest-whole (subst (λ (y : List Container). Rest (runDec 0x30 container noContainer 15) s 0 (some y)) (append-nil (take n v)) (f .rest (some []) (run-end 0x30 container s z (15 - n) at e)))
 
     count : length (take n v) ≡ n
     count = length-take-le n v (omega (arith, f .most, f .size))
@@ -78,14 +78,14 @@ module _ (s : List ℕ) where
     -- a container was not there
     pub list-cut : length s < at → containers .dec s ≡ none
     unfolding containers container
-    list-cut h = rw (rest-whole (f .rest none (run-past 0x30 container s (15 - n) at h)))
+    list-cut h = rw (rest-whole (f .rest none (run-past 0x30 container s z (15 - n) at h)))
 
     -- 15 are, and more octets
     pub list-long : at < length s → 15 ≤ n → containers .dec s ≡ none
     unfolding containers container
     list-long h k =
-        let z : 0 ≡ 15 - n = omega (arith, f .most) in
-        rw (rest-whole (f .rest none (subst (λ (j : ℕ). Rest (runDec 0x30 container j) s at none) z (run-full 0x30 container s at h))))
+        let w : 0 ≡ 15 - n = omega (arith, f .most) in
+        rw (rest-whole (f .rest none (subst (λ (j : ℕ). Rest (runDec 0x30 container z j) s at none) w (run-full 0x30 container s z at h))))
 
     -- none is too few
     pub list-empty : at ≡ length s → n < 1 → containers .dec s ≡ none
@@ -130,29 +130,39 @@ listed-rest {o} {ok} {n} {v} r =
 
 -- ---- writing
 
-run-append : (a b : List Container) → runEnc 0x30 container (a ++ b) ≡ runEnc 0x30 container a ++ runEnc 0x30 container b
-run-append [] b = refl
-run-append (c ∷ a) b =
-    ap (λ (l : List ℕ). tlvEnc 0x30 (container .enc c) ++ l) (run-append a b)
-    ∙ sym (append-assoc (tlvEnc 0x30 (container .enc c)) (runEnc 0x30 container a) (runEnc 0x30 container b))
+-- the last of a list, and z where there is none
+abbrev pub lastOf : Container → List Container → Container
+lastOf z [] = z
+lastOf z (c ∷ cs) = lastOf c cs
 
-each-snoc : (cs : List Container) (c : Container) → T (eachOk cs) → T (containerOk c) → T (eachOk (cs ++ c ∷ []))
-unfolding eachOk
-each-snoc [] c t u = and-i (containerOk c) true u tt
-each-snoc (d ∷ cs) c t u =
-    and-i (containerOk d) (eachOk (cs ++ c ∷ [])) (and-l (containerOk d) (eachOk cs) t) (each-snoc cs c (and-r (containerOk d) (eachOk cs) t) u)
+run-append : (z : Container) (a b : List Container) → runEnc 0x30 container z (a ++ b) ≡ runEnc 0x30 container z a ++ runEnc 0x30 container (lastOf z a) b
+run-append z [] b = refl
+run-append z (c ∷ a) b =
+    ap (λ (l : List ℕ). tlvEnc 0x30 (container z .enc c) ++ l) (run-append c a b)
+    ∙ sym (append-assoc (tlvEnc 0x30 (container z .enc c)) (runEnc 0x30 container c a) (runEnc 0x30 container (lastOf c a) b))
 
-pub each-at : (cs : List Container) (i : ℕ) (d : Container) → T (eachOk cs) → i < length cs → T (containerOk (getD cs i d))
-unfolding eachOk
-each-at [] i d t h = absurd (not-suc-le-zero h)
-each-at (c ∷ cs) zero d t h = and-l (containerOk c) (eachOk cs) t
-each-at (c ∷ cs) (suc i) d t h = each-at cs i d (and-r (containerOk c) (eachOk cs) t) (le-of-suc-le-suc h)
+last-snoc : (z : Container) (a : List Container) (c : Container) → lastOf z (a ++ c ∷ []) ≡ c
+last-snoc z [] c = refl
+last-snoc z (d ∷ a) c = last-snoc d a c
+
+formed-snoc : (z : Container) (cs : List Container) (c : Container) → T (allFormed z cs) → T (formed (lastOf z cs) c) → T (allFormed z (cs ++ c ∷ []))
+unfolding allFormed
+formed-snoc z [] c t u = and-i (formed z c) true u tt
+formed-snoc z (d ∷ cs) c t u =
+    and-i (formed z d) (allFormed d (cs ++ c ∷ [])) (and-l (formed z d) (allFormed d cs) t) (formed-snoc d cs c (and-r (formed z d) (allFormed d cs) t) u)
+
+-- each has a form after those before it
+formed-at : (z : Container) (cs : List Container) (i : ℕ) (d : Container) → T (allFormed z cs) → i < length cs → T (formed (lastOf z (take i cs)) (getD cs i d))
+unfolding allFormed
+formed-at z [] i d t h = absurd (not-suc-le-zero h)
+formed-at z (c ∷ cs) zero d t h = and-l (formed z c) (allFormed c cs) t
+formed-at z (c ∷ cs) (suc i) d t h = formed-at c cs i d (and-r (formed z c) (allFormed c cs) t) (le-of-suc-le-suc h)
 
 -- a container with tag and length takes 55 octets at most
-pub container-fits : (c : Container) → T (containerOk c) → length (tlvEnc 0x30 (container .enc c)) ≤ 55
-container-fits c t =
-    let h = container-law .fits c (container-good c t) in
-    tlv-fits 0x30 (container .enc c) 53 (omega (arith, container-most))
+container-fits : (z c : Container) → T (formed z c) → length (tlvEnc 0x30 (container z .enc c)) ≤ 55
+container-fits z c t =
+    let h = container-law z .fits c (container-good z c t) in
+    tlv-fits 0x30 (container z .enc c) 53 (omega (arith, container-most z))
 
 -- A writer of x, where a test passes, that was lent the part of b from a on.
 module _ (t : Bool) (x b : List ℕ) (a m : ℕ) {ys : List ℕ} {k : ℕ} (e : length b ≡ m) (p : Puts (guard t x) (midOf a (m - a) b) ys 0 k) where
@@ -171,70 +181,75 @@ module _ (t : Bool) (x b : List ℕ) (a m : ℕ) {ys : List ℕ} {k : ℕ} (e : 
   pub part-not : (t ≡ true → a + length x ≤ m) → m < nowhere → k ≡ nowhere → t ≡ false
   part-not r n h = by t (λ y. absurd (omega (arith, part-put y (r y) .end, r y))) (λ y. y)
 
--- the first i containers of v are as they must be, and stand at the front of an array that was z
-pub record Filling (v : List Container) (i : ℕ) (z b : List ℕ) (end : ℕ) : Type 0 where
-  pub good : T (eachOk (take i v))
+-- the first i containers of v have their forms, which stand at the front of an array that was y; z is the last of them
+pub record Filling (v : List Container) (i : ℕ) (y b : List ℕ) (end : ℕ) (z : Container) : Type 0 where
+  pub good : T (allFormed noContainer (take i v))
+  pub last : z ≡ lastOf noContainer (take i v)
   pub room : length b ≡ 825
   pub short : end ≤ 55 * i
-  pub front : Put (runEnc 0x30 container (take i v)) z b 0 end
+  pub front : Put (runEnc 0x30 container noContainer (take i v)) y b 0 end
 
-pub filling-none : (v : List Container) (z : List ℕ) → length z ≡ 825 → Filling v 0 z z 0
-unfolding eachOk
-filling-none v z e = record { good = tt; room = e; short = omega arith; front = wrote-none .room (omega arith) }
+pub filling-none : (v : List Container) (y : List ℕ) (z : Container) → length y ≡ 825 → z ≡ noContainer → Filling v 0 y y 0 z
+unfolding allFormed
+filling-none v y z e w = record { good = tt; last = w; room = e; short = omega arith; front = wrote-none .room (omega arith) }
 
-module _ {v : List Container} {i : ℕ} {z b ys : List ℕ} {end k : ℕ} (f : Filling v i z b end) (d : Container) (h : i < length v) (h′ : i < 15)
-    (p : Puts (guard (containerOk (getD v i d)) (tlvEnc 0x30 (container .enc (getD v i d)))) (midOf end (825 - end) b) ys 0 k) where
+module _ {v : List Container} {i : ℕ} {y b ys : List ℕ} {end k : ℕ} {z : Container} (f : Filling v i y b end z) (d : Container) (h : i < length v) (h′ : i < 15)
+    (p : Puts (guard (formed z (getD v i d)) (tlvEnc 0x30 (container z .enc (getD v i d)))) (midOf end (825 - end) b) ys 0 k) where
   abbrev next : List ℕ
-  next = tlvEnc 0x30 (container .enc (getD v i d))
+  next = tlvEnc 0x30 (container z .enc (getD v i d))
 
-  fits : containerOk (getD v i d) ≡ true → end + length next ≤ 825
-  fits y = omega (arith, container-fits (getD v i d) (true-T _ y), f .short)
+  fits : formed z (getD v i d) ≡ true → end + length next ≤ 825
+  fits o = omega (arith, container-fits z (getD v i d) (true-T _ o), f .short)
 
   -- one more
   module _ (n : k ≡ nowhere → ⊥) where
-    ok : containerOk (getD v i d) ≡ true
-    ok = part-yes (containerOk (getD v i d)) next b end 825 (f .room) p n
+    ok : formed z (getD v i d) ≡ true
+    ok = part-yes (formed z (getD v i d)) next b end 825 (f .room) p n
 
     put-next : Put next b (putMid end (825 - end) b ys) end (end + k)
-    put-next = part-put (containerOk (getD v i d)) next b end 825 (f .room) p ok (fits ok)
+    put-next = part-put (formed z (getD v i d)) next b end 825 (f .room) p ok (fits ok)
 
     pub filling-room : end + k ≤ 825
     filling-room = omega (arith, put-next .fits, f .room)
 
-    pub filling-more : Filling v (i + 1) z (putMid end (825 - end) b ys) (end + k)
+    pub filling-more : Filling v (i + 1) y (putMid end (825 - end) b ys) (end + k) (getD v i d)
     filling-more =
         let q = put-next in
         let w : take (i + 1) v ≡ take i v ++ (getD v i d ∷ []) = rw (add-one, take-suc v i d h) in
-        let x : runEnc 0x30 container (take (i + 1) v) ≡ runEnc 0x30 container (take i v) ++ next =
-        ap (runEnc 0x30 container) w ∙ run-append (take i v) (getD v i d ∷ []) ∙ ap (λ (l : List ℕ). runEnc 0x30 container (take i v) ++ l) (append-nil next) in
+        let x : runEnc 0x30 container noContainer (take (i + 1) v) ≡ runEnc 0x30 container noContainer (take i v) ++ next =
+        ap (runEnc 0x30 container noContainer) w ∙ run-append noContainer (take i v) (getD v i d ∷ [])
+        ∙ ap (λ (l : List ℕ). runEnc 0x30 container noContainer (take i v) ++ l) (append-nil _ ∙ ap (λ (z : Container). tlvEnc 0x30 (container z .enc (getD v i d))) (sym (f .last))) in
         record {
-          good = rw w (each-snoc (take i v) (getD v i d) (f .good) (true-T _ ok));
+          good = rw w (formed-snoc noContainer (take i v) (getD v i d) (f .good) (subst (λ (z : Container). T (formed z (getD v i d))) (f .last) (true-T _ ok)));
+          last = rw w (sym (last-snoc noContainer (take i v) (getD v i d)));
           room = q .same ∙ f .room;
-          short = omega (arith, q .end, container-fits (getD v i d) (true-T _ ok), f .short);
+          short = omega (arith, q .end, container-fits z (getD v i d) (true-T _ ok), f .short);
           front = put-is (sym x) (put-then (f .front) q);
         }
 
-  -- one is not as it must be, so that the first n are not
-  pub filling-bad : (n : ℕ) → i < n → n ≤ length v → k ≡ nowhere → eachOk (take n v) ≡ false
+  -- one has no form, so that the first n have none
+  pub filling-bad : (n : ℕ) → i < n → n ≤ length v → k ≡ nowhere → allFormed noContainer (take n v) ≡ false
   filling-bad n l m q =
-      let o = part-not (containerOk (getD v i d)) next b end 825 (f .room) p fits (omega arith) q in
-      by (eachOk (take n v))
-      (λ y. absurd (subst T (ap containerOk (getD-take n v i d l) ∙ o) (each-at (take n v) i d (true-T _ y) (omega (arith, length-take-le n v m)))))
-      (λ y. y)
+      let o = part-not (formed z (getD v i d)) next b end 825 (f .room) p fits (omega arith) q in
+      by (allFormed noContainer (take n v))
+      (λ a. absurd (subst T
+      (ap (λ (cs : List Container). formed (lastOf noContainer cs) (getD (take n v) i d)) (take-take i n v (omega arith)) ∙ ap (λ (z : Container). formed z (getD (take n v) i d)) (sym (f .last)) ∙ ap (formed z) (getD-take n v i d l) ∙ o)
+      (formed-at noContainer (take n v) i d (true-T _ a) (omega (arith, length-take-le n v m)))))
+      (λ a. a)
 
 -- all n are there
-module _ {v : List Container} {i : ℕ} {z b : List ℕ} {end : ℕ} (f : Filling v i z b end) (n : ℕ) (e : i ≡ n) where
-  pub filling-ok : eachOk (take n v) ≡ true
-  filling-ok = rw e at (T-true (eachOk (take i v)) (f .good))
+module _ {v : List Container} {i : ℕ} {y b : List ℕ} {end : ℕ} {z : Container} (f : Filling v i y b end z) (n : ℕ) (e : i ≡ n) where
+  pub filling-ok : allFormed noContainer (take n v) ≡ true
+  filling-ok = rw e at (T-true (allFormed noContainer (take i v)) (f .good))
 
   pub filling-all : 1 ≤ n → n ≤ 15 → n ≤ length v → Filled (containers .enc (take n v)) 825 b end
   unfolding containers container
   filling-all l h r =
       let c = length-take-le n v r in
-      let p : Put (runEnc 0x30 container (take n v)) z b 0 end = rw e at (f .front) in
+      let p : Put (runEnc 0x30 container noContainer (take n v)) y b 0 end = rw e at (f .front) in
       let m = containers-law .fits (take n v) (each-good (take n v) (true-T _ filling-ok) (omega arith) (omega arith)) in
       record {
-        front = ap (take end) (p .buf) ∙ take-at (runEnc 0x30 container (take n v)) (drop end z) end (omega (arith, p .end));
+        front = ap (take end) (p .buf) ∙ take-at (runEnc 0x30 container noContainer (take n v)) (drop end y) end (omega (arith, p .end));
         size = omega (arith, p .end);
         most = omega (arith, containers-most);
         inside = omega (arith, p .fits, p .same);

@@ -1,16 +1,21 @@
--- A container (12.15's ChangeOfCharCondition): values and octets. Every container carries its QoS. Assumes nothing.
+-- A container (12.15's ChangeOfCharCondition): values and octets. Its QoS is among the octets where it is new: in the first container of a
+-- record, and after one that a QoS change ended (02, W1; source document 003). Assumes nothing.
 use mathlib.Core.Path.{refl}
-use mathlib.Core.Bool.{Bool, _&&_}
+use mathlib.Core.Bool.{Bool, cond, _&&_, _||_}
+use mathlib.Core.Option.{Option, none, some}
+use mathlib.Core.List.{List, []}
 use Prim.Native.Nat.{ℕ, _^_}
-use lib.Dec.{leb, ltb}
+use lib.Dec.{leb, ltb, eqb}
+use Rattle.format.specs.Maybe.{guard}
 use Rattle.format.specs.Format.{Fmt}
-use Rattle.ber.proofs.Codec.{Codec, Octet, Int, End, Field, As, Where}
+use Rattle.ber.specs.Tlv.{tlvEnc}
+use Rattle.ber.proofs.Codec.{Codec, Octet, Int, End, Field, UnlessKnown, As, Where}
 use Rattle.calendar.specs.declared.Stamp.{Stamp}
 use Rattle.calendar.specs.Stamp.{stamp, stampOk}
 use Rattle.calendar.proofs.Stamps.{stamp-law}
 use Rattle.container.specs.declared.Qos.{Qos}
 use Rattle.container.specs.declared.Container.{Container}
-use Rattle.container.specs.Qos.{qosOk, qos, QosCodec, noQos}
+use Rattle.container.specs.Qos.{qosOk, sameQos, qos, QosCodec, noQos}
 
 -- each value by itself: the QoS in its ranges, volumes below 2^40, condition 0, 1 or 2, a time of 2000 to 2099 with its offset
 unfoldable pub containerOk : Container → Bool
@@ -22,24 +27,48 @@ containerOk c =
 abbrev pub Time : Codec Stamp
 Time = record { fmt = stamp; law = stamp-law }
 
-abbrev pub ContainerFields : Type 0
-ContainerFields = Qos × (ℕ × (ℕ × (ℕ × (Stamp × Unit {0}))))
+abbrev pub CountFields : Type 0
+CountFields = ℕ × (ℕ × (ℕ × (Stamp × Unit {0})))
 
-abbrev pub ContainerLayout : Codec ContainerFields
-ContainerLayout = Field 0xA2 QosCodec tt (Field 0x83 Int tt (Field 0x84 Int tt (Field 0x85 Octet tt (Field 0x86 Time tt End))))
+abbrev pub CountLayout : Codec CountFields
+CountLayout = Field 0x83 Int tt (Field 0x84 Int tt (Field 0x85 Octet tt (Field 0x86 Time tt End)))
 
-abbrev pub toContainer : ContainerFields → Container
+-- the QoS after b is new where a QoS change ended b (condition 0)
+unfoldable pub isNew : Container → Bool
+isNew b = eqb (b .condition) 0
+
+-- what b tells of the QoS after it: nothing where that is new; else it is the same still
+unfoldable pub told : Container → Option Qos
+told b = cond (isNew b) none (some (b .qos))
+
+-- so A2 is there exactly where the QoS is not told
+abbrev pub ContainerLayout : Container → Codec (Qos × CountFields)
+ContainerLayout b = UnlessKnown 0xA2 QosCodec tt CountLayout (told b)
+
+abbrev pub toContainer : Qos × CountFields → Container
 toContainer w = record { qos = w .0; uplink = w .1 .0; downlink = w .1 .1 .0; condition = w .1 .1 .1 .0; time = w .1 .1 .1 .1 .0 }
 
-abbrev pub ofContainer : Container → ContainerFields
+abbrev pub ofContainer : Container → Qos × CountFields
 ofContainer c = (c .qos, (c .uplink, (c .downlink, (c .condition, (c .time, tt)))))
 
--- the format and its law: these fields, each value as it must be
-abbrev pub ContainerCodec : Codec Container
-ContainerCodec = Where (As ContainerLayout toContainer ofContainer (λ w g. refl) (λ c. refl)) containerOk
+-- the format and its law, of a container after b: these fields, each value as it must be
+abbrev pub ContainerCodec : Container → Codec Container
+ContainerCodec b = Where (As (ContainerLayout b) toContainer ofContainer (λ w g. refl) (λ c. refl)) containerOk
 
-unfoldable pub container : Fmt Container
-container = ContainerCodec .fmt
+unfoldable pub container : Container → Fmt Container
+container b = ContainerCodec b .fmt
+
+-- can the QoS of c, which stands after b, be told: is it new, or the same still?
+unfoldable pub isTold : Container → Container → Bool
+isTold b c = isNew b || sameQos (b .qos) (c .qos)
+
+-- which containers have a form after b
+abbrev pub formed : Container → Container → Bool
+formed b c = containerOk c && isTold b c
+
+-- the octets of a QoS after b: under A2 where it is new, else none
+unfoldable pub newForm : Container → Qos → Option (List ℕ)
+newForm b q = cond (isNew b) (guard (qosOk q) (tlvEnc 0xA2 (qos .enc q))) (some [])
 
 -- no time
 abbrev pub noStamp : Stamp

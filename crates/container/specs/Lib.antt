@@ -3,3 +3,4 @@ pub mod Container
 pub mod List
 pub mod Turns
 pub mod Open
+pub mod Sample

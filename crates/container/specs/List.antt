@@ -5,6 +5,7 @@ use mathlib.Core.Option.{Option, none, some}
 use mathlib.Core.List.{List, [], _∷_, _++_}
 use Prim.Native.Nat.{ℕ, zero, suc, _-_}
 use lib.Dec.{leb, ltb, eqb}
+use native.Mathlib.Omega.{arith}
 use lib.ListN.{length}
 use Rattle.format.specs.Format.{Fmt}
 use Rattle.ber.proofs.Codec.{Codec, Many}
@@ -12,7 +13,7 @@ use Rattle.calendar.specs.declared.Stamp.{Stamp}
 use Rattle.container.specs.declared.Qos.{Qos}
 use Rattle.container.specs.declared.Container.{Container}
 use Rattle.container.specs.Qos.{sameQos, noQos}
-use Rattle.container.specs.Container.{containerOk, ContainerCodec, noContainer}
+use Rattle.container.specs.Container.{containerOk, formed, ContainerCodec, noContainer}
 
 -- every container's values are as they must be
 unfoldable pub eachOk : List Container → Bool
@@ -51,13 +52,18 @@ listOk opening cs =
     leb 1 (length cs) && leb (length cs) 15 && eachOk cs && lastAlone cs
     && oneOffset (opening .zone) cs && inOrder (opening .seconds) cs && qosRule cs
 
--- ---- its octets: the containers one after another, each under 30
+-- ---- its octets: the containers one after another, each under 30; the first stands after none, as after a QoS change
 
 abbrev pub ListCodec : Codec (List Container)
-ListCodec = Many 0x30 ContainerCodec tt 1 15
+ListCodec = Many 0x30 ContainerCodec 53 (λ b. omega arith) tt noContainer 1 15
 
 unfoldable pub containers : Fmt (List Container)
 containers = ListCodec .fmt
+
+-- each has a form after the one before it, the first after b
+unfoldable pub allFormed : Container → List Container → Bool
+allFormed b [] = true
+allFormed b (c ∷ cs) = formed b c && allFormed c cs
 
 -- ---- a list in an array of 15
 

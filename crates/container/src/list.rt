@@ -1,4 +1,4 @@
-// The list of containers, read and written.
+// The list of containers, read and written. The first stands after none, which is as after one that ended with a QoS change.
 use crate::Container;
 use crate::single;
 use ber::tlv;
@@ -9,7 +9,8 @@ ghost use lib.ListN.{take};
 ghost use Rattle.format.specs.Maybe.{guard};
 ghost use Rattle.ber.specs.Tlv.{tlvEnc};
 ghost use Rattle.ber.specs.Write.{Puts};
-ghost use Rattle.container.specs.List.{eachOk, containers, Listed, noContainers};
+ghost use Rattle.container.specs.Container.{noContainer};
+ghost use Rattle.container.specs.List.{allFormed, containers, Listed, noContainers};
 
 // What octets are the list of: n containers at the start of v, and blank ones after. None of them (n = 0) where ok is false.
 pub struct ListOf {
@@ -26,13 +27,14 @@ pub fn list_of(s: &[u8]) -> ListOf
     let mut v = [blank; 15];
     let mut n: usize = 0;
     let mut at: usize = 0;
+    let mut last = blank;
     while at < s.len() {
         if 15 <= n {
             return no_list();
         }
-        let c = single::container_at(s, at);
-        let x = c.v;
-        v[n] = x;
+        let c = single::container_at(s, at, last);
+        last = c.v;
+        v[n] = last;
         n += 1;
         at = c.next;
     }
@@ -55,9 +57,9 @@ fn no_list() -> ListOf
 }
 
 // The first n containers of v, one after another under the tag, at a place of out. Not written where n is not 1 to 15, or one of
-// them is not as it must be.
+// them is not as it must be, or its QoS could not be told.
 pub fn put_list(out: &mut [u8], at: usize, tag: u8, v: [Container; 15], n: usize) -> usize
-    ensures { λ r. ⌜ Puts (guard (leb 1 n && leb n 15 && eachOk (take n v)) (tlvEnc tag (containers .enc (take n v)))) (now (out .entry)) (now (out .exit)) at r ⌝ }
+    ensures { λ r. ⌜ Puts (guard (leb 1 n && leb n 15 && allFormed noContainer (take n v)) (tlvEnc tag (containers .enc (take n v)))) (now (out .entry)) (now (out .exit)) at r ⌝ }
 {
     if n < 1 {
         return ber::NOWHERE;
@@ -68,11 +70,14 @@ pub fn put_list(out: &mut [u8], at: usize, tag: u8, v: [Container; 15], n: usize
     let mut list = [0u8; 825];
     let mut i: usize = 0;
     let mut end: usize = 0;
+    let mut last = single::no_container();
     while i < n {
-        let k = single::put_container(&mut list[end..], v[i]);
+        let c = v[i];
+        let k = single::put_container(&mut list[end..], c, last);
         if k == ber::NOWHERE {
             return ber::NOWHERE;
         }
+        last = c;
         end += k;
         i += 1;
     }

@@ -14,7 +14,8 @@ use Rattle.ber.specs.Field.{optEnc, unless0, unlessNone, alone, between}
 use Rattle.ber.specs.Fixed.{ipv4}
 use Rattle.ber.specs.Imsi.{imsiEnc}
 use Rattle.calendar.specs.Stamp.{stampEnc}
-use Rattle.container.specs.List.{containers, eachOk}
+use Rattle.container.specs.Container.{noContainer}
+use Rattle.container.specs.List.{containers, allFormed}
 use Rattle.scdr.specs.declared.Record.{Record}
 use Rattle.scdr.specs.Rules.{within, duration}
 use Rattle.scdr.specs.Layout.{body, ofRecord, fieldsOf}
@@ -51,10 +52,10 @@ count-known r t l =
     (omega (arith, k .least, length-take-le (r .count) (r .containers) (omega (arith, p .most))), p .most)
 
 -- what the writer of a list asks
-pub list-asks : (r : Record) → T (within r) → length (r .containers) ≡ 15 → T (leb 1 (r .count) && leb (r .count) 15 && eachOk (take (r .count) (r .containers)))
+pub list-asks : (r : Record) → T (within r) → length (r .containers) ≡ 15 → T (leb 1 (r .count) && leb (r .count) 15 && allFormed noContainer (take (r .count) (r .containers)))
 list-asks r t l =
     let p = places-rules r (withins r t .list) in
     let k = list-rules (r .opening) (take (r .count) (r .containers)) (p .list) in
     let n = length-take-le (r .count) (r .containers) (omega (arith, p .most)) in
-    and-i (leb 1 (r .count) && leb (r .count) 15) (eachOk (take (r .count) (r .containers)))
-    (and-i (leb 1 (r .count)) (leb (r .count) 15) (le→leb 1 (r .count) (omega (arith, k .least))) (le→leb (r .count) 15 (p .most))) (k .each)
+    and-i (leb 1 (r .count) && leb (r .count) 15) (allFormed noContainer (take (r .count) (r .containers)))
+    (and-i (leb 1 (r .count)) (leb (r .count) 15) (le→leb 1 (r .count) (omega (arith, k .least))) (le→leb (r .count) 15 (p .most))) (k .formed)

@@ -21,9 +21,9 @@ use Rattle.calendar.specs.declared.Stamp.{Stamp}
 use Rattle.calendar.specs.Stamp.{stampOk}
 use Rattle.container.specs.declared.Container.{Container}
 use Rattle.container.specs.Qos.{qosOk}
-use Rattle.container.specs.Container.{containerOk}
-use Rattle.container.proofs.Goods.{each-good}
-use Rattle.container.specs.List.{eachOk, lastAlone, oneOffset, inOrder, qosRule, listOk, containers}
+use Rattle.container.specs.Container.{containerOk, noContainer}
+use Rattle.container.proofs.Goods.{each-good, first-formed}
+use Rattle.container.specs.List.{eachOk, lastAlone, oneOffset, inOrder, qosRule, listOk, allFormed, containers}
 use Rattle.scdr.specs.declared.Record.{Record}
 use Rattle.scdr.specs.Rules.{shaped, within, numberOk, lastTime, duration, durationFrom}
 use Rattle.scdr.specs.Layout.{Layout, body, ofRecord, fieldsOf, toRecord, durationRight, rules, inside, scdr}
@@ -35,6 +35,7 @@ pub record Listed (cs : List Container) : Type 0 where
   pub least : 1 ≤ length cs
   pub most : length cs ≤ 15
   pub each : T (eachOk cs)
+  pub formed : T (allFormed noContainer cs)
 
 pub list-rules : (o : Stamp) (cs : List Container) → T (listOk o cs) → Listed cs
 unfolding listOk
@@ -47,11 +48,13 @@ list-rules o cs t =
     let f = inOrder (o .seconds) cs in
     let g = qosRule cs in
     let t3 = and-l (a && b && c) d (and-l (a && b && c && d) e (and-l (a && b && c && d && e) f (and-l (a && b && c && d && e && f) g t))) in
+    let h = and-r (a && b) c t3 in
     let t2 = and-l (a && b) c t3 in
     record {
       least = leb→le 1 (length cs) (and-l a b t2);
       most = leb→le (length cs) 15 (and-r a b t2);
-      each = and-r (a && b) c t3;
+      each = h;
+      formed = first-formed cs h (and-r (a && b && c && d && e && f) g t);
     }
 
 -- ---- a duration is short
@@ -121,7 +124,7 @@ rules-body r t =
                     (
                       ((lt→ltb (r .address) (256 ^ 4) (h .address), tt), tt),
                       (
-                        each-good (take (r .count) (r .containers)) (l .each) (l .least) (l .most),
+                        each-good (take (r .count) (r .containers)) (l .formed) (l .least) (l .most),
                         (
                           w .opening,
                           (

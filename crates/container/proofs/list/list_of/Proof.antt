@@ -12,17 +12,17 @@ use Rattle.container.proofs.list.list_of.Statement.{statement}
 use Rattle.container.proofs.list.list_of.Tie as tie
 
 abbrev Inv-loop : tie.InvT-loop
-Inv-loop s v₀ n₀ at₀ v n at = SoFar s v n at
+Inv-loop s v₀ n₀ at₀ last₀ v n at last = SoFar s v n at last
 
 abbrev μ-loop : tie.MeasureT-loop
-μ-loop s v₀ n₀ at₀ v n at = 15 - n
+μ-loop s v₀ n₀ at₀ last₀ v n at last = 15 - n
 
 no-container-requires : tie.Need-no-container-requires Inv-loop μ-loop
 no-container-requires c κs = search needs
 
 loop-holds : tie.Need-loop-holds Inv-loop μ-loop
 unfolding noContainers
-loop-holds c = sofar-none (c .before .before .args .s .now) _ refl (rw (c .no-container .ensures))
+loop-holds c = sofar-none (c .before .before .args .s .now) _ _ refl (rw (c .no-container .ensures)) (c .no-container .ensures)
 
 no-list-requires : tie.Need-no-list-requires Inv-loop μ-loop
 no-list-requires c κs = search needs
@@ -51,7 +51,7 @@ loop-again : tie.Need-loop-again Inv-loop μ-loop
 loop-again c =
     let s = c .before .before .before .before .before .before .before .args .s .now in
     let l = c .before .before .before .before .loop in
-    sofar-more s (l .inv) (c .before .before .before .loop-test .taken) (c .before .before .if1 .left) (got (first-leaves 0x30 container) (omega (arith, c .before .before .before .before .before .before .before .good .0 .1)) (c .before .container-at .ensures))
+    sofar-more s (l .inv) (c .before .before .before .loop-test .taken) (c .before .before .if1 .left) (got (first-leaves 0x30 (container (l .last))) (omega (arith, c .before .before .before .before .before .before .before .good .0 .1)) (c .before .container-at .ensures))
 
 no-list-requires-2 : tie.Need-no-list-requires-2 Inv-loop μ-loop
 no-list-requires-2 c κs = search needs

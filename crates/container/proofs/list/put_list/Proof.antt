@@ -1,4 +1,4 @@
--- `container::list::put_list` meets its contract. The loop's invariant: the first i containers are as they must be, and stand at the front
+-- `container::list::put_list` meets its contract. The loop's invariant: the first i containers have their forms, which stand at the front
 -- of the array; each is written into the part after them. Assumes nothing.
 use mathlib.Core.Path.{_≡_, refl, _∙_}
 use mathlib.Core.Bool.{_&&_}
@@ -8,30 +8,40 @@ use lib.Dec.{leb}
 use lib.ListN.{length, take}
 use borrow.Author.Needs.{needs}
 use Rattle.ber.proofs.Writers.{puts-is}
-use Rattle.container.specs.List.{eachOk}
+use Rattle.container.specs.Container.{noContainer}
+use Rattle.container.specs.List.{allFormed}
 use Rattle.container.proofs.Fields.{puts-not, ready, filled-count}
 use Rattle.container.proofs.Lists.{Filling, filling-none, filling-room, filling-more, filling-bad, filling-ok, filling-all, few, many, right}
 use Rattle.container.proofs.list.put_list.Statement.{statement}
 use Rattle.container.proofs.list.put_list.Tie as tie
 
 abbrev Inv-loop : tie.InvT-loop
-Inv-loop out at tag n v list₀ i₀ end₀ list i end = (i ≤ n) × Filling v i list₀ list end
+Inv-loop out at tag n v list₀ i₀ end₀ last₀ list i end last = (i ≤ n) × Filling v i list₀ list end last
 
 abbrev μ-loop : tie.MeasureT-loop
-μ-loop out at tag n v list₀ i₀ end₀ list i end = n - i
+μ-loop out at tag n v list₀ i₀ end₀ last₀ list i end last = n - i
 
 returns : tie.Need-returns Inv-loop μ-loop
 returns c =
     let a = c .before .before .args in
-    puts-not (leb 1 (a .n) && leb (a .n) 15 && eachOk (take (a .n) (a .t4))) _ (few (a .n) _ (c .if1 .taken))
+    puts-not (leb 1 (a .n) && leb (a .n) 15 && allFormed noContainer (take (a .n) (a .t4))) _ (few (a .n) _ (c .if1 .taken))
 
 returns-2 : tie.Need-returns-2 Inv-loop μ-loop
 returns-2 c =
     let a = c .before .before .before .args in
-    puts-not (leb 1 (a .n) && leb (a .n) 15 && eachOk (take (a .n) (a .t4))) _ (many (a .n) _ (omega (arith, c .before .if1 .left)) (c .if2 .taken))
+    puts-not (leb 1 (a .n) && leb (a .n) 15 && allFormed noContainer (take (a .n) (a .t4))) _ (many (a .n) _ (omega (arith, c .before .if1 .left)) (c .if2 .taken))
+
+no-container-requires : tie.Need-no-container-requires Inv-loop μ-loop
+no-container-requires c κs = search needs
 
 loop-holds : tie.Need-loop-holds Inv-loop μ-loop
-loop-holds c = (omega arith, filling-none (c .before .before .before .args .t4) _ refl)
+loop-holds c = (omega arith, filling-none (c .before .before .before .before .args .t4) _ _ refl (c .no-container .ensures))
+
+mul-c : tie.Need-mul-c Inv-loop μ-loop
+mul-c c = search needs
+
+array-copy-out-c : tie.Need-array-copy-out-c Inv-loop μ-loop
+array-copy-out-c c = search needs
 
 sub-put-container : tie.Need-sub-put-container Inv-loop μ-loop
 sub-put-container c = search needs
@@ -42,30 +52,24 @@ part-list-start c = search needs
 part-list-end : tie.Need-part-list-end Inv-loop μ-loop
 part-list-end c = search needs
 
-mul-put-container : tie.Need-mul-put-container Inv-loop μ-loop
-mul-put-container c = search needs
-
-array-copy-out-put-container : tie.Need-array-copy-out-put-container Inv-loop μ-loop
-array-copy-out-put-container c = search needs
-
 put-container-requires : tie.Need-put-container-requires Inv-loop μ-loop
 put-container-requires c κs = search needs
 
 returns-3 : tie.Need-returns-3 Inv-loop μ-loop
 returns-3 c =
-    let a = c .before .before .before .before .before .before .before .before .before .before .args in
+    let a = c .before .before .before .before .before .before .before .before .before .before .before .args in
     let l = c .before .before .before .before .before .before .loop in
     let z : length (a .t4) ≡ 15 = search needs in
-    puts-not (leb 1 (a .n) && leb (a .n) 15 && eachOk (take (a .n) (a .t4))) _
-    (right (a .n) _ (omega (arith, c .before .before .before .before .before .before .before .before .if1 .left)) (omega (arith, c .before .before .before .before .before .before .before .if2 .left))
-    ∙ filling-bad (l .inv .1) _ (omega (arith, c .before .before .before .before .before .loop-test .taken, c .before .before .before .before .before .before .before .if2 .left)) (omega (arith, c .before .before .before .before .before .loop-test .taken, c .before .before .before .before .before .before .before .if2 .left)) (c .before .before .put-container .ensures) (a .n) (c .before .before .before .before .before .loop-test .taken) (omega (arith, c .before .before .before .before .before .before .before .if2 .left)) (c .if3 .taken))
+    puts-not (leb 1 (a .n) && leb (a .n) 15 && allFormed noContainer (take (a .n) (a .t4))) _
+    (right (a .n) _ (omega (arith, c .before .before .before .before .before .before .before .before .before .if1 .left)) (omega (arith, c .before .before .before .before .before .before .before .before .if2 .left))
+    ∙ filling-bad (l .inv .1) _ (omega (arith, c .before .before .before .before .before .loop-test .taken, c .before .before .before .before .before .before .before .before .if2 .left)) (omega (arith, c .before .before .before .before .before .loop-test .taken, c .before .before .before .before .before .before .before .before .if2 .left)) (c .before .before .put-container .ensures) (a .n) (c .before .before .before .before .before .loop-test .taken) (omega (arith, c .before .before .before .before .before .before .before .before .if2 .left)) (c .if3 .taken))
 
 add-end : tie.Need-add-end Inv-loop μ-loop
 add-end c =
-    let a = c .before .before .before .before .before .before .before .before .before .before .args in
+    let a = c .before .before .before .before .before .before .before .before .before .before .before .args in
     let l = c .before .before .before .before .before .before .loop in
     let z : length (a .t4) ≡ 15 = search needs in
-    omega (arith, filling-room (l .inv .1) _ (omega (arith, c .before .before .before .before .before .loop-test .taken, c .before .before .before .before .before .before .before .if2 .left)) (omega (arith, c .before .before .before .before .before .loop-test .taken, c .before .before .before .before .before .before .before .if2 .left)) (c .before .before .put-container .ensures) (c .if3 .left))
+    omega (arith, filling-room (l .inv .1) _ (omega (arith, c .before .before .before .before .before .loop-test .taken, c .before .before .before .before .before .before .before .before .if2 .left)) (omega (arith, c .before .before .before .before .before .loop-test .taken, c .before .before .before .before .before .before .before .before .if2 .left)) (c .before .before .put-container .ensures) (c .if3 .left))
 
 add-i : tie.Need-add-i Inv-loop μ-loop
 add-i c = search needs
@@ -75,21 +79,21 @@ loop-less c = search needs
 
 loop-again : tie.Need-loop-again Inv-loop μ-loop
 loop-again c =
-    let a = c .before .before .before .before .before .before .before .before .before .before .args in
+    let a = c .before .before .before .before .before .before .before .before .before .before .before .args in
     let l = c .before .before .before .before .before .before .loop in
     let z : length (a .t4) ≡ 15 = search needs in
-    (omega arith, filling-more (l .inv .1) _ (omega (arith, c .before .before .before .before .before .loop-test .taken, c .before .before .before .before .before .before .before .if2 .left)) (omega (arith, c .before .before .before .before .before .loop-test .taken, c .before .before .before .before .before .before .before .if2 .left)) (c .before .before .put-container .ensures) (c .if3 .left))
+    (omega arith, filling-more (l .inv .1) _ (omega (arith, c .before .before .before .before .before .loop-test .taken, c .before .before .before .before .before .before .before .before .if2 .left)) (omega (arith, c .before .before .before .before .before .loop-test .taken, c .before .before .before .before .before .before .before .before .if2 .left)) (c .before .before .put-container .ensures) (c .if3 .left))
 
 array-share-prefix-list : tie.Need-array-share-prefix-list Inv-loop μ-loop
 array-share-prefix-list c = omega (arith, c .before .before .loop .inv .1 .short, c .before .before .loop .inv .1 .room)
 
 slice-aggregate-put-tlv : tie.Need-slice-aggregate-put-tlv Inv-loop μ-loop
 slice-aggregate-put-tlv c =
-    let a = c .before .before .before .before .before .before .before .args in
+    let a = c .before .before .before .before .before .before .before .before .args in
     let l = c .before .before .before .loop in
     let z : length (a .t4) ≡ 15 = search needs in
-    let h : a .n ≤ 15 = omega (arith, c .before .before .before .before .if2 .left) in
-    filled-count (filling-all (l .inv .1) (a .n) (omega arith) (omega (arith, c .before .before .before .before .before .if1 .left)) h (omega arith))
+    let h : a .n ≤ 15 = omega (arith, c .before .before .before .before .before .if2 .left) in
+    filled-count (filling-all (l .inv .1) (a .n) (omega arith) (omega (arith, c .before .before .before .before .before .before .if1 .left)) h (omega arith))
 
 put-tlv-requires : tie.Need-put-tlv-requires Inv-loop μ-loop
 put-tlv-requires c κs = search needs
@@ -99,14 +103,14 @@ same-length c = search needs
 
 returns-4 : tie.Need-returns-4 Inv-loop μ-loop
 returns-4 c =
-    let a = c .before .before .before .before .before .before .before .before .before .before .args in
+    let a = c .before .before .before .before .before .before .before .before .before .before .before .args in
     let l = c .before .before .before .before .before .before .loop in
     let z : length (a .t4) ≡ 15 = search needs in
-    let g : 1 ≤ a .n = omega (arith, c .before .before .before .before .before .before .before .before .if1 .left) in
-    let h : a .n ≤ 15 = omega (arith, c .before .before .before .before .before .before .before .if2 .left) in
+    let g : 1 ≤ a .n = omega (arith, c .before .before .before .before .before .before .before .before .before .if1 .left) in
+    let h : a .n ≤ 15 = omega (arith, c .before .before .before .before .before .before .before .before .if2 .left) in
     let f = filling-all (l .inv .1) (a .n) (omega arith) g h (omega arith) in
     puts-is
-    (ready (leb 1 (a .n) && leb (a .n) 15 && eachOk (take (a .n) (a .t4))) (a .tag) (right (a .n) _ g h ∙ filling-ok (l .inv .1) (a .n) (omega arith)) (f .front) (omega (arith, f .most)))
+    (ready (leb 1 (a .n) && leb (a .n) 15 && allFormed noContainer (take (a .n) (a .t4))) (a .tag) (right (a .n) _ g h ∙ filling-ok (l .inv .1) (a .n) (omega arith)) (f .front) (omega (arith, f .most)))
     (c .before .before .put-tlv .ensures)
 
 pub put-list-spec : {M : Type 1} → statement M
@@ -117,12 +121,13 @@ put-list-spec =
     μ-loop
     returns
     returns-2
+    no-container-requires
     loop-holds
+    mul-c
+    array-copy-out-c
     sub-put-container
     part-list-start
     part-list-end
-    mul-put-container
-    array-copy-out-put-container
     put-container-requires
     returns-3
     add-end

@@ -26,7 +26,7 @@ returns : tie.Need-returns
 returns c =
     let a = c .before .before .before .before .before .args in
     reads-as (c .before .before .before .no-container .ensures)
-    (first-absent 0x30 container (a .s .now) (a .at) (part-none (a .s .now) (a .at) 0x30 (sym (c .enum-told .given .1) ∙ c .before .before .part-at .ensures)))
+    (first-absent 0x30 (container (a .last)) (a .s .now) (a .at) (part-none (a .s .now) (a .at) 0x30 (sym (c .enum-told .given .1) ∙ c .before .before .part-at .ensures)))
 
 sub-t : tie.Need-sub-t
 sub-t c = let a = c .before .before .before .before .before .before .args in part-some (a .s .now) (a .at) 0x30 (sym (c .before .a .given .1) ∙ c .before .before .before .part-at .ensures) .order
@@ -43,8 +43,8 @@ part-t-end c =
     let p = part-some (a .s .now) (a .at) 0x30 (sym (c .before .a .given .1) ∙ c .before .before .before .part-at .ensures) in
     omega (arith, p .order, p .inside)
 
-qos-at-requires : tie.Need-qos-at-requires
-qos-at-requires c κs = search needs
+qos-after-requires : tie.Need-qos-after-requires
+qos-after-requires c κs = search needs
 
 int-at-requires : tie.Need-int-at-requires
 int-at-requires c κs = search needs
@@ -63,8 +63,8 @@ returns-2 c =
     let a = c .before .before .before .before .before .before .before .before .before .before .before .before .before .before .before .before .args in
     let p = part-some (a .s .now) (a .at) 0x30 (sym (c .before .before .before .before .before .before .before .before .before .before .before .a .given .1) ∙ c .before .before .before .before .before .before .before .before .before .before .before .before .before .part-at .ensures) in
     reads-as (c .before .before .before .before .before .before .before .before .before .before .before .before .before .before .no-container .ensures)
-    (inner-bad 0x30 container (a .s .now) (a .at) p
-    (container-cut (part-short p (omega (arith, c .before .before .before .before .before .before .before .before .before .before .before .before .before .before .before .before .good .0 .1))) (c .before .before .before .before .before .before .before .before .qos-at .ensures) (c .before .before .before .before .before .before .before .int-at .ensures) (c .before .before .before .before .before .before .int-at2 .ensures) (c .before .before .before .before .before .octet-at .ensures) (c .before .before .before .before .stamp-at .ensures) (c .if1 .taken)))
+    (inner-bad 0x30 (container (a .last)) (a .s .now) (a .at) p
+    (container-cut (a .last) (part-short p (omega (arith, c .before .before .before .before .before .before .before .before .before .before .before .before .before .before .before .before .good .0 .1))) (c .before .before .before .before .before .before .before .before .qos-after .ensures) (c .before .before .before .before .before .before .before .int-at .ensures) (c .before .before .before .before .before .before .int-at2 .ensures) (c .before .before .before .before .before .octet-at .ensures) (c .before .before .before .before .stamp-at .ensures) (c .if1 .taken)))
 
 container-ok-requires : tie.Need-container-ok-requires
 container-ok-requires c κs = search needs
@@ -74,15 +74,15 @@ returns-3 c =
     let a = c .before .before .before .before .before .before .before .before .before .before .before .before .before .before .before .before .before .before .args in
     let p = part-some (a .s .now) (a .at) 0x30 (sym (c .before .before .before .before .before .before .before .before .before .before .before .before .before .a .given .1) ∙ c .before .before .before .before .before .before .before .before .before .before .before .before .before .before .before .part-at .ensures) in
     reads-as (c .before .before .before .before .before .before .before .before .before .before .before .before .before .before .before .before .no-container .ensures)
-    (inner-bad 0x30 container (a .s .now) (a .at) p
-    (container-out (part-short p (omega (arith, c .before .before .before .before .before .before .before .before .before .before .before .before .before .before .before .before .before .before .good .0 .1))) (c .before .before .before .before .before .before .before .before .before .before .qos-at .ensures) (c .before .before .before .before .before .before .before .before .before .int-at .ensures) (c .before .before .before .before .before .before .before .before .int-at2 .ensures) (c .before .before .before .before .before .before .before .octet-at .ensures) (c .before .before .before .before .before .before .stamp-at .ensures) (c .before .before .if1 .left) (sym (c .before .container-ok .ensures) ∙ not-true _ (c .if2 .taken))))
+    (inner-bad 0x30 (container (a .last)) (a .s .now) (a .at) p
+    (container-out (a .last) (part-short p (omega (arith, c .before .before .before .before .before .before .before .before .before .before .before .before .before .before .before .before .before .before .good .0 .1))) (c .before .before .before .before .before .before .before .before .before .before .qos-after .ensures) (c .before .before .before .before .before .before .before .before .before .int-at .ensures) (c .before .before .before .before .before .before .before .before .int-at2 .ensures) (c .before .before .before .before .before .before .before .octet-at .ensures) (c .before .before .before .before .before .before .stamp-at .ensures) (c .before .before .if1 .left) (sym (c .before .container-ok .ensures) ∙ not-true _ (c .if2 .taken))))
 
 returns-4 : tie.Need-returns-4
 returns-4 c =
     let a = c .before .before .before .before .before .before .before .before .before .before .before .before .before .before .before .before .before .before .args in
     let p = part-some (a .s .now) (a .at) 0x30 (sym (c .before .before .before .before .before .before .before .before .before .before .before .before .before .a .given .1) ∙ c .before .before .before .before .before .before .before .before .before .before .before .before .before .before .before .part-at .ensures) in
-    inner-there 0x30 container (a .s .now) (a .at) p
-    (container-there (part-short p (omega (arith, c .before .before .before .before .before .before .before .before .before .before .before .before .before .before .before .before .before .before .good .0 .1))) (c .before .before .before .before .before .before .before .before .before .before .qos-at .ensures) (c .before .before .before .before .before .before .before .before .before .int-at .ensures) (c .before .before .before .before .before .before .before .before .int-at2 .ensures) (c .before .before .before .before .before .before .before .octet-at .ensures) (c .before .before .before .before .before .before .stamp-at .ensures) (c .before .before .if1 .left) (sym (c .before .container-ok .ensures) ∙ not-false _ (c .if2 .left)))
+    inner-there 0x30 (container (a .last)) (a .s .now) (a .at) p
+    (container-there (a .last) (part-short p (omega (arith, c .before .before .before .before .before .before .before .before .before .before .before .before .before .before .before .before .before .before .good .0 .1))) (c .before .before .before .before .before .before .before .before .before .before .qos-after .ensures) (c .before .before .before .before .before .before .before .before .before .int-at .ensures) (c .before .before .before .before .before .before .before .before .int-at2 .ensures) (c .before .before .before .before .before .before .before .octet-at .ensures) (c .before .before .before .before .before .before .stamp-at .ensures) (c .before .before .if1 .left) (sym (c .before .container-ok .ensures) ∙ not-false _ (c .if2 .left)))
 
 pub container-at-spec : {M : Type 1} → statement M
 container-at-spec =
@@ -96,7 +96,7 @@ container-at-spec =
     sub-t
     part-t-start
     part-t-end
-    qos-at-requires
+    qos-after-requires
     int-at-requires
     int-at-requires-2
     octet-at-requires

@@ -1,12 +1,12 @@
--- `container::single::put_container` meets its contract: the five fields fill the array's front, which goes under the tag. Assumes nothing.
+-- `container::single::put_container` meets its contract: its fields fill the array's front, which goes under the tag. Assumes nothing.
 use mathlib.Core.Path.{_∙_, refl, sym}
 use native.Mathlib.Omega.{arith}
 use borrow.Author.Needs.{needs}
 use borrow.Author.Tests.{not-true, not-false}
 use Rattle.format.proofs.Tests.{true-T}
 use Rattle.ber.proofs.Writers.{puts-is}
-use Rattle.container.specs.Container.{containerOk}
-use Rattle.container.proofs.Fields.{puts-not, ready, filled-count, container-filled}
+use Rattle.container.specs.Container.{formed}
+use Rattle.container.proofs.Fields.{puts-not, ready, filled-count, formed-yes, formed-bad, formed-untold, container-filled}
 use Rattle.container.proofs.single.put_container.Statement.{statement}
 use Rattle.container.proofs.single.put_container.Tie as tie
 
@@ -14,13 +14,24 @@ container-ok-requires : tie.Need-container-ok-requires
 container-ok-requires c κs = search needs
 
 returns : tie.Need-returns
-returns c = puts-not (containerOk (c .before .before .before .args .c)) _ (sym (c .before .container-ok .ensures) ∙ not-true _ (c .if1 .taken))
+returns c =
+    let a = c .before .before .before .args in
+    puts-not (formed (a .last) (a .c)) _ (formed-bad (a .last) (a .c) (sym (c .before .container-ok .ensures) ∙ not-true _ (c .if1 .taken)))
 
-slice-aggregate-put-qos : tie.Need-slice-aggregate-put-qos
-slice-aggregate-put-qos c = search needs
+is-told-requires : tie.Need-is-told-requires
+is-told-requires c κs = search needs
 
-put-qos-requires : tie.Need-put-qos-requires
-put-qos-requires c κs = search needs
+returns-2 : tie.Need-returns-2
+returns-2 c =
+    let a = c .before .before .before .before .before .args in
+    puts-not (formed (a .last) (a .c)) _
+    (formed-untold (a .last) (a .c) (sym (c .before .before .before .container-ok .ensures) ∙ not-false _ (c .before .before .if1 .left)) (sym (c .before .is-told .ensures) ∙ not-true _ (c .if2 .taken)))
+
+slice-aggregate-put-qos-after : tie.Need-slice-aggregate-put-qos-after
+slice-aggregate-put-qos-after c = search needs
+
+put-qos-after-requires : tie.Need-put-qos-after-requires
+put-qos-after-requires c κs = search needs
 
 slice-aggregate-put-int : tie.Need-slice-aggregate-put-int
 slice-aggregate-put-int c = search needs
@@ -48,14 +59,14 @@ put-stamp-requires c κs = search needs
 
 array-share-prefix-b : tie.Need-array-share-prefix-b
 array-share-prefix-b c =
-    container-filled (c .before .before .before .before .before .before .before .before .before .before .before .before .before .before .before .before .before .before .before .before .before .args .c) refl (c .before .before .before .before .before .before .before .before .before .before .before .before .before .before .put-qos .ensures) (c .before .before .before .before .before .before .before .before .before .before .before .put-int .ensures) (c .before .before .before .before .before .before .before .before .put-int2 .ensures) (c .before .before .before .before .before .put-octet .ensures) (c .before .before .put-stamp .ensures)
-    (true-T _ (sym (c .before .before .before .before .before .before .before .before .before .before .before .before .before .before .before .before .before .before .before .container-ok .ensures) ∙ not-false _ (c .before .before .before .before .before .before .before .before .before .before .before .before .before .before .before .before .before .before .if1 .left))) .inside
+    container-filled (c .before .before .before .before .before .before .before .before .before .before .before .before .before .before .before .before .before .before .before .before .before .before .before .args .last) (c .before .before .before .before .before .before .before .before .before .before .before .before .before .before .before .before .before .before .before .before .before .before .before .args .c) refl (c .before .before .before .before .before .before .before .before .before .before .before .before .before .before .put-qos-after .ensures) (c .before .before .before .before .before .before .before .before .before .before .before .put-int .ensures) (c .before .before .before .before .before .before .before .before .put-int2 .ensures) (c .before .before .before .before .before .put-octet .ensures) (c .before .before .put-stamp .ensures)
+    (true-T _ (formed-yes (c .before .before .before .before .before .before .before .before .before .before .before .before .before .before .before .before .before .before .before .before .before .before .before .args .last) (c .before .before .before .before .before .before .before .before .before .before .before .before .before .before .before .before .before .before .before .before .before .before .before .args .c) (sym (c .before .before .before .before .before .before .before .before .before .before .before .before .before .before .before .before .before .before .before .before .before .container-ok .ensures) ∙ not-false _ (c .before .before .before .before .before .before .before .before .before .before .before .before .before .before .before .before .before .before .before .before .if1 .left)) (sym (c .before .before .before .before .before .before .before .before .before .before .before .before .before .before .before .before .before .before .before .is-told .ensures) ∙ not-false _ (c .before .before .before .before .before .before .before .before .before .before .before .before .before .before .before .before .before .before .if2 .left)))) .inside
 
 slice-aggregate-put-tlv : tie.Need-slice-aggregate-put-tlv
 slice-aggregate-put-tlv c =
     filled-count
-    (container-filled (c .before .before .before .before .before .before .before .before .before .before .before .before .before .before .before .before .before .before .before .before .before .before .args .c) refl (c .before .before .before .before .before .before .before .before .before .before .before .before .before .before .before .put-qos .ensures) (c .before .before .before .before .before .before .before .before .before .before .before .before .put-int .ensures) (c .before .before .before .before .before .before .before .before .before .put-int2 .ensures) (c .before .before .before .before .before .before .put-octet .ensures) (c .before .before .before .put-stamp .ensures)
-    (true-T _ (sym (c .before .before .before .before .before .before .before .before .before .before .before .before .before .before .before .before .before .before .before .before .container-ok .ensures) ∙ not-false _ (c .before .before .before .before .before .before .before .before .before .before .before .before .before .before .before .before .before .before .before .if1 .left))))
+    (container-filled (c .before .before .before .before .before .before .before .before .before .before .before .before .before .before .before .before .before .before .before .before .before .before .before .before .args .last) (c .before .before .before .before .before .before .before .before .before .before .before .before .before .before .before .before .before .before .before .before .before .before .before .before .args .c) refl (c .before .before .before .before .before .before .before .before .before .before .before .before .before .before .before .put-qos-after .ensures) (c .before .before .before .before .before .before .before .before .before .before .before .before .put-int .ensures) (c .before .before .before .before .before .before .before .before .before .put-int2 .ensures) (c .before .before .before .before .before .before .put-octet .ensures) (c .before .before .before .put-stamp .ensures)
+    (true-T _ (formed-yes (c .before .before .before .before .before .before .before .before .before .before .before .before .before .before .before .before .before .before .before .before .before .before .before .before .args .last) (c .before .before .before .before .before .before .before .before .before .before .before .before .before .before .before .before .before .before .before .before .before .before .before .before .args .c) (sym (c .before .before .before .before .before .before .before .before .before .before .before .before .before .before .before .before .before .before .before .before .before .before .container-ok .ensures) ∙ not-false _ (c .before .before .before .before .before .before .before .before .before .before .before .before .before .before .before .before .before .before .before .before .before .if1 .left)) (sym (c .before .before .before .before .before .before .before .before .before .before .before .before .before .before .before .before .before .before .before .before .is-told .ensures) ∙ not-false _ (c .before .before .before .before .before .before .before .before .before .before .before .before .before .before .before .before .before .before .before .if2 .left)))))
 
 put-tlv-requires : tie.Need-put-tlv-requires
 put-tlv-requires c κs = search needs
@@ -63,13 +74,13 @@ put-tlv-requires c κs = search needs
 same-length : tie.Need-same-length
 same-length c = search needs
 
-returns-2 : tie.Need-returns-2
-returns-2 c =
-    let a = c .before .before .before .before .before .before .before .before .before .before .before .before .before .before .before .before .before .before .before .before .before .before .before .before .before .args in
-    let h = sym (c .before .before .before .before .before .before .before .before .before .before .before .before .before .before .before .before .before .before .before .before .before .before .before .container-ok .ensures) ∙ not-false _ (c .before .before .before .before .before .before .before .before .before .before .before .before .before .before .before .before .before .before .before .before .before .before .if1 .left) in
+returns-3 : tie.Need-returns-3
+returns-3 c =
+    let a = c .before .before .before .before .before .before .before .before .before .before .before .before .before .before .before .before .before .before .before .before .before .before .before .before .before .before .before .args in
     let f =
-    container-filled (a .c) refl (c .before .before .before .before .before .before .before .before .before .before .before .before .before .before .before .before .before .before .put-qos .ensures) (c .before .before .before .before .before .before .before .before .before .before .before .before .before .before .before .put-int .ensures) (c .before .before .before .before .before .before .before .before .before .before .before .before .put-int2 .ensures) (c .before .before .before .before .before .before .before .before .before .put-octet .ensures) (c .before .before .before .before .before .before .put-stamp .ensures) (true-T _ h) in
-    puts-is (ready (containerOk (a .c)) 0x30 h (f .front) (omega (arith, f .most))) (c .before .before .put-tlv .ensures)
+    container-filled (c .before .before .before .before .before .before .before .before .before .before .before .before .before .before .before .before .before .before .before .before .before .before .before .before .before .before .before .args .last) (c .before .before .before .before .before .before .before .before .before .before .before .before .before .before .before .before .before .before .before .before .before .before .before .before .before .before .before .args .c) refl (c .before .before .before .before .before .before .before .before .before .before .before .before .before .before .before .before .before .before .put-qos-after .ensures) (c .before .before .before .before .before .before .before .before .before .before .before .before .before .before .before .put-int .ensures) (c .before .before .before .before .before .before .before .before .before .before .before .before .put-int2 .ensures) (c .before .before .before .before .before .before .before .before .before .put-octet .ensures) (c .before .before .before .before .before .before .put-stamp .ensures)
+    (true-T _ (formed-yes (c .before .before .before .before .before .before .before .before .before .before .before .before .before .before .before .before .before .before .before .before .before .before .before .before .before .before .before .args .last) (c .before .before .before .before .before .before .before .before .before .before .before .before .before .before .before .before .before .before .before .before .before .before .before .before .before .before .before .args .c) (sym (c .before .before .before .before .before .before .before .before .before .before .before .before .before .before .before .before .before .before .before .before .before .before .before .before .before .container-ok .ensures) ∙ not-false _ (c .before .before .before .before .before .before .before .before .before .before .before .before .before .before .before .before .before .before .before .before .before .before .before .before .if1 .left)) (sym (c .before .before .before .before .before .before .before .before .before .before .before .before .before .before .before .before .before .before .before .before .before .before .before .is-told .ensures) ∙ not-false _ (c .before .before .before .before .before .before .before .before .before .before .before .before .before .before .before .before .before .before .before .before .before .before .if2 .left)))) in
+    puts-is (ready (formed (a .last) (a .c)) 0x30 (formed-yes (c .before .before .before .before .before .before .before .before .before .before .before .before .before .before .before .before .before .before .before .before .before .before .before .before .before .before .before .args .last) (c .before .before .before .before .before .before .before .before .before .before .before .before .before .before .before .before .before .before .before .before .before .before .before .before .before .before .before .args .c) (sym (c .before .before .before .before .before .before .before .before .before .before .before .before .before .before .before .before .before .before .before .before .before .before .before .before .before .container-ok .ensures) ∙ not-false _ (c .before .before .before .before .before .before .before .before .before .before .before .before .before .before .before .before .before .before .before .before .before .before .before .before .if1 .left)) (sym (c .before .before .before .before .before .before .before .before .before .before .before .before .before .before .before .before .before .before .before .before .before .before .before .is-told .ensures) ∙ not-false _ (c .before .before .before .before .before .before .before .before .before .before .before .before .before .before .before .before .before .before .before .before .before .before .if2 .left))) (f .front) (omega (arith, f .most))) (c .before .before .put-tlv .ensures)
 
 pub put-container-spec : {M : Type 1} → statement M
 put-container-spec =
@@ -77,8 +88,10 @@ put-container-spec =
     (tie.spec
     container-ok-requires
     returns
-    slice-aggregate-put-qos
-    put-qos-requires
+    is-told-requires
+    returns-2
+    slice-aggregate-put-qos-after
+    put-qos-after-requires
     slice-aggregate-put-int
     put-int-requires
     slice-aggregate-put-int-2
@@ -91,4 +104,4 @@ put-container-spec =
     slice-aggregate-put-tlv
     put-tlv-requires
     same-length
-    returns-2)
+    returns-3)

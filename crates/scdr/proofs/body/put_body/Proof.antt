@@ -11,7 +11,8 @@ use Rattle.ber.specs.Tlv.{tlvEnc}
 use Rattle.ber.proofs.Texts.{opt-value}
 use Rattle.ber.proofs.Writers.{wrote, wrote-then, wrote-is}
 use Rattle.container.specs.Container.{noContainer}
-use Rattle.container.specs.List.{containers, eachOk}
+use Rattle.container.specs.Container.{noContainer}
+use Rattle.container.specs.List.{containers, allFormed}
 use Rattle.scdr.specs.Rules.{duration}
 use Rattle.scdr.specs.Parts.{endEnc}
 use Rattle.scdr.proofs.Tails.{length-of-map}
@@ -74,7 +75,7 @@ returns c =
     let p = places-known (c .before .before .before .before .before .before .before .before .before .before .before .before .before .before .before .before .before .before .before .before .before .before .before .before .before .before .before .before .before .before) in
     wrote-is (body-parts r)
     (wrote-then (c .before .before .before .before .before .before .before .before .before .before .before .before .before .before .before .before .before .before .before .put-front .ensures) (wrote-then (c .before .before .before .before .before .before .before .before .before .before .before .before .before .before .before .put-pdp .ensures) (wrote-then
-    (wrote (guard-yes (leb 1 (r .count) && leb (r .count) 15 && eachOk (take (r .count) (r .containers))) (tlvEnc 0xAF (containers .enc (take (r .count) (r .containers)))) (list-asks r (c .before .before .before .before .before .before .before .before .before .before .before .before .before .before .before .before .before .before .before .before .before .before .before .before .before .before .before .before .before .before .pre) (places-known (c .before .before .before .before .before .before .before .before .before .before .before .before .before .before .before .before .before .before .before .before .before .before .before .before .before .before .before .before .before .before)))) (c .before .before .before .before .before .before .before .before .before .before .before .put-list .ensures))
+    (wrote (guard-yes (leb 1 (r .count) && leb (r .count) 15 && allFormed noContainer (take (r .count) (r .containers))) (tlvEnc 0xAF (containers .enc (take (r .count) (r .containers)))) (list-asks r (c .before .before .before .before .before .before .before .before .before .before .before .before .before .before .before .before .before .before .before .before .before .before .before .before .before .before .before .before .before .before .pre) (places-known (c .before .before .before .before .before .before .before .before .before .before .before .before .before .before .before .before .before .before .before .before .before .before .before .before .before .before .before .before .before .before)))) (c .before .before .before .before .before .before .before .before .before .before .before .put-list .ensures))
     (wrote-then (wrote-is (ap (λ (d : ℕ). endEnc (r .opening) d (r .change) (r .cause) (r .number)) (c .before .before .before .before .before .before .before .before .before .before .before .before .before .before .before .before .before .before .before .before .before .lasted .ensures ∙ duration-is (r .opening .seconds) (r .containers) (r .count) noContainer (m .0) (omega (arith, m .1, p)))) (c .before .before .before .before .before .before .before .put-end .ensures))
     (wrote (opt-value 0x96 20 (r .nodeid) (r .nodelen) (omega (arith, n .most, k)) (omega (arith, n .most))) (c .before .before .put-opt-text .ensures))))))
 
