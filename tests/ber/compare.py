@@ -272,7 +272,7 @@ def bases(rng, records, encoded, whole):
         (lambda r: r.count == 2 and r.places[0].condition == 0, 190),
         (lambda r: r.count == 2 and r.places[0].condition == 1 and r.node_id_length, 220),
         (lambda r: r.count == 1 and r.charging_id >= 2**31 and r.number > 2**31 and not r.node_id_length, 150),
-        (lambda r: r.count == 3 and r.network and r.zone < 720, 256),
+        (lambda r: [c.condition for c in r.places[: r.count]] == [0, 1, 2] and r.network and r.zone < 720, 256),
         (lambda r: r.count == 1 and r.change and r.number == 0 and r.zone == 720, 140),
     ]
     made = [pick(*shape) for shape in (shapes if whole else shapes[:1])]
@@ -280,8 +280,9 @@ def bases(rng, records, encoded, whole):
 
 
 def full_lists(rng, records, encoded, count):
-    """Records of fifteen containers, to which a sixteenth is added."""
-    found = [t for r, t in zip(records, encoded) if r.count == 15 and any(c.condition == 1 for c in r.places)]
+    """Records of fifteen containers, to which a sixteenth is added: one without a QoS, more of which change no other rule."""
+    found = [t for r, t in zip(records, encoded) if r.count == 15
+             and any(a.condition == b.condition == 1 for a, b in zip(r.places, r.places[1:]))]
     return [bytes.fromhex(t) for t in rng.sample(found, min(count, len(found)))]
 
 

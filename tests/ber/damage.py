@@ -210,6 +210,38 @@ def containers(octets):
                 yield name, mended(octets, held, c.start, c.end, own * (more + 1))
 
 
+def profiles(octets):
+    """The QoS of a container left out, put in, or moved to the next one; conditions 0 and 1 taken for each
+    other, with the next container as it was, without a QoS, and with one."""
+    whole = Field(octets, 0, None)
+    held = next(k for k in whole.kids if octets[k.start] == 0xAF)
+    parts = [{octets[k.start]: octets[k.start : k.end] for k in c.kids} for c in held.kids]
+
+    def with_parts(*edits):
+        new = [dict(part) for part in parts]
+        for i, tag, part in edits:
+            new[i][tag] = part
+        body = b"".join(tlv(0x30, b"".join(c.get(tag, b"") for tag in (0xA2, 0x83, 0x84, 0x85, 0x86))) for c in new)
+        return mended(octets, held, held.body, held.end, body)
+
+    for i, part in enumerate(parts):
+        own = part.get(0xA2) or own
+        other = own[:-1] + bytes([(own[-1] + 1) % 19])
+        if 0xA2 in part:
+            yield "QoS left out", with_parts((i, 0xA2, b""))
+        else:
+            yield "QoS put in", with_parts((i, 0xA2, own))
+            yield "QoS put in", with_parts((i, 0xA2, other))
+        if i + 1 == len(parts):
+            return
+        if 0xA2 in part:
+            yield "QoS moved on", with_parts((i, 0xA2, b""), (i + 1, 0xA2, own))
+        turned = i, 0x85, part[0x85][:2] + bytes([1 - part[0x85][2]])
+        yield "condition turned", with_parts(turned)
+        for new in (b"", own, other):
+            yield "condition turned", with_parts(turned, (i + 1, 0xA2, new))
+
+
 def twice(rng, octets, count):
     """Two octets changed, or an octet of a record with a damaged field."""
     for _ in range(count):
@@ -242,7 +274,7 @@ def noise(rng, count):
 
 def damaged(rng, sample, bases, full, whole):
     """(damage, octets), no octets twice: `sample` in every way, `bases` in several;
-    of the `full` ones, with fifteen containers, the containers only."""
+    of the `full` ones, with fifteen containers, the containers and their QoS only."""
     made = {}
 
     def keep(pairs):
@@ -259,10 +291,12 @@ def damaged(rng, sample, bases, full, whole):
         keep(after(base))
         keep(fields(base))
         keep(containers(base))
+        keep(profiles(base))
         keep(twice(rng, base, 800 if whole else 80))
         keep(across(rng, base, rng.choice(bases or [sample]), 400 if whole else 40))
     for base in full:
         keep(containers(base))
+        keep(profiles(base))
     for base in [sample] + bases + full:
         made.pop(base, None)
     return [(name, octets) for octets, name in made.items()]

@@ -159,6 +159,27 @@ def number_before_cause(octets):
     return mended(octets, cause.parent, cause.start, number.end, new)
 
 
+def with_profiles(octets, choose):
+    """The A2 of each container as `choose` wants it, by the A2 there (empty for none), the last one before it, and
+    the condition of the container before (None in the first)."""
+    held, body, last, condition = fields(octets, 0xAF)[0], b"", b"", None
+    for c in held.kids:
+        head = c.kids[0]
+        own = octets[head.start : head.end] if octets[head.start] == 0xA2 else b""
+        new = choose(own, last, condition)
+        body += octets[c.start : c.end] if new == own else tlv(0x30, new + octets[c.body + len(own) : c.end])
+        last, condition = own or last, next(octets[k.body] for k in c.kids if octets[k.start] == 0x85)
+    return octets if body == octets[held.body : held.end] else mended(octets, held, held.body, held.end, body)
+
+
+def every_profile(octets):
+    return with_profiles(octets, lambda own, last, condition: own or last)
+
+
+def first_profile_only(octets):
+    return with_profiles(octets, lambda own, last, condition: own if condition is None else b"")
+
+
 # Edits of blocks
 
 
@@ -234,12 +255,25 @@ def any_true(octets):
 
 
 def fifteen(octets):
-    """The sixteenth container let go."""
+    """The sixteenth container let go: one that ended by tariff and has no QoS, which no other rule misses."""
     held = fields(octets, 0xAF)[0]
     if len(held.kids) != 16:
         return octets
-    first = held.kids[0]
-    return mended(octets, held, first.start, first.end, b"")
+    spare = next(c for c in held.kids if octets[c.body] != 0xA2 and octets[c.start : c.end].find(b"\x85\x01\x01") > 0)
+    return mended(octets, held, spare.start, spare.end, b"")
+
+
+def no_spare_profile(octets):
+    return with_profiles(octets, lambda own, last, condition: own if condition in (None, 0) else b"")
+
+
+OTHERS = [tlv(0xA2, b"".join(tlv(0x80 + i, bytes([x])) for i in range(5))) for x in (0, 1)]
+
+
+def any_profile(octets):
+    """Some profile where one is missing."""
+    other = lambda last: OTHERS[last == OTHERS[0]]
+    return with_profiles(octets, lambda own, last, condition: own or (other(last) if condition in (None, 0) else b""))
 
 
 def short_lengths(octets):
@@ -272,6 +306,18 @@ def swapped_back(octets, line):
     return line if line == "20" else swapped_volumes(bytes.fromhex(line)).hex().upper()
 
 
+def first_profile_throughout(octets, line):
+    """A QoS that is not written filled in from the first container."""
+    if line == "20":
+        return line
+    block = bytes.fromhex(line)
+    places = [block[i : i + PLACE.size] for i in range(HEAD.size, SIZE, PLACE.size)]
+    for i in range(1, block[HEAD.size - 1]):
+        if places[i - 1][21] == 1:
+            places[i] = places[0][:5] + places[i][5:]
+    return (block[: HEAD.size] + b"".join(places)).hex().upper()
+
+
 def other_digit(octets, line):
     """The sixth digit of the IMSI one higher, or 0 after 9."""
     return line if line == "20" else line[:6] + str((int(line[6]) + 1) % 10) + line[7:]
@@ -300,6 +346,8 @@ FAULTS = [
     Fault("uplink and downlink swapped by writer and reader alike", OCTETS | {DAMAGED}, block=swapped_volumes, read=swapped_back),
     Fault("delay and precedence swapped", OCTETS | {BACK}, block=swapped_qos),
     Fault("SGSN and GGSN address swapped", OCTETS | {BACK}, block=swapped_addresses),
+    Fault("the QoS in the first container only", OCTETS | {BACK}, written=in_line(first_profile_only)),
+    Fault("the QoS in every container", OCTETS | {BACK}, written=in_line(every_profile)),
     Fault("number 1 on a sole record", OCTETS, written=in_line(number_on_sole)),
     Fault("duration one too high", OCTETS, written=in_line(longer_duration)),
     Fault("length 128 in one octet", OCTETS, written=in_line(length_128)),
@@ -318,9 +366,12 @@ FAULTS = [
     Fault("the reader takes any duration", {DAMAGED}, octets=if_sound(right_duration)),
     Fault("the reader takes TRUE as 01", {DAMAGED}, octets=if_sound(any_true)),
     Fault("the reader takes a sixteenth container", {DAMAGED}, octets=if_sound(fifteen)),
+    Fault("the reader takes a QoS too many", {DAMAGED}, octets=if_sound(no_spare_profile)),
+    Fault("the reader takes containers without a QoS", {DAMAGED}, octets=if_sound(any_profile)),
     Fault("the reader takes long-form lengths", {DAMAGED}, octets=if_sound(short_lengths)),
     Fault("the reader takes the offset 2D 00 00", {DAMAGED}, octets=if_sound(plus_zero)),
     Fault("the reader takes a limit's record without its number", {DAMAGED}, octets=if_sound(any_cause), read=without_its_number),
+    Fault("the reader fills the QoS in from the first container", {BACK}, read=first_profile_throughout),
     Fault("the reader answers another IMSI digit", {BACK, DAMAGED}, read=other_digit),
     Fault("the reader answers numbers in 32 bits", {BACK, DAMAGED}, read=other_number),
     Fault("the reader refuses fifteen containers", {BACK}, read=no_full_list),

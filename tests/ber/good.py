@@ -18,6 +18,7 @@ RECORD_NUMBERS = sorted({1, 2, 3, NUMBERS - 1, NUMBERS} | {
     if 2 <= v <= NUMBERS})
 DURATIONS = [0, 1, 127, 128, 255, 256, 32767, 32768, 65535, 65536, 2**23 - 1, 2**23, 2**24 - 1,
              2**24, 2**31 - 1, 2**31, LAST - 1, LAST]
+CONDITIONS = {"condition 0 alone": {0}, "condition 1 alone": {1}, "conditions 0 and 1": {0, 1}}
 ZONES = [0, 1, 59, 60, 61, 719, 720, 721, 779, 780, 1559, 1560]
 ADDRESSES = [bytes(4), b"\xff" * 4, b"\x80\x04\x00\x00", b"\x0a\x00\x00\x01", b"\x7f\xff\xff\xff"]
 
@@ -84,10 +85,15 @@ def spread(rng, containers, octets):
         c.uplink, c.downlink = of_octets(rng, sizes.pop()), of_octets(rng, sizes.pop())
 
 
-def record(rng, *, containers=None, opening=None, duration=None, times=None, zone=None, cause=None,
-           number=None, change=None, apn_length=None, node_id_length=None, imsi_digits=None,
+def record(rng, *, containers=None, conditions=None, opening=None, duration=None, times=None, zone=None,
+           cause=None, number=None, change=None, apn_length=None, node_id_length=None, imsi_digits=None,
            uplink=None, downlink=None, volume_octets=None, qos=None, **others):
+    """`conditions` are those of all containers but the last."""
+    if conditions is not None:
+        containers = len(conditions) + 1
     count = containers or (len(times) if times else rng.choice((1, 1, 1, 1, 2, 2, 3, 3, 4, 5, 7, 15)))
+    if conditions is None:
+        conditions = rng.choices(rng.choice(((0,), (1,), (0, 1), (0, 1))), k=count - 1)
     if times:
         opening = times[0] if opening is None else opening
     else:
@@ -95,8 +101,7 @@ def record(rng, *, containers=None, opening=None, duration=None, times=None, zon
     zone = rng.choice((rng.choice(ZONES), 720, rng.randint(0, 1560))) if zone is None else zone
 
     held = []
-    for i in range(count):
-        condition = rng.randrange(2) if i < count - 1 else 2
+    for i, condition in enumerate([*conditions, 2]):
         before = held[-1] if held else None
         held.append(Container(
             qos=profile(rng, before.qos, before.condition == 1) if before else qos or profile(rng),
@@ -179,11 +184,18 @@ def boundaries():
         for x in range(top + 1):
             yield {"qos": tuple(x if i == place else 0 for i in range(5)), "containers": 1}
             yield {"qos": tuple(x if i == place else t for i, t in enumerate(TOPS))}
-    # Lengths in one, two and three octets. A container is 37 octets and its volumes.
-    for n, lengths in ((3, range(125, 131)), (6, range(253, 259))):
-        yield from ({"containers": n, "volume_octets": x - 37 * n} for x in lengths for _ in range(5))
-    yield {"containers": 15, "volume_octets": 180, "apn_length": 63, "node_id_length": 20, "imsi_digits": 15,
-           "charging_id": 2**32 - 1, "number": NUMBERS, "network": 1, "opening": 0, "duration": LAST}
+    # Lengths in one, two and three octets. A container is 37 octets and its volumes, after condition 1 it is 20.
+    for lengths, lists in ((range(125, 131), ((0, 0), (1, 1, 1), (1, 0, 1))),
+                           (range(253, 259), ((0,) * 5, (1,) * 7, (0, 1, 0, 1, 0, 1)))):
+        yield from ({"conditions": c, "volume_octets": x - 37 * (len(c) + 1) + 17 * c.count(1)}
+                    for c in lists for x in lengths for _ in range(2))
+    # The profile new everywhere, nowhere, by turns, and at one place of fifteen, or not new there.
+    for n in range(1, 15):
+        yield from ({"conditions": c} for c in ((0,) * n, (1,) * n, ((0, 1) * n)[:n], ((1, 0) * n)[:n]))
+        yield from ({"conditions": (x,) * (n - 1) + (1 - x,) + (x,) * (14 - n)} for x in (0, 1))
+    for x in (0, 1):
+        yield {"conditions": (x,) * 14, "volume_octets": 180, "apn_length": 63, "node_id_length": 20, "imsi_digits": 15,
+               "charging_id": 2**32 - 1, "number": NUMBERS, "network": 1, "opening": 0, "duration": LAST}
     yield {"containers": 1, "volume_octets": 2, "apn_length": 1, "node_id_length": 0, "imsi_digits": 6,
            "charging_id": 0, "number": 0, "network": 0, "change": 0, "duration": 0}
     yield from ({"apn_length": n} for n in range(1, 64))
@@ -201,8 +213,9 @@ def sweeps():
 
 def stretched(rng):
     """Records that grow by an octet, past 127/128 and past 255/256 octets inside."""
-    for n in (1, 4):
-        base = record(rng, containers=n, volume_octets=3 * n, node_id_length=0, duration=0)
+    for conditions in ((), (0,) * 3, (1,) * 5):
+        octets = 3 * len(conditions) + 3
+        base = record(rng, conditions=conditions, volume_octets=octets, node_id_length=0, duration=0)
         for size in range(1, 64):
             yield copy(base, apn_length=size, apn=filled(bytes(rng.choices(APN_LETTERS, k=size)), 63))
 
@@ -231,6 +244,8 @@ def wanted(r, length, list_length):
     yield f"IMSI of {sum(h < 10 for o in r.imsi for h in (o & 15, o >> 4))} digits"
     yield f"node ID of {r.node_id_length}"
     yield f"{r.count} containers"
+    seen = {x.condition for x in c[:-1]}
+    yield from (f"{r.count} containers with {name}" for name, held in CONDITIONS.items() if seen == held)
     yield f"cause {r.cause} and {'no' if r.number == 0 else 'the first' if r.number == 1 else 'a later'} number"
     yield f"SGSN change {r.change} with cause {r.cause}"
     yield f"offset {r.zone - 720}"
@@ -245,6 +260,7 @@ def all_wanted():
     names += [f"number {x}" for x in RECORD_NUMBERS] + [f"duration {x}" for x in DURATIONS]
     names += [f"APN of {n}" for n in range(1, 64)] + [f"IMSI of {n} digits" for n in range(6, 16)]
     names += [f"node ID of {n}" for n in range(21)] + [f"{n} containers" for n in range(1, 16)]
+    names += [f"{n} containers with {name}" for name, held in CONDITIONS.items() for n in range(len(held) + 1, 16)]
     names += [f"cause {c} and {n} number" for c in RELEASES for n in ("no", "a later")]
     names += [f"cause {c} and {n} number" for c in CLOSINGS for n in ("the first", "a later")]
     names += [f"SGSN change {x} with cause {c}" for x in (0, 1) for c in RELEASES + CLOSINGS]

@@ -5,7 +5,7 @@ forms; `wrong_values` gives values that Erlang can encode, for the reader.
 """
 
 import values
-from good import APN_LETTERS, CLOSINGS, PRINTED, TOPS, record
+from good import APN_LETTERS, CLOSINGS, PRINTED, TOPS, profile, record
 from plain import BLANK, PLACES, copy
 from rules import LAST, NUMBERS, RELEASES, broken, broken_values, digits
 
@@ -205,7 +205,8 @@ def simply(name, choices):
     return break_it
 
 
-# What is broken, the breaker, and whether values of SCDR.asn1 can say it.
+# What is broken, the breaker, and whether values of SCDR.asn1 can say it. (A QoS that differs after condition 1
+# is not written; where it is all the same, it is one too many.)
 BREAKERS = [
     ("network initiation is 0 or 1", simply("network", (2, 3, 128, 255)), False),
     ("IMSI has 6 to 15 digits", few_digits, False),
@@ -238,7 +239,7 @@ BREAKERS = [
     ("container times are at most the last second of 2099", late_time, False),
     ("one offset throughout", other_zone, True),
     ("QoS differs after condition 0", same_after_0, True),
-    ("QoS is the same after condition 1", other_after_1, True),
+    ("QoS is the same after condition 1", other_after_1, False),
     # No container can follow a late opening in order and in range: two at once.
     ("opening is at most the last second of 2099; times do not fall, from the opening on",
      late_opening, False),
@@ -262,20 +263,43 @@ def put_in_container(name, *choices):
     return break_it
 
 
-def no_qos(rng, f):
-    del rng.choice(f["listOfTrafficVolumes"])["qosNegotiated"]
+def later(rng, f, condition):
+    """A container after one that ended with the condition, and the profile in force before it."""
+    held = f["listOfTrafficVolumes"]
+    i = rng.choice([i for i, c in enumerate(held[:-1]) if c["changeCondition"] == condition])
+    return held[i + 1], next(c["qosNegotiated"] for c in held[i::-1] if "qosNegotiated" in c)
+
+
+def no_first_qos(rng, f):
+    del f["listOfTrafficVolumes"][0]["qosNegotiated"]
+
+
+def no_qos_after_0(rng, f):
+    del later(rng, f, "qoSChange")[0]["qosNegotiated"]
+
+
+def same_qos_again(rng, f):
+    c, before = later(rng, f, "tariffTime")
+    c["qosNegotiated"] = before
+
+
+def other_qos_again(rng, f):
+    """As after a condition 0, but after a condition 1."""
+    c, before = later(rng, f, "tariffTime")
+    c["qosNegotiated"] = values.of_qos(profile(rng, values.to_qos(before)))
 
 
 def requested(rng, f):
-    c = rng.choice(f["listOfTrafficVolumes"])
-    c["qosRequested"] = c["qosNegotiated"]
+    held = f["listOfTrafficVolumes"]
+    rng.choice(held)["qosRequested"] = held[0]["qosNegotiated"]
 
 
 def sixteen(rng, f):
-    """More of a container that ended by tariff: all else stays within the rules."""
+    """More of a container that ended by tariff, each with the QoS it has: all else stays within the rules."""
     held = f["listOfTrafficVolumes"]
     i = rng.choice([i for i, c in enumerate(held) if c["changeCondition"] == "tariffTime"])
-    held[i:i] = [held[i]] * (rng.choice((16, 16, 17, 40)) - len(held))
+    more = {name: value for name, value in held[i].items() if name != "qosNegotiated"}
+    held[i + 1 : i + 1] = [more] * (rng.choice((16, 16, 17, 40)) - len(held))
 
 
 def padded_imsi(rng, f):
@@ -327,7 +351,10 @@ VALUE_BREAKERS = [
     ("served address is four binary octets", put("servedPDPAddress", ["iPAddress", IPV6], ["iPAddress", TEXT], ["iPAddress", TEXT6], ["eTSIAddress", "x:0A000001"])),
     ("at most 15 containers", sixteen),
     ("no container has the QoS requested", requested),
-    ("every container has its QoS", no_qos),
+    ("the first container has its QoS", no_first_qos),
+    ("a container after condition 0 has its QoS", no_qos_after_0),
+    ("no other container has a QoS", same_qos_again),
+    ("no other container has a QoS", other_qos_again),
     ("time stamps are BCD", stamped((0, "A"), (1, "F"), (2, "0A"), (5, "B"), (7, "A"), (9, "C"), (11, "F"), (17, "A"), (19, "F"))),
     ("dates and times of day exist", stamped((2, "00"), (2, "13"), (2, "20"), (4, "00"), (2, "0230"), (0, "010229"), (2, "0431"), (4, "32"), (6, "24"), (8, "60"), (10, "60"), (10, "99"))),
     ("a time stamp's sign is 2B or 2D", stamped((12, "2C"), (12, "00"), (12, "2A"), (12, "FF"))),

@@ -2,7 +2,8 @@
 
 `broken` works on the plain form; `broken_values` on the values that Erlang
 decoded, which can say more than the plain form holds. Written from document
-01, not from our program.
+01, and from W1 of the requests for which container has its QoS, not from our
+program.
 """
 
 import values
@@ -70,6 +71,8 @@ def rules(r):
 def value_rules(f):
     """Of the fields `f` of an S-CDR: what the plain form cannot even hold."""
     containers = f["listOfTrafficVolumes"]
+    with_qos = ["qosNegotiated" in c for c in containers]
+    after_0 = [c["changeCondition"] == "qoSChange" for c in containers[:-1]]
     wrong = values.stamp_faults(f)
     return [
         ("record type is 18", f["recordType"] == "sgsnPDPRecord"),
@@ -86,7 +89,9 @@ def value_rules(f):
         ("served address is four binary octets", values.served(f["servedPDPAddress"]) is not None),
         ("at most 15 containers", len(containers) <= 15),
         ("no container has the QoS requested", not any("qosRequested" in c for c in containers)),
-        ("every container has its QoS", all("qosNegotiated" in c for c in containers)),
+        ("the first container has its QoS", all(with_qos[:1])),
+        ("a container after condition 0 has its QoS", all(has for new, has in zip(after_0, with_qos[1:]) if new)),
+        ("no other container has a QoS", not any(has for new, has in zip(after_0, with_qos[1:]) if not new)),
         ("time stamps are BCD", "digit" not in wrong),
         ("dates and times of day exist", "date" not in wrong),
         ("a time stamp's sign is 2B or 2D", "sign" not in wrong),

@@ -123,14 +123,21 @@ def of_imsi(imsi):
     return hexed(imsi.rstrip(b"\xff"))
 
 
-def of_container(c):
-    return {
-        "qosNegotiated": {name: names[x] for (name, names), x in zip(QOS.items(), c.qos)},
+def of_qos(qos):
+    return {name: names[x] for (name, names), x in zip(QOS.items(), qos)}
+
+
+def of_container(c, before):
+    """With its QoS where it is new: in the first, and after condition 0."""
+    fields = {
         "dataVolumeGPRSUplink": c.uplink,
         "dataVolumeGPRSDownlink": c.downlink,
         "changeCondition": CONDITIONS[c.condition],
         "changeTime": stamp(c.time, c.zone),
     }
+    if before is None or before.condition == 0:
+        fields["qosNegotiated"] = of_qos(c.qos)
+    return fields
 
 
 def of_record(r):
@@ -144,7 +151,7 @@ def of_record(r):
         "accessPointName": "s:" + r.apn[: r.apn_length].hex().upper(),
         "pdpType": hexed(r.pdp_type),
         "servedPDPAddress": ["iPAddress", of_address(r.address)],
-        "listOfTrafficVolumes": [of_container(c) for c in containers],
+        "listOfTrafficVolumes": [of_container(c, before) for before, c in zip([None] + containers, containers)],
         "recordOpeningTime": stamp(r.opening, r.zone),
         "duration": containers[-1].time - r.opening,
         "causeForRecClosing": CAUSE_NAMES.get(r.cause, r.cause),
@@ -160,10 +167,15 @@ def of_record(r):
     return ["sgsnPDPRecord", fields]
 
 
-def to_container(c):
+def to_qos(fields):
+    return tuple(names.index(fields[name]) for name, names in QOS.items())
+
+
+def to_container(c, before):
+    """Without a QoS of its own it has that of the container before."""
     time, zone = moment(c["changeTime"])
     return Container(
-        qos=tuple(names.index(c["qosNegotiated"][name]) for name, names in QOS.items()),
+        qos=to_qos(c["qosNegotiated"]) if "qosNegotiated" in c else before.qos,
         uplink=c["dataVolumeGPRSUplink"],
         downlink=c["dataVolumeGPRSDownlink"],
         condition=CONDITIONS.index(c["changeCondition"]),
@@ -177,7 +189,9 @@ def to_record(fields):
     apn = octets(fields["accessPointName"])
     node_id = octets(fields.get("nodeID", "s:"))
     opening, zone = moment(fields["recordOpeningTime"])
-    containers = [to_container(c) for c in fields["listOfTrafficVolumes"]]
+    containers = []
+    for c in fields["listOfTrafficVolumes"]:
+        containers.append(to_container(c, containers[-1] if containers else None))
     cause = fields["causeForRecClosing"]
     return Record(
         network=int("networkInitiation" in fields),
