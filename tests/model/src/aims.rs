@@ -56,6 +56,10 @@ const NAMES: &[&str] = &[
     "change limit 1 met",
     "change limit 15 met",
     "record of 15 containers",
+    "record of several containers with condition 0 alone",
+    "record of several containers with condition 1 alone",
+    "record of 15 containers with conditions 0 and 1",
+    "QoS left out that is not the first container's",
     "QoS to the same profile",
     "tariff that closes one context and not another",
     "tick that closes one context and not another",
@@ -422,10 +426,18 @@ impl Aims {
         *self.causes.entry(record.cause).or_default() += 1;
         let profile = &node.profile;
         self.met("record of 15 containers", record.containers.len() == 15);
+        let (last, earlier) = record.containers.split_last().unwrap();
+        let has = |condition: u8| earlier.iter().any(|c| c.condition == condition);
+        self.met("record of several containers with condition 0 alone", has(0) && !has(1));
+        self.met("record of several containers with condition 1 alone", has(1) && !has(0));
+        let both = has(0) && has(1);
+        self.met("record of 15 containers with conditions 0 and 1", earlier.len() == 14 && both);
+        let left_out = earlier.iter().any(|c| c.condition == 1 && c.qos != earlier[0].qos);
+        self.met("QoS left out that is not the first container's", left_out);
         let big = |v: u64| v >= 1 << 32;
         let volume = record.containers.iter().any(|c| big(c.uplink) || big(c.downlink));
         self.met("a volume of 2^32 or more in a container", volume);
-        let time = record.containers.last().unwrap().time;
+        let time = last.time;
         let (year, month, day) = clock::date(time / 86_400, Fault::None);
         self.met("record on 29 February 2000", (year, month, day) == (2000, 2, 29));
         self.met("record on another 29 February", year > 2000 && (month, day) == (2, 29));

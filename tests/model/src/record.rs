@@ -77,10 +77,26 @@ fn qos(qos: &Qos, fault: Fault) -> Vec<u8> {
     field(0xA2, &parts, fault)
 }
 
+/// W1: "A later container carries A2 exactly when the one before ended with
+/// condition 0"; the first always does.
+fn has_qos(before: Option<&Container>, fault: Fault) -> bool {
+    match (before, fault) {
+        (None, _) | (_, Fault::QosEverywhere) => true,
+        (_, Fault::QosInFirstOnly) => false,
+        (Some(before), Fault::QosAfterTariff) => before.condition == 1,
+        (Some(before), _) => before.condition == 0,
+    }
+}
+
 /// "A container: 30; A2 ..; 83 uplink; 84 downlink; 85 condition; 86 time."
-fn container(container: &Container, offset: i32, fault: Fault) -> Vec<u8> {
+fn container(
+    before: Option<&Container>,
+    container: &Container,
+    offset: i32,
+    fault: Fault,
+) -> Vec<u8> {
     let contents = [
-        qos(&container.qos, fault),
+        if has_qos(before, fault) { qos(&container.qos, fault) } else { Vec::new() },
         field(0x83, &integer(container.uplink), fault),
         field(0x84, &integer(container.downlink), fault),
         field(0x85, &[container.condition], fault),
@@ -141,8 +157,12 @@ pub fn octets(record: &Record, fault: Fault) -> Vec<u8> {
     inside.extend(f(0x8C, &record.apn));
     inside.extend(f(0x8D, &record.pdp_type));
     inside.extend(f(0xAE, &served_address(&record.address, fault)));
-    let containers: Vec<u8> =
-        record.containers.iter().flat_map(|c| container(c, record.offset, fault)).collect();
+    let mut containers = Vec::new();
+    let mut before = None;
+    for each in &record.containers {
+        containers.extend(container(before, each, record.offset, fault));
+        before = Some(each);
+    }
     inside.extend(f(0xAF, &containers));
     inside.extend(f(0x90, &time_stamp(record.opened, record.offset, fault)));
     inside.extend(f(0x91, &integer(duration(record, fault))));

@@ -118,18 +118,25 @@ fn common(found: &Values, opened: &str, duration: &[u8]) {
     assert_eq!(found.get(0x91), duration);
 }
 
+/// The QoS is to stand in the first container, and after condition 0.
 fn containers(found: &Values, expected: &[(&[u8; 5], &[u8], &[u8], u8, &str)]) {
     let list = values(found.get(0xAF));
     assert_eq!(list.0.len(), expected.len());
+    let mut before = 0;
     for ((tag, contents), (qos, up, down, condition, time)) in list.0.iter().zip(expected) {
         assert_eq!(*tag, 0x30);
         let parts = values(contents);
-        assert_eq!(parts.tags(), [0xA2, 0x83, 0x84, 0x85, 0x86]);
-        let levels = values(parts.get(0xA2));
-        assert_eq!(levels.tags(), [0x80, 0x81, 0x82, 0x83, 0x84]);
-        for (at, level) in levels.0.iter().enumerate() {
-            assert_eq!(level.1, [qos[at]]);
+        if before == 0 {
+            assert_eq!(parts.tags(), [0xA2, 0x83, 0x84, 0x85, 0x86]);
+            let levels = values(parts.get(0xA2));
+            assert_eq!(levels.tags(), [0x80, 0x81, 0x82, 0x83, 0x84]);
+            for (at, level) in levels.0.iter().enumerate() {
+                assert_eq!(level.1, [qos[at]]);
+            }
+        } else {
+            assert_eq!(parts.tags(), [0x83, 0x84, 0x85, 0x86]);
         }
+        before = *condition;
         assert_eq!(parts.get(0x83), *up);
         assert_eq!(parts.get(0x84), *down);
         assert_eq!(parts.get(0x85), [*condition]);
@@ -409,9 +416,8 @@ fn profile_text_both_ways() {
     }
 }
 
-/// "No record passes 1,024 octets."
-#[test]
-fn largest_record() {
+/// A record of fifteen containers, as long as the changes let it be.
+fn record_of_15(change: fn(usize, Name) -> What) -> Vec<u8> {
     let profile = Profile {
         volume_limit: 1_000_000_000_000,
         change_limit: 15,
@@ -423,12 +429,61 @@ fn largest_record() {
     let start = Start { flags: 3, apn: vec![b'z'; 63], ..start() };
     run.say(0, What::Activate(name, Box::new(start)));
     let mut output = Vec::new();
-    for _ in 0..15 {
+    for at in 0..15 {
         for _ in 0..3 {
             run.say(9, What::Traffic(name, u32::MAX, u32::MAX));
         }
-        output = run.say(9, What::Tariff);
+        output = run.say(9, change(at, name));
     }
-    assert!(output.len() - 2 <= 1024, "{}", output.len());
-    assert!(output.len() > 870, "{}", output.len());
+    output
+}
+
+/// "No record passes 1,024 octets."
+#[test]
+fn largest_record() {
+    let size = record_of_15(|at, name| What::Qos(name, [at as u8 % 2; 5])).len();
+    assert!(size - 2 <= 1024, "{size}");
+    assert!(size > 870, "{size}");
+}
+
+/// Fourteen profiles of 17 octets are not written.
+#[test]
+fn largest_record_without_qos_changes() {
+    let with = record_of_15(|at, name| What::Qos(name, [at as u8 % 2; 5]));
+    let without = record_of_15(|_, _| What::Tariff);
+    assert_eq!(without.len(), with.len() - 14 * 17);
+    let list = values(values(body(&without)).get(0xAF));
+    assert_eq!(list.0.len(), 15);
+    for (at, (_, contents)) in list.0.iter().enumerate() {
+        assert_eq!(values(contents).tags().contains(&0xA2), at == 0);
+    }
+}
+
+/// A QoS change between tariffs: "the reader fills the rest in from the last
+/// one written".
+#[test]
+fn qos_only_where_it_is_new() {
+    let other = [5, 0, 0, 9, 18];
+    let mut run = Run::with(Profile { change_limit: 15, ..profile() }, start());
+    assert_eq!(run.say(1, What::Tariff), []);
+    assert_eq!(run.say(2, What::Qos(NAME, other)), []);
+    assert_eq!(run.say(3, What::Tariff), []);
+    assert_eq!(run.say(3, What::Tariff), []);
+    assert_eq!(run.say(4, What::Qos(NAME, QOS)), []);
+    let output = run.say(5, What::Release(NAME, 0));
+    let found = values(body(&output));
+    containers(
+        &found,
+        &[
+            (&QOS, &[0], &[0], 1, "00 01 01 00 00 01 2B 00 00"),
+            (&QOS, &[0], &[0], 0, "00 01 01 00 00 02 2B 00 00"),
+            (&other, &[0], &[0], 1, "00 01 01 00 00 03 2B 00 00"),
+            (&other, &[0], &[0], 1, "00 01 01 00 00 03 2B 00 00"),
+            (&other, &[0], &[0], 0, "00 01 01 00 00 04 2B 00 00"),
+            (&QOS, &[0], &[0], 2, "00 01 01 00 00 05 2B 00 00"),
+        ],
+    );
+    let list = values(found.get(0xAF));
+    let written: Vec<bool> = list.0.iter().map(|c| values(c.1).tags().contains(&0xA2)).collect();
+    assert_eq!(written, [true, false, true, false, false, true]);
 }
