@@ -218,18 +218,27 @@ static uint8_t *put_stamp(uint8_t *p, uint8_t tag, struct charging_stamp t) {
     return p + 9;
 }
 
-static size_t container_size(const struct charging_container *c) { return 17 + 2 + int_width(c->uplink) + 2 + int_width(c->downlink) + 3 + 11; }
+/* Whether the container at a place of the list has its QoS: where it is new. */
+static int has_qos(const struct charging_container *list, size_t i) { return i == 0 || list[i - 1].condition == 0; }
 
-static uint8_t *put_container(uint8_t *p, const struct charging_container *c) {
+static size_t container_size(const struct charging_container *list, size_t i) {
+    const struct charging_container *c = &list[i];
+    return (has_qos(list, i) ? 17 : 0) + 2 + int_width(c->uplink) + 2 + int_width(c->downlink) + 3 + 11;
+}
+
+static uint8_t *put_container(uint8_t *p, const struct charging_container *list, size_t i) {
+    const struct charging_container *c = &list[i];
     *p++ = 0x30;
-    *p++ = (uint8_t)container_size(c);
-    *p++ = 0xA2;
-    *p++ = 15;
-    p = put_octet(p, 0x80, c->qos.reliability);
-    p = put_octet(p, 0x81, c->qos.delay);
-    p = put_octet(p, 0x82, c->qos.precedence);
-    p = put_octet(p, 0x83, c->qos.peak);
-    p = put_octet(p, 0x84, c->qos.mean);
+    *p++ = (uint8_t)container_size(list, i);
+    if (has_qos(list, i)) {
+        *p++ = 0xA2;
+        *p++ = 15;
+        p = put_octet(p, 0x80, c->qos.reliability);
+        p = put_octet(p, 0x81, c->qos.delay);
+        p = put_octet(p, 0x82, c->qos.precedence);
+        p = put_octet(p, 0x83, c->qos.peak);
+        p = put_octet(p, 0x84, c->qos.mean);
+    }
     p = put_int(p, 0x83, c->uplink);
     p = put_int(p, 0x84, c->downlink);
     p = put_octet(p, 0x85, c->condition);
@@ -240,7 +249,7 @@ static uint32_t duration(const struct plain_record *r) { return r->containers[r-
 
 static size_t list_size(const struct plain_record *r) {
     size_t n = 0;
-    for (size_t i = 0; i < r->count; i++) n += 2 + container_size(&r->containers[i]);
+    for (size_t i = 0; i < r->count; i++) n += 2 + container_size(r->containers, i);
     return n;
 }
 
@@ -278,7 +287,7 @@ static uint8_t *put_record(uint8_t *p, const struct plain_record *r) {
     p = put_address(p, 0xA0, r->address);
     *p++ = 0xAF;
     p = put_len(p, list);
-    for (size_t i = 0; i < r->count; i++) p = put_container(p, &r->containers[i]);
+    for (size_t i = 0; i < r->count; i++) p = put_container(p, r->containers, i);
     p = put_stamp(p, 0x90, r->opening);
     p = put_int(p, 0x91, duration(r));
     if (r->change) p = put_octet(p, 0x92, 0xFF);
@@ -375,11 +384,22 @@ static int get_stamp(struct cursor *c, uint8_t tag, struct charging_stamp *t) {
     return part(c, tag, &in) && in.end - in.p == 9 && stamp_of(in.p, t);
 }
 
-static int get_container(struct cursor *c, struct charging_container *v) {
-    struct cursor in, q;
-    return part(c, 0x30, &in) && part(&in, 0xA2, &q) && get_octet(&q, 0x80, &v->qos.reliability) && get_octet(&q, 0x81, &v->qos.delay)
-        && get_octet(&q, 0x82, &v->qos.precedence) && get_octet(&q, 0x83, &v->qos.peak) && get_octet(&q, 0x84, &v->qos.mean)
-        && q.p == q.end && get_int(&in, 0x83, &v->uplink) && get_int(&in, 0x84, &v->downlink) && get_octet(&in, 0x85, &v->condition)
+static int get_qos(struct cursor *c, struct charging_qos *v) {
+    struct cursor q;
+    return part(c, 0xA2, &q) && get_octet(&q, 0x80, &v->reliability) && get_octet(&q, 0x81, &v->delay) && get_octet(&q, 0x82, &v->precedence)
+        && get_octet(&q, 0x83, &v->peak) && get_octet(&q, 0x84, &v->mean) && q.p == q.end;
+}
+
+/* The container at a place of the list. Where its QoS is not new, it is that of the container before, and does not stand there. */
+static int get_container(struct cursor *c, struct charging_container *list, size_t i) {
+    struct charging_container *v = &list[i];
+    struct cursor in;
+    if (!part(c, 0x30, &in)) return 0;
+    if (!has_qos(list, i))
+        v->qos = list[i - 1].qos;
+    else if (!get_qos(&in, &v->qos))
+        return 0;
+    return get_int(&in, 0x83, &v->uplink) && get_int(&in, 0x84, &v->downlink) && get_octet(&in, 0x85, &v->condition)
         && get_stamp(&in, 0x86, &v->time) && in.p == in.end;
 }
 
@@ -401,7 +421,7 @@ static int get_record(struct cursor *s, struct plain_record *r) {
     if (!part(&c, 0xAE, &in) || !get_address(&in, 0xA0, &r->address) || in.p != in.end) return 0;
     if (!part(&c, 0xAF, &in)) return 0;
     while (in.p < in.end) {
-        if (r->count == CHARGING_CONTAINERS || !get_container(&in, &r->containers[r->count])) return 0;
+        if (r->count == CHARGING_CONTAINERS || !get_container(&in, r->containers, r->count)) return 0;
         r->count++;
     }
     if (!get_stamp(&c, 0x90, &r->opening) || !get_int(&c, 0x91, &lasts) || !get_flag(&c, 0x92, &r->change)) return 0;
