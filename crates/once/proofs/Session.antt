@@ -13,6 +13,7 @@ use Rattle.calendar.specs.Month.{monthLen, seek, monthDay}
 use Rattle.calendar.specs.Stamp.{stampOk, stampEnc}
 use Rattle.container.specs.declared.Container.{Container}
 use Rattle.container.specs.Qos.{sameQos, qosOk}
+use Rattle.container.specs.Container.{isNew, told}
 use Rattle.container.specs.List.{noContainers, eachOk, oneOffset, isBlank, blanks}
 use Rattle.container.specs.Open.{midway, timesTo, qosRun, openOk, volumeOf}
 use Rattle.scdr.specs.declared.Record as scdr
@@ -123,5 +124,5 @@ unfolding activate traffic released printed be fillTo noContainers
     sound profileOk limitsOk nodeOk apnOk stampOk distinct slots.isActive isFree bears noneBears sameName
     context.fieldsOk unusedOk closedOk countOk containersOk volumeOk contextOk zeroOk slotOk slotsOk openOk eachOk midway oneOffset timesTo qosRun volumeOf isBlank blanks sameQos
     reported qosAfter changeOf closing opened numberFor recordOf goesOn closedBy afterClosing hearWith hear
-    layout.scdr layout.inside layout.body layout.ofRecord layout.fieldsOf duration lastTime tlvEnc lenEnc intEnc lowest imsiEnc stampEnc monthDay seek monthLen
+    layout.scdr layout.inside layout.body layout.ofRecord layout.fieldsOf duration lastTime tlvEnc lenEnc intEnc lowest imsiEnc stampEnc monthDay seek monthLen isNew told
 session-run = (refl, eqs-eq (outputs (freshNode session) calls) (0xC3 ∷ 0x5A ∷ printed) tt)
