@@ -2,16 +2,17 @@
 //! notices each. `Fault::None` is the model.
 
 macro_rules! faults {
-    ($($case:ident $name:literal $what:literal,)*) => {
+    ($kind:ident, $all:ident: $($case:ident $name:literal $what:literal,)*) => {
         #[derive(Clone, Copy, Debug, PartialEq, Eq)]
-        pub enum Fault { None, $($case),* }
+        pub enum $kind { None, $($case),* }
 
         /// Every fault with its name and what is wrong under it.
-        pub const FAULTS: &[(Fault, &str, &str)] = &[$((Fault::$case, $name, $what)),*];
+        pub const $all: &[($kind, &str, &str)] = &[$(($kind::$case, $name, $what)),*];
     };
 }
+pub(crate) use faults;
 
-faults! {
+faults! { Fault, FAULTS:
     VolumePassed "volume-passed" "closes when the sum passes the volume limit, not when it meets it",
     TimePassed "time-passed" "closes when the time limit is passed, not when it is met",
     ChangesPassed "changes-passed" "closes one change after the change limit",

@@ -7,6 +7,7 @@ pub mod clock;
 pub mod event;
 pub mod fault;
 pub mod node;
+pub mod nodes;
 pub mod profile;
 pub mod random;
 pub mod record;

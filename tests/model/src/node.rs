@@ -130,9 +130,10 @@ impl Node {
 }
 
 impl Context {
-    /// "uplink plus downlink since the record opened"
+    /// "uplink plus downlink since the record opened"; the greatest number
+    /// stands for all that are beyond.
     pub fn record_volume(&self) -> u64 {
-        let ended: u64 = self.containers.iter().map(|c| c.uplink + c.downlink).sum();
-        ended + self.uplink + self.downlink
+        let ended = self.containers.iter().flat_map(|c| [c.uplink, c.downlink]);
+        ended.chain([self.uplink, self.downlink]).fold(0, u64::saturating_add)
     }
 }

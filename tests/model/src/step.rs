@@ -114,8 +114,8 @@ pub fn output_too_long(node: &Node, event: &[u8], room: usize, fault: Fault) -> 
     needed > room
 }
 
-/// The number of the first row that applies.
-pub fn refusal(node: &Node, event: &[u8], room: usize, fault: Fault) -> Option<u8> {
+/// The number of the first row that applies, the first `passed` rows left out.
+fn refusal(passed: usize, node: &Node, event: &[u8], room: usize, fault: Fault) -> Option<u8> {
     let mut table = TABLE;
     let swapped = match fault {
         Fault::Swap2And3 => Some((2, 3)),
@@ -128,7 +128,8 @@ pub fn refusal(node: &Node, event: &[u8], room: usize, fault: Fault) -> Option<u
         let at = |number| TABLE.iter().position(|row| row.0 == number).unwrap();
         table.swap(at(one), at(other));
     }
-    table.iter().find(|(_, applies)| applies(node, event, room, fault)).map(|row| row.0)
+    let applies = |row: &&Row| row.1(node, event, room, fault);
+    table[passed..].iter().find(applies).map(|row| row.0)
 }
 
 // ---- the call ----
@@ -144,7 +145,17 @@ pub struct Step {
 /// "After 1..11, 13 and 24 any node, clock included, is as given, nothing is
 /// written .. Accepted: answer 0, output from the buffer's start"
 pub fn step(node: &Node, event: &[u8], room: usize, fault: Fault) -> Step {
-    if let Some(answer) = refusal(node, event, room, fault) {
+    step_past(0, node, event, room, fault)
+}
+
+/// The same of a node that is taken to be sound, whatever it holds: the rows
+/// after 13.
+pub fn step_of_sound(node: &Node, event: &[u8], room: usize, fault: Fault) -> Step {
+    step_past(1, node, event, room, fault)
+}
+
+fn step_past(passed: usize, node: &Node, event: &[u8], room: usize, fault: Fault) -> Step {
+    if let Some(answer) = refusal(passed, node, event, room, fault) {
         let mut step = Step { answer, node: node.clone(), output: Vec::new(), records: Vec::new() };
         spoil_refusal(&mut step, event, room, fault);
         return step;

@@ -1,0 +1,308 @@
+//! nodes make SEED ROUNDS CASES: writes a file of cases.
+//! nodes compare CASES RESULTS: what the library did against the rules.
+//! nodes faults CASES RESULTS EVERY: the same with faults planted, each Nth.
+
+use charging_model::calls::hex;
+use charging_model::fault;
+use charging_model::node::Node;
+use charging_model::nodes::breaks::BREAKERS;
+use charging_model::nodes::cases::{put_case, Case, File, Outcome, GUARD};
+use charging_model::nodes::counts::Counts;
+use charging_model::nodes::expected::expected;
+use charging_model::nodes::faults::{self, Fault};
+use charging_model::nodes::limits::LIMITS;
+use charging_model::nodes::runs;
+use charging_model::nodes::sound::{broken, is_sound, RULES};
+use charging_model::nodes::stored::{field_at, Stored, OCTETS};
+use charging_model::random::Random;
+use charging_model::step::step;
+use std::panic::{catch_unwind, set_hook};
+use std::process::ExitCode;
+
+// ---- making cases ----
+
+/// Runs of events a round, and pairs of breaks.
+const RUNS: usize = 4;
+const PAIRS: usize = 30;
+/// Nodes that breaks and limits begin from: those of the last runs.
+const POOL: usize = 400;
+
+struct Maker {
+    random: Random,
+    pool: Vec<Stored>,
+    file: Vec<u8>,
+}
+
+impl Maker {
+    /// A case of a node; the room follows from the output of a sound one.
+    fn put(&mut self, node: Stored, event: Vec<u8>) {
+        let random = &mut self.random;
+        let room = match is_sound(&node, Fault::None) {
+            true => runs::room(random, &node.view(), &event),
+            false => random.pick(&[0, 1, 113, 1024, runs::ROOM]),
+        };
+        let fill = random.octet();
+        put_case(&mut self.file, &Case { node, event, room, fill });
+    }
+
+    fn any(&mut self) -> Stored {
+        self.pool[self.random.below(self.pool.len() as u64) as usize].clone()
+    }
+
+    fn reached(&mut self) {
+        for _ in 0..RUNS {
+            for node in runs::run(&mut self.random) {
+                let stored = Stored::store(&node);
+                assert!(is_sound(&stored, Fault::None));
+                let event = runs::event(&mut self.random, &node);
+                self.put(stored.clone(), event);
+                self.pool.push(stored);
+            }
+        }
+        self.pool.drain(..self.pool.len().saturating_sub(POOL));
+    }
+
+    fn at_limits(&mut self) {
+        for limit in LIMITS {
+            let (node, event) = (0..10_000)
+                .find_map(|_| {
+                    let mut node = self.any();
+                    let event = (limit.reach)(&mut node, &mut self.random)?;
+                    Some((node, event))
+                })
+                .unwrap_or_else(|| panic!("no node comes to {}", limit.name));
+            assert!(is_sound(&node, Fault::None) && (limit.at)(&node), "{}", limit.name);
+            self.put(node, event);
+        }
+    }
+
+    fn broken_once(&mut self) {
+        for breaker in BREAKERS {
+            let (before, node) = (0..10_000)
+                .find_map(|_| {
+                    let before = self.any();
+                    let mut node = before.clone();
+                    (breaker.apply)(&mut node, &mut self.random)?;
+                    Some((before, node))
+                })
+                .unwrap_or_else(|| panic!("no node breaks {}: {}", breaker.rule, breaker.part));
+            let found = broken(&node, Fault::None);
+            let aim = |(rule, part): &(usize, &str)| {
+                RULES[*rule].name == breaker.rule && *part == breaker.part
+            };
+            assert!(found.iter().any(aim), "{}: {} is kept", breaker.rule, breaker.part);
+            let event = runs::event(&mut self.random, &before.view());
+            self.put(node, event);
+        }
+    }
+
+    /// The second break may undo the first, and may find no place.
+    fn broken_twice(&mut self) {
+        for _ in 0..PAIRS {
+            let before = self.any();
+            let mut node = before.clone();
+            let mut broken = 0;
+            while broken < 2 {
+                let breaker = &BREAKERS[self.random.below(BREAKERS.len() as u64) as usize];
+                let mut next = node.clone();
+                if (breaker.apply)(&mut next, &mut self.random).is_some() {
+                    node = next;
+                    broken += 1;
+                }
+            }
+            let event = runs::event(&mut self.random, &before.view());
+            self.put(node, event);
+        }
+    }
+
+    /// Whatever octets.
+    fn garbage(&mut self, round: usize) {
+        let mut octets = [0; OCTETS];
+        let all = match round % 4 {
+            0 => 0,
+            1 => 0xFF,
+            _ => self.random.octet(),
+        };
+        for octet in &mut octets {
+            *octet = if round % 4 == 3 { self.random.octet() } else { all };
+        }
+        let event = runs::event(&mut self.random, &Node::fresh(runs::profile(&mut Random::new(1))));
+        self.put(Stored::of_octets(&octets), event);
+    }
+}
+
+fn make(seed: u64, rounds: usize) -> Vec<u8> {
+    let mut maker = Maker { random: Random::new(seed), pool: Vec::new(), file: Vec::new() };
+    // so many that there is one of each sort
+    for _ in 0..20 {
+        maker.reached();
+    }
+    for round in 0..rounds {
+        maker.reached();
+        maker.at_limits();
+        maker.broken_once();
+        maker.broken_twice();
+        maker.garbage(round);
+    }
+    maker.file
+}
+
+// ---- comparing ----
+
+fn differ(one: &[u8], other: &[u8]) -> Option<usize> {
+    (0..one.len()).find(|at| one[*at] != other[*at])
+}
+
+/// What differs, in words.
+fn difference(expected: &Outcome, found: &Outcome) -> String {
+    if (expected.answer, expected.written) != (found.answer, found.written) {
+        return format!(
+            "answer {} and {} octets by the rules, {} and {} by the library",
+            expected.answer, expected.written, found.answer, found.written
+        );
+    }
+    if let Some(at) = differ(&expected.node, &found.node) {
+        return format!(
+            "answer {}, and the node differs in {}: {:02X} by the rules, {:02X} by the library",
+            found.answer,
+            field_at(at),
+            expected.node[at],
+            found.node[at]
+        );
+    }
+    let at = differ(&expected.area, &found.area).unwrap();
+    format!(
+        "answer {}, and the buffer differs at {}: {:02X} by the rules, {:02X} by the library",
+        found.answer,
+        at as i64 - GUARD as i64,
+        expected.area[at],
+        found.area[at]
+    )
+}
+
+fn in_words(case: &Case) -> String {
+    let broken = broken(&case.node, Fault::None);
+    let rules: Vec<String> =
+        broken.iter().map(|(rule, part)| format!("{} ({part})", RULES[*rule].name)).collect();
+    format!(
+        "  node   clock {}, {} events accepted, {} contexts; breaks: {}\n  event  {}\n  room   {}",
+        case.node.clock,
+        case.node.accepted,
+        case.node.active().count(),
+        if rules.is_empty() { "nothing".into() } else { rules.join(", ") },
+        hex(&case.event),
+        case.room
+    )
+}
+
+fn compare(cases: &[u8], results: &[u8]) -> bool {
+    let (mut cases, mut results) = (File(cases), File(results));
+    let mut counts = Counts::default();
+    let (mut same, mut differing) = (0, 0);
+    while !cases.is_empty() {
+        let case = cases.case().expect("a file of cases");
+        let Some(found) = results.result(&case) else {
+            println!("case {}: no result", counts.cases + 1);
+            differing += 1;
+            break;
+        };
+        let expected = expected(&case, Fault::None);
+        let sound = is_sound(&case.node, Fault::None);
+        let done =
+            sound.then(|| step(&case.node.view(), &case.event, case.room, fault::Fault::None));
+        counts.add(&case, expected.answer, done.as_ref());
+        if expected == found {
+            same += 1;
+            continue;
+        }
+        differing += 1;
+        if differing == 1 {
+            println!("case {}: {}", counts.cases, difference(&expected, &found));
+            println!("{}", in_words(&case));
+        }
+    }
+    if differing == 0 && !results.is_empty() {
+        println!("more results than cases");
+        differing += 1;
+    }
+    if differing > 0 {
+        println!("{same} passed, {differing} failed");
+        return false;
+    }
+    print!("{}", counts.table());
+    let missed = counts.missed();
+    for what in &missed {
+        println!("not met: {what}");
+    }
+    println!("{same} passed, {} failed", missed.len());
+    missed.is_empty()
+}
+
+/// The first case that shows a fault. A faulty model may stop at an unsound
+/// node; that shows nothing.
+fn shows(cases: &[u8], results: &[u8], fault: Fault) -> Option<(usize, String)> {
+    let (mut cases, mut results) = (File(cases), File(results));
+    let mut number = 0;
+    while !cases.is_empty() {
+        number += 1;
+        let case = cases.case()?;
+        let found = results.result(&case)?;
+        let expected = match fault {
+            Fault::None => expected(&case, fault),
+            _ => match catch_unwind(|| expected(&case, fault)) {
+                Ok(expected) => expected,
+                Err(_) => continue,
+            },
+        };
+        if expected != found {
+            return Some((number, difference(&expected, &found)));
+        }
+    }
+    None
+}
+
+fn plant(cases: &[u8], results: &[u8], every: usize) -> bool {
+    let (mut passed, mut failed) = (0, 0);
+    if let Some((number, what)) = shows(cases, results, Fault::None) {
+        println!("FAILED  no fault: case {number}, {what}");
+        failed += 1;
+    }
+    set_hook(Box::new(|_| {}));
+    let planted = faults::all();
+    for (fault, name, what) in planted.iter().skip(every - 1).step_by(every) {
+        match shows(cases, results, *fault) {
+            Some((number, shown)) => {
+                println!("ok      {name}: {what}: case {number}, {shown}");
+                passed += 1;
+            }
+            None => {
+                println!("FAILED  {name}: {what}: no case shows it");
+                failed += 1;
+            }
+        }
+    }
+    println!("{passed} passed, {failed} failed");
+    failed == 0
+}
+
+fn main() -> ExitCode {
+    let args: Vec<String> = std::env::args().skip(1).collect();
+    let args: Vec<&str> = args.iter().map(String::as_str).collect();
+    let read = |path: &str| std::fs::read(path).unwrap_or_else(|e| panic!("{path}: {e}"));
+    let number = |text: &str| text.parse::<u64>().unwrap_or_else(|e| panic!("{text}: {e}"));
+    let good = match args[..] {
+        ["make", seed, rounds, cases] => {
+            let made = make(number(seed), number(rounds) as usize);
+            std::fs::write(cases, made).is_ok()
+        }
+        ["compare", cases, results] => compare(&read(cases), &read(results)),
+        ["faults", cases, results, every] => {
+            plant(&read(cases), &read(results), number(every).max(1) as usize)
+        }
+        _ => {
+            eprintln!("usage: nodes make SEED ROUNDS CASES | compare CASES RESULTS | faults CASES RESULTS EVERY");
+            false
+        }
+    };
+    ExitCode::from(u8::from(!good))
+}

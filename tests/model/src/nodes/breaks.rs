@@ -1,0 +1,543 @@
+//! Ways to break each rule of "A sound node", each part of a rule by itself.
+
+use super::limits::{any_active, set_zone};
+use super::runs::{apn_character, imsi, node_id_character};
+use super::sound::{record_volume, Range, MOST_USED, RANGES};
+use super::stored::{within, Container, Context, Stored, APN, FREE, NODE_ID, PLACES, SLOTS};
+use crate::random::Random;
+
+/// The rule and the part that is broken, and how; nothing where this node has
+/// no place for it.
+pub struct Breaker {
+    pub rule: &'static str,
+    pub part: &'static str,
+    pub apply: fn(&mut Stored, &mut Random) -> Option<()>,
+}
+
+macro_rules! breakers {
+    ($($rule:literal $part:literal $apply:expr;)*) => {
+        pub const BREAKERS: &[Breaker] =
+            &[$(Breaker { rule: $rule, part: $part, apply: $apply }),*];
+    };
+}
+
+breakers! {
+    "volume limit" "whole" |n, r| limit(n, r, Range::VolumeLimit);
+    "time limit" "whole" |n, r| limit(n, r, Range::TimeLimit);
+    "change limit" "whole" |n, r| limit(n, r, Range::ChangeLimit);
+    "offset" "whole" offset;
+    "node ID's length" "whole" node_id_length;
+    "node ID's characters" "whole" node_id_character_wrong;
+    "node ID's unused octets" "whole" node_id_unused;
+    "node ID's unused octets" "whole" node_id_unused_far;
+    "clock" "whole" |n, r| done(n.clock = above(r, Range::Clock, u32::MAX.into()) as u32);
+    "accepted count" "whole" |n, r| done(n.accepted = above(r, Range::Accepted, u64::MAX));
+    "names" "whole" names;
+    "active" "whole" |n, r| done(slot(n, r).active = above_of(r, 1, 255) as u8);
+    "free slot" "flags" |n, r| done(free(n, r)?.flags = some(r) as u8);
+    "free slot" "id" |n, r| done(free(n, r)?.id = some32(r));
+    "free slot" "ggsn" |n, r| done(free(n, r)?.ggsn = some32(r));
+    "free slot" "imsi" |n, r| done(free(n, r)?.imsi[r.below(8) as usize] = some(r) as u8);
+    "free slot" "apn" |n, r| done(free(n, r)?.apn[edge(r, 0, APN)] = some(r) as u8);
+    "free slot" "apnlen" |n, r| done(free(n, r)?.apnlen = some64(r));
+    "free slot" "pdptype" |n, r| done(free(n, r)?.pdptype = some16(r));
+    "free slot" "address" |n, r| done(free(n, r)?.address = some32(r));
+    "free slot" "qos" |n, r| done(free(n, r)?.qos[r.below(5) as usize] = some(r) as u8);
+    "free slot" "running uplink" |n, r| done(free(n, r)?.uplink = some64(r));
+    "free slot" "running downlink" |n, r| done(free(n, r)?.downlink = some64(r));
+    "free slot" "opening's seconds" |n, r| done(free(n, r)?.opening.seconds = some32(r));
+    "free slot" "opening's zone" |n, r| done(free(n, r)?.opening.zone = some16(r));
+    "free slot" "changes" |n, r| done(free(n, r)?.changes = some(r) as u8);
+    "free slot" "reliability" |n, r| done(free_place(n, r)?.qos[0] = some(r) as u8);
+    "free slot" "delay" |n, r| done(free_place(n, r)?.qos[1] = some(r) as u8);
+    "free slot" "precedence" |n, r| done(free_place(n, r)?.qos[2] = some(r) as u8);
+    "free slot" "peak" |n, r| done(free_place(n, r)?.qos[3] = some(r) as u8);
+    "free slot" "mean" |n, r| done(free_place(n, r)?.qos[4] = some(r) as u8);
+    "free slot" "uplink" |n, r| done(free_place(n, r)?.uplink = some64(r));
+    "free slot" "downlink" |n, r| done(free_place(n, r)?.downlink = some64(r));
+    "free slot" "condition" |n, r| done(free_place(n, r)?.condition = some(r) as u8);
+    "free slot" "seconds" |n, r| done(free_place(n, r)?.time.seconds = some32(r));
+    "free slot" "zone" |n, r| done(free_place(n, r)?.time.zone = some16(r));
+    "free slot" "count" |n, r| done(free(n, r)?.count = some64(r));
+    "free slot" "closed" |n, r| done(free(n, r)?.closed = some64(r));
+    "free slot" "imsi" |n, r| done(used(n, r)?.active = 0);
+    "flags" "whole" |n, r| done(used(n, r)?.flags = above(r, Range::Flags, 255) as u8);
+    "IMSI" "digits" imsi_digits;
+    "IMSI" "later halves" imsi_later;
+    "APN's length" "whole" apn_length;
+    "APN's characters" "whole" apn_character_wrong;
+    "APN's unused octets" "whole" apn_unused;
+    "APN's unused octets" "whole" apn_unused_far;
+    "APN's unused octets" "whole" apn_unused_far;
+    "APN's unused octets" "whole" apn_unused_far;
+    "QoS" "reliability" |n, r| qos(n, r, 0);
+    "QoS" "delay" |n, r| qos(n, r, 1);
+    "QoS" "precedence" |n, r| qos(n, r, 2);
+    "QoS" "peak" |n, r| qos(n, r, 3);
+    "QoS" "mean" |n, r| qos(n, r, 4);
+    "container's QoS" "reliability" |n, r| container_qos(n, r, 0);
+    "container's QoS" "delay" |n, r| container_qos(n, r, 1);
+    "container's QoS" "precedence" |n, r| container_qos(n, r, 2);
+    "container's QoS" "peak" |n, r| container_qos(n, r, 3);
+    "container's QoS" "mean" |n, r| container_qos(n, r, 4);
+    "stored offset" "opening" |n, r| done(other_zone(&mut used(n, r)?.opening.zone, r));
+    "stored offset" "container" |n, r| done(other_zone(&mut container(n, r)?.time.zone, r));
+    "unused place" "reliability" |n, r| done(place(n, r)?.qos[0] = some(r) as u8);
+    "unused place" "delay" |n, r| done(place(n, r)?.qos[1] = some(r) as u8);
+    "unused place" "precedence" |n, r| done(place(n, r)?.qos[2] = some(r) as u8);
+    "unused place" "peak" |n, r| done(place(n, r)?.qos[3] = some(r) as u8);
+    "unused place" "mean" |n, r| done(place(n, r)?.qos[4] = some(r) as u8);
+    "unused place" "uplink" |n, r| done(place(n, r)?.uplink = some64(r));
+    "unused place" "downlink" |n, r| done(place(n, r)?.downlink = some64(r));
+    "unused place" "condition" |n, r| done(place(n, r)?.condition = some(r) as u8);
+    "unused place" "seconds" |n, r| done(place(n, r)?.time.seconds = some32(r));
+    "unused place" "zone" |n, r| done(place(n, r)?.time.zone = some16(r));
+    "closed records" "whole" closed;
+    "change count" "whole" change_count;
+    "change count" "whole" count_high;
+    "container count" "whole" container_count;
+    "conditions" "whole" condition;
+    "times" "opening, container" opening_late;
+    "times" "container, container" container_late;
+    "times" "container, clock" clock_early;
+    "times" "opening, clock" opening_beyond;
+    "QoS between containers" "same after 0, next" |n, r| turn(n, r, 1, false);
+    "QoS between containers" "same after 0, running" |n, r| turn(n, r, 1, true);
+    "QoS between containers" "other after 1, next" |n, r| turn(n, r, 0, false);
+    "QoS between containers" "other after 1, running" |n, r| turn(n, r, 0, true);
+    "QoS between containers" "same after 0, running" same_running;
+    "QoS between containers" "other after 1, running" other_running;
+    "volumes" "whole" volumes;
+    "volumes" "whole" volumes_wrap;
+}
+
+// ---- values ----
+
+fn done(_: ()) -> Option<()> {
+    Some(())
+}
+
+/// A value above a number, if there is one; the next as often as others.
+fn above_of(random: &mut Random, high: u64, most: u64) -> u64 {
+    match random.below(6) {
+        _ if high >= most => most,
+        0..=2 => high + 1,
+        3 => most,
+        4 => high + 1 + random.sized(most - high - 1),
+        _ => random.between(high + 1, most),
+    }
+}
+
+fn above(random: &mut Random, range: Range, most: u64) -> u64 {
+    above_of(random, RANGES[range as usize].3 as u64, most)
+}
+
+/// A value that is not zero in so many bits: one bit of it as often as more.
+fn bits(random: &mut Random, width: u64) -> u64 {
+    let mask = u64::MAX >> (64 - width);
+    match random.below(4) {
+        0 => 1,
+        1 => 1 << random.below(width),
+        2 => mask,
+        _ => (random.next() & mask).max(1),
+    }
+}
+
+fn some(random: &mut Random) -> u64 {
+    bits(random, 8)
+}
+
+fn some16(random: &mut Random) -> u16 {
+    bits(random, 16) as u16
+}
+
+fn some32(random: &mut Random) -> u32 {
+    bits(random, 32) as u32
+}
+
+fn some64(random: &mut Random) -> u64 {
+    bits(random, 64)
+}
+
+/// A place, the first and the last more often than others.
+fn edge(random: &mut Random, from: usize, to: usize) -> usize {
+    match random.below(4) {
+        0 => from,
+        1 => to - 1,
+        _ => random.between(from as u64, to as u64 - 1) as usize,
+    }
+}
+
+fn other_zone(zone: &mut u16, random: &mut Random) {
+    *zone = match random.below(4) {
+        0 => zone.wrapping_add(1),
+        1 => zone.wrapping_sub(1),
+        2 if *zone != 0 => 0,
+        _ => *zone ^ some16(random),
+    };
+}
+
+// ---- places ----
+
+fn slot<'a>(node: &'a mut Stored, random: &mut Random) -> &'a mut Context {
+    &mut node.contexts[edge(random, 0, SLOTS)]
+}
+
+fn used<'a>(node: &'a mut Stored, random: &mut Random) -> Option<&'a mut Context> {
+    any_active(node, random).map(|at| &mut node.contexts[at])
+}
+
+fn free<'a>(node: &'a mut Stored, random: &mut Random) -> Option<&'a mut Context> {
+    let free = node.slots(0);
+    if free.is_empty() {
+        return None;
+    }
+    Some(&mut node.contexts[free[edge(random, 0, free.len())]])
+}
+
+fn free_place<'a>(node: &'a mut Stored, random: &mut Random) -> Option<&'a mut Container> {
+    let at = edge(random, 0, PLACES);
+    free(node, random).map(|c| &mut c.containers[at])
+}
+
+/// An active context with so many containers, and their count.
+fn with<'a>(
+    node: &'a mut Stored,
+    random: &mut Random,
+    fewest: usize,
+) -> Option<(&'a mut Context, usize)> {
+    let context = used(node, random)?;
+    let count = context.used().len();
+    (count >= fewest).then_some((context, count))
+}
+
+fn container<'a>(node: &'a mut Stored, random: &mut Random) -> Option<&'a mut Container> {
+    let (context, count) = with(node, random, 1)?;
+    Some(&mut context.containers[edge(random, 0, count)])
+}
+
+/// An unused container place of an active context.
+fn place<'a>(node: &'a mut Stored, random: &mut Random) -> Option<&'a mut Container> {
+    let (context, count) = with(node, random, 0)?;
+    (count < PLACES).then(|| &mut context.containers[edge(random, count, PLACES)])
+}
+
+// ---- the profile ----
+
+/// A limit of zero or above the highest; with no context nothing else breaks.
+fn limit(node: &mut Stored, random: &mut Random, range: Range) -> Option<()> {
+    let zero = random.percent(40);
+    if zero && random.percent(60) {
+        node.contexts = [FREE; SLOTS];
+    }
+    let mut value = |most: u64| if zero { 0 } else { above(random, range, most) };
+    match range {
+        Range::VolumeLimit => node.profile.volume = value(u64::MAX),
+        Range::TimeLimit => node.profile.seconds = value(u32::MAX.into()) as u32,
+        _ => node.profile.changes = value(255) as u8,
+    }
+    Some(())
+}
+
+fn offset(node: &mut Stored, random: &mut Random) -> Option<()> {
+    let zone = above(random, Range::Zone, u16::MAX.into()) as u16;
+    if random.percent(80) {
+        set_zone(node, zone);
+    }
+    done(node.profile.zone = zone)
+}
+
+fn node_id_length(node: &mut Stored, random: &mut Random) -> Option<()> {
+    node.profile.nodeid = [0; NODE_ID].map(|_| node_id_character(random));
+    done(node.profile.nodelen = above(random, Range::NodeIdLength, u64::MAX))
+}
+
+fn node_id_character_wrong(node: &mut Stored, random: &mut Random) -> Option<()> {
+    let length = within(node.profile.nodelen, NODE_ID);
+    if length == 0 {
+        return None;
+    }
+    let at = edge(random, 0, length);
+    let any = 0x7F + random.below(0x81) as u8;
+    done(node.profile.nodeid[at] = random.pick(&[0x1F, 0x7F, 0, 0x80, 0xFF, any]))
+}
+
+fn node_id_unused(node: &mut Stored, random: &mut Random) -> Option<()> {
+    let length = within(node.profile.nodelen, NODE_ID);
+    if length == NODE_ID {
+        return None;
+    }
+    let at = edge(random, length, NODE_ID);
+    done(node.profile.nodeid[at] = some(random) as u8)
+}
+
+/// Of an empty node ID, so that every octet is met.
+fn node_id_unused_far(node: &mut Stored, random: &mut Random) -> Option<()> {
+    (node.profile.nodeid, node.profile.nodelen) = ([0; NODE_ID], 0);
+    done(node.profile.nodeid[random.below(NODE_ID as u64) as usize] = some(random) as u8)
+}
+
+// ---- names ----
+
+/// The name of one context in another, or a context twice.
+fn names(node: &mut Stored, random: &mut Random) -> Option<()> {
+    let active = node.slots(1);
+    let one = node.contexts[any_active(node, random)?];
+    let other = match free(node, random) {
+        Some(free) if active.len() < 2 || random.percent(20) => {
+            return done(*free = one);
+        }
+        _ => random.pick(&active),
+    };
+    let other = &mut node.contexts[other];
+    let differs = other.name() != one.name();
+    (other.id, other.ggsn) = (one.id, one.ggsn);
+    differs.then_some(())
+}
+
+// ---- the fields of a context ----
+
+fn imsi_digits(node: &mut Stored, random: &mut Random) -> Option<()> {
+    let digits = random.pick(&[5, 5, 16, 16, 0, 1, 4]);
+    done(used(node, random)?.imsi = imsi(random, digits))
+}
+
+/// A half after the digits is not F.
+fn imsi_later(node: &mut Stored, random: &mut Random) -> Option<()> {
+    let digits = random.pick(&[6, 8, 14, 15]);
+    let half = edge(random, digits, 16);
+    let fewest = if half == digits { 10 } else { 0 };
+    let wrong = random.between(fewest, 14) as u8;
+    let context = used(node, random)?;
+    context.imsi = imsi(random, digits);
+    let octet = &mut context.imsi[half / 2];
+    *octet = if half % 2 == 0 { *octet & 0xF0 | wrong } else { *octet & 15 | wrong << 4 };
+    Some(())
+}
+
+fn apn_length(node: &mut Stored, random: &mut Random) -> Option<()> {
+    let context = used(node, random)?;
+    if random.percent(40) {
+        context.apn = [0; APN];
+        return done(context.apnlen = 0);
+    }
+    context.apn = [0; APN].map(|_| apn_character(random));
+    done(context.apnlen = above(random, Range::ApnLength, u64::MAX))
+}
+
+fn apn_character_wrong(node: &mut Stored, random: &mut Random) -> Option<()> {
+    let context = used(node, random)?;
+    if context.apn().is_empty() {
+        return None;
+    }
+    let at = edge(random, 0, context.apn().len());
+    done(context.apn[at] = random.pick(b",/:@[`{,/:@[`{_ \0\x7F\xC1\xFF"))
+}
+
+fn apn_unused(node: &mut Stored, random: &mut Random) -> Option<()> {
+    let context = used(node, random)?;
+    let length = context.apn().len();
+    if length == APN {
+        return None;
+    }
+    done(context.apn[edge(random, length, APN)] = some(random) as u8)
+}
+
+/// Of a short APN, so that every octet is met.
+fn apn_unused_far(node: &mut Stored, random: &mut Random) -> Option<()> {
+    let context = used(node, random)?;
+    if context.apn().len() != 1 {
+        return None;
+    }
+    done(context.apn[random.between(1, APN as u64 - 1) as usize] = some(random) as u8)
+}
+
+const LEVELS: [Range; 5] =
+    [Range::Reliability, Range::Delay, Range::Precedence, Range::Peak, Range::Mean];
+
+fn qos(node: &mut Stored, random: &mut Random, level: usize) -> Option<()> {
+    let context = used(node, random)?;
+    done(context.qos[level] = above(random, LEVELS[level], 255) as u8)
+}
+
+fn container_qos(node: &mut Stored, random: &mut Random, level: usize) -> Option<()> {
+    let (context, count) = with(node, random, 1)?;
+    let at = edge(random, 0, count);
+    // most of them where nothing asks for the same QoS
+    let apart = context.containers[at].condition == 0
+        && (at == 0 || context.containers[at - 1].condition == 0);
+    if !apart && random.percent(80) {
+        return None;
+    }
+    done(context.containers[at].qos[level] = above(random, LEVELS[level], 255) as u8)
+}
+
+// ---- counts ----
+
+fn closed(node: &mut Stored, random: &mut Random) -> Option<()> {
+    let accepted = node.accepted;
+    let context = used(node, random)?;
+    done(
+        context.closed =
+            if random.percent(50) { accepted } else { above_of(random, accepted, u64::MAX) },
+    )
+}
+
+fn change_count(node: &mut Stored, random: &mut Random) -> Option<()> {
+    let context = used(node, random)?;
+    done(
+        context.changes = match random.below(3) {
+            0 => context.changes.checked_add(1)?,
+            1 => context.changes.checked_sub(1)?,
+            _ => context.changes ^ some(random) as u8,
+        },
+    )
+}
+
+/// A count that is wrong in its higher octets, or by one.
+fn count_high(node: &mut Stored, random: &mut Random) -> Option<()> {
+    let context = used(node, random)?;
+    let more = match random.below(3) {
+        0 => 1,
+        1 => 1 << random.between(8, 63),
+        _ => some64(random),
+    };
+    done(context.count = context.count.checked_add(more)?)
+}
+
+/// The change limit is a context's count of containers; or all its places are used.
+fn container_count(node: &mut Stored, random: &mut Random) -> Option<()> {
+    let (context, count) = with(node, random, 1)?;
+    if random.percent(30) && count == MOST_USED {
+        let mut last = context.containers[count - 1];
+        last.condition = 1;
+        last.qos = context.qos;
+        (last.uplink, last.downlink) = (0, 0);
+        context.containers[count] = last;
+        context.count += 1;
+        return done(context.changes = context.changes.checked_add(1)?);
+    }
+    done(node.profile.changes = count as u8)
+}
+
+// ---- containers ----
+
+fn condition(node: &mut Stored, random: &mut Random) -> Option<()> {
+    let container = container(node, random)?;
+    if container.condition == 0 && random.percent(70) {
+        return None;
+    }
+    done(container.condition = above(random, Range::Condition, 255) as u8)
+}
+
+/// A time after another one.
+fn later(random: &mut Random, than: u32) -> u32 {
+    above_of(random, than.min(u32::MAX - 1).into(), u32::MAX.into()) as u32
+}
+
+fn opening_late(node: &mut Stored, random: &mut Random) -> Option<()> {
+    let (context, _) = with(node, random, 1)?;
+    done(context.opening.seconds = later(random, context.containers[0].time.seconds))
+}
+
+fn container_late(node: &mut Stored, random: &mut Random) -> Option<()> {
+    let (context, count) = with(node, random, 2)?;
+    let at = edge(random, 0, count - 1);
+    let next = context.containers[at + 1].time.seconds;
+    if random.percent(50) {
+        return done(context.containers[at].time.seconds = later(random, next));
+    }
+    let before = context.containers[at].time.seconds;
+    done(context.containers[at + 1].time.seconds = before.checked_sub(1)?)
+}
+
+fn clock_early(node: &mut Stored, random: &mut Random) -> Option<()> {
+    let clock = node.clock;
+    let (context, count) = with(node, random, 1)?;
+    let last = &mut context.containers[count - 1].time.seconds;
+    if random.percent(70) {
+        return done(*last = later(random, clock));
+    }
+    let last = *last;
+    done(node.clock = last.checked_sub(1)?)
+}
+
+fn opening_beyond(node: &mut Stored, random: &mut Random) -> Option<()> {
+    let clock = node.clock;
+    let (context, count) = with(node, random, 0)?;
+    (count == 0).then(|| context.opening.seconds = later(random, clock))
+}
+
+/// A container's condition is turned from this to the other; of the last one,
+/// or of one before it.
+fn turn(node: &mut Stored, random: &mut Random, from: u8, last: bool) -> Option<()> {
+    let (context, count) = with(node, random, if last { 1 } else { 2 })?;
+    let at = if last { count - 1 } else { edge(random, 0, count - 1) };
+    let container = &mut context.containers[at];
+    (container.condition == from).then(|| container.condition = 1 - from)
+}
+
+/// The QoS in force is set back to the last container's, after condition 0.
+fn same_running(node: &mut Stored, random: &mut Random) -> Option<()> {
+    let (context, count) = with(node, random, 1)?;
+    let last = context.containers[count - 1];
+    (last.condition == 0).then(|| context.qos = last.qos)
+}
+
+/// One level of the QoS in force is another, after condition 1.
+fn other_running(node: &mut Stored, random: &mut Random) -> Option<()> {
+    let (context, count) = with(node, random, 1)?;
+    let at = random.below(5) as usize;
+    let level = context.qos[at];
+    (context.containers[count - 1].condition == 1)
+        .then(|| context.qos[at] = if level == 0 { 1 } else { level - 1 })
+}
+
+// ---- volumes ----
+
+/// A volume of the open record.
+fn a_volume<'a>(context: &'a mut Context, random: &mut Random) -> &'a mut u64 {
+    let count = context.used().len();
+    let at = edge(random, 0, count + 1);
+    let (up, down) = match at == count {
+        true => (&mut context.uplink, &mut context.downlink),
+        false => (&mut context.containers[at].uplink, &mut context.containers[at].downlink),
+    };
+    if random.percent(50) {
+        up
+    } else {
+        down
+    }
+}
+
+/// The sum meets the limit, or passes it.
+fn volumes(node: &mut Stored, random: &mut Random) -> Option<()> {
+    let limit = node.profile.volume;
+    let context = used(node, random)?;
+    let missing = limit.checked_sub(record_volume(context).try_into().ok()?)?;
+    let beyond = match random.below(4) {
+        0 | 1 => 0,
+        2 => random.sized(1 << 41),
+        _ => 1 << random.between(40, 62),
+    };
+    let volume = a_volume(context, random);
+    done(*volume = volume.checked_add(missing)?.checked_add(beyond)?)
+}
+
+/// The sum is far beyond 64 bits, or just beyond: what is left of it is small.
+fn volumes_wrap(node: &mut Stored, random: &mut Random) -> Option<()> {
+    let context = used(node, random)?;
+    let volume = a_volume(context, random);
+    if random.percent(30) {
+        return done(*volume = u64::MAX);
+    }
+    *volume = 0;
+    let rest = record_volume(context) as u64;
+    let volume = a_volume(context, random);
+    let missing = 0u64.wrapping_sub(rest);
+    if *volume == 0 && missing != 0 {
+        return done(*volume = missing);
+    }
+    (context.uplink, context.downlink) = (1 << 63, 1 << 63);
+    Some(())
+}

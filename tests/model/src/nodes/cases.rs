@@ -1,0 +1,131 @@
+//! The file of cases that the C program reads, and the file of results that it
+//! writes. Numbers are little-endian.
+//!
+//! case:   1 octet, any; the node as a difference from all zero; 2 octets
+//!         length, the event; 2 octets room, 1 octet fill
+//! result: 1 octet answer; 8 octets written length; the node as a difference
+//!         from the one before; the area around the buffer, likewise
+//!
+//! A difference: 2 octets how many are the same, 2 octets how many follow,
+//! these; and so on, up to two numbers of 0.
+
+use super::stored::{Stored, OCTETS};
+
+/// Octets before and after the buffer, which a call may not touch.
+pub const GUARD: usize = 16;
+
+pub struct Case {
+    pub node: Stored,
+    pub event: Vec<u8>,
+    pub room: usize,
+    pub fill: u8,
+}
+
+/// What a call answers and leaves: the node's fields, and the buffer between
+/// its guards.
+#[derive(Debug, PartialEq, Eq)]
+pub struct Outcome {
+    pub answer: u8,
+    pub written: u64,
+    pub node: Vec<u8>,
+    pub area: Vec<u8>,
+}
+
+/// The buffer between its guards before a call; no two neighbours are equal.
+pub fn area(room: usize, fill: u8) -> Vec<u8> {
+    (0..GUARD + room + GUARD).map(|at| fill.wrapping_add((at * 7) as u8)).collect()
+}
+
+fn put_difference(file: &mut Vec<u8>, before: &[u8], after: &[u8]) {
+    assert_eq!(before.len(), after.len());
+    let mut put = |same: usize, octets: &[u8]| {
+        file.extend((same as u16).to_le_bytes());
+        file.extend((octets.len() as u16).to_le_bytes());
+        file.extend(octets);
+    };
+    let mut at = 0;
+    while at < after.len() {
+        let same = (at..after.len()).take_while(|i| before[*i] == after[*i]).count();
+        let from = at + same;
+        let other = (from..after.len()).take_while(|i| before[*i] != after[*i]).count();
+        if other > 0 {
+            put(same, &after[from..from + other]);
+        }
+        at = from + other;
+    }
+    put(0, &[]);
+}
+
+pub fn put_case(file: &mut Vec<u8>, case: &Case) {
+    file.push(0);
+    put_difference(file, &[0; OCTETS], &case.node.octets());
+    file.extend((case.event.len() as u16).to_le_bytes());
+    file.extend(&case.event);
+    file.extend((case.room as u16).to_le_bytes());
+    file.push(case.fill);
+}
+
+/// A file that is read from its start.
+pub struct File<'a>(pub &'a [u8]);
+
+impl<'a> File<'a> {
+    pub fn is_empty(&self) -> bool {
+        self.0.is_empty()
+    }
+
+    fn octets(&mut self, count: usize) -> Option<&'a [u8]> {
+        if count > self.0.len() {
+            return None;
+        }
+        let (taken, left) = self.0.split_at(count);
+        self.0 = left;
+        Some(taken)
+    }
+
+    fn octet(&mut self) -> Option<u8> {
+        Some(self.octets(1)?[0])
+    }
+
+    fn short(&mut self) -> Option<usize> {
+        Some(u16::from_le_bytes(self.octets(2)?.try_into().ok()?).into())
+    }
+
+    fn difference(&mut self, octets: &mut [u8]) -> Option<()> {
+        let mut at = 0;
+        loop {
+            let (same, other) = (self.short()?, self.short()?);
+            if other == 0 {
+                return (same == 0).then_some(());
+            }
+            at += same;
+            octets.get_mut(at..at + other)?.copy_from_slice(self.octets(other)?);
+            at += other;
+        }
+    }
+
+    /// Nothing where the file ends within a case.
+    pub fn case(&mut self) -> Option<Case> {
+        let mut node = [0; OCTETS];
+        self.octet()?;
+        self.difference(&mut node)?;
+        let length = self.short()?;
+        let event = self.octets(length)?.to_vec();
+        Some(Case {
+            node: Stored::of_octets(&node),
+            event,
+            room: self.short()?,
+            fill: self.octet()?,
+        })
+    }
+
+    /// Nothing where the file ends within a result, or is none.
+    pub fn result(&mut self, case: &Case) -> Option<Outcome> {
+        let answer = self.octet()?;
+        let written = u64::from_le_bytes(self.octets(8)?.try_into().ok()?);
+        let mut node = case.node.octets();
+        self.difference(&mut node)?;
+        let mut area = area(case.room, case.fill);
+        self.difference(&mut area)?;
+        Some(Outcome { answer, written, node, area })
+    }
+}

@@ -1,0 +1,158 @@
+//! What the cases have met, and what they must meet.
+
+use super::cases::Case;
+use super::faults::Fault;
+use super::limits::LIMITS;
+use super::sound::{broken, RULES};
+use super::stored::{Stored, APN, NODE_ID, PLACES};
+use crate::step::Step;
+use std::collections::hash_map::DefaultHasher;
+use std::collections::{BTreeMap, BTreeSet, HashSet};
+use std::hash::{Hash, Hasher};
+
+/// "at least 20,000 nodes", and how often each rule, part, limit and answer.
+pub const NODES: usize = 20_000;
+pub const TIMES: usize = 100;
+
+/// How often something was met in all, and how often in the way that tells
+/// most: a rule as the only one broken, a limit gone over.
+type Twice = (usize, usize);
+
+#[derive(Default)]
+pub struct Counts {
+    pub cases: usize,
+    nodes: HashSet<u64>,
+    /// By how many rules the node breaks.
+    broken: BTreeMap<usize, usize>,
+    rules: BTreeMap<&'static str, Twice>,
+    parts: BTreeMap<(usize, &'static str), Twice>,
+    limits: BTreeMap<&'static str, Twice>,
+    answers: BTreeMap<u8, usize>,
+    causes: BTreeMap<u8, usize>,
+    /// Octets and places that were not zero and had to be.
+    octets: BTreeMap<(&'static str, usize), usize>,
+}
+
+const ANSWERS: [u8; 13] = [0, 1, 2, 3, 4, 5, 6, 7, 8, 9, 10, 11, 13];
+const CAUSES: [u8; 7] = [0, 4, 16, 17, 18, 19, 20];
+
+fn count<K: Ord>(counts: &mut BTreeMap<K, Twice>, key: K, most: bool) {
+    let count = counts.entry(key).or_default();
+    count.0 += 1;
+    count.1 += usize::from(most);
+}
+
+fn of<K: Ord, V: Copy + Default>(counts: &BTreeMap<K, V>, key: K) -> V {
+    counts.get(&key).copied().unwrap_or_default()
+}
+
+impl Counts {
+    /// Adds a case; of a sound node the step too.
+    pub fn add(&mut self, case: &Case, answer: u8, step: Option<&Step>) {
+        let node = &case.node;
+        let mut hasher = DefaultHasher::new();
+        node.octets().hash(&mut hasher);
+        self.nodes.insert(hasher.finish());
+        self.cases += 1;
+        *self.answers.entry(answer).or_default() += 1;
+        let parts = broken(node, Fault::None);
+        let rules: BTreeSet<usize> = parts.iter().map(|part| part.0).collect();
+        *self.broken.entry(rules.len()).or_default() += 1;
+        for rule in &rules {
+            count(&mut self.rules, RULES[*rule].name, rules.len() == 1);
+        }
+        for part in &parts {
+            count(&mut self.parts, *part, parts.len() == 1);
+        }
+        if let Some(step) = step {
+            for record in &step.records {
+                *self.causes.entry(record.cause).or_default() += 1;
+            }
+            for limit in LIMITS.iter().filter(|limit| (limit.at)(node)) {
+                count(&mut self.limits, limit.name, (limit.over)(node, step));
+            }
+        }
+        self.add_octets(node);
+    }
+
+    fn add_octets(&mut self, node: &Stored) {
+        let mut add = |name, at| *self.octets.entry((name, at)).or_default() += 1;
+        let from = node.profile.nodelen.min(NODE_ID as u64) as usize;
+        for at in (from..NODE_ID).filter(|at| node.profile.nodeid[*at] != 0) {
+            add("node ID's unused octet", at);
+        }
+        for context in &node.contexts {
+            let free = context.active == 0;
+            let from = if free { 0 } else { context.apn().len() };
+            let name = if free { "free slot's APN octet" } else { "APN's unused octet" };
+            for at in (from..APN).filter(|at| context.apn[*at] != 0) {
+                add(name, at);
+            }
+            let from = if free { 0 } else { context.used().len() };
+            let name = if free { "free slot's place" } else { "unused place" };
+            let zero = Default::default();
+            for at in (from..PLACES).filter(|at| context.containers[*at] != zero) {
+                add(name, at);
+            }
+            for at in (0..8).filter(|at| free && context.imsi[*at] != 0) {
+                add("free slot's IMSI octet", at);
+            }
+            for at in (0..5).filter(|at| free && context.qos[*at] != 0) {
+                add("free slot's QoS octet", at);
+            }
+        }
+    }
+
+    /// Every count with its name and how many it must be.
+    fn lines(&self) -> Vec<(String, usize, usize)> {
+        let mut lines = Vec::new();
+        let mut line = |name: String, met, least| lines.push((name, met, least));
+        line("different nodes".into(), self.nodes.len(), NODES);
+        line("sound nodes".into(), of(&self.broken, 0), NODES / 4);
+        line("nodes that break one rule".into(), of(&self.broken, 1), NODES / 4);
+        line("nodes that break two rules".into(), of(&self.broken, 2), NODES / 20);
+        for (at, rule) in RULES.iter().enumerate() {
+            let (all, alone) = of(&self.rules, rule.name);
+            line(format!("break {}", rule.name), all, TIMES);
+            line(format!("break {} alone", rule.name), alone, TIMES);
+            for part in rule.parts.iter().filter(|_| rule.parts.len() > 1) {
+                let (all, alone) = of(&self.parts, (at, *part));
+                line(format!("break {} ({part})", rule.name), all, TIMES);
+                line(format!("break {} ({part}) alone", rule.name), alone, TIMES / 2);
+            }
+        }
+        for limit in LIMITS {
+            let (all, over) = of(&self.limits, limit.name);
+            line(format!("sound, with {}", limit.name), all, TIMES);
+            line(format!("sound, with {}, and the call goes there", limit.name), over, TIMES / 2);
+        }
+        for answer in ANSWERS {
+            line(format!("answer {answer}"), of(&self.answers, answer), TIMES / 2);
+        }
+        for cause in CAUSES {
+            line(format!("records with cause {cause}"), of(&self.causes, cause), TIMES);
+        }
+        for (name, from, to) in [
+            ("node ID's unused octet", 0, NODE_ID),
+            ("APN's unused octet", 1, APN),
+            ("unused place", 0, PLACES),
+            ("free slot's APN octet", 0, APN),
+            ("free slot's place", 0, PLACES),
+            ("free slot's IMSI octet", 0, 8),
+            ("free slot's QoS octet", 0, 5),
+        ] {
+            let least = (from..to).map(|at| of(&self.octets, (name, at))).min().unwrap();
+            line(format!("or more: {name} not zero, each of {from}..{}", to - 1), least, 1);
+        }
+        lines
+    }
+
+    pub fn table(&self) -> String {
+        self.lines().iter().map(|(name, met, _)| format!("{met:>7}  {name}\n")).collect()
+    }
+
+    pub fn missed(&self) -> Vec<String> {
+        let lines = self.lines().into_iter().filter(|(_, met, least)| met < least);
+        lines.map(|(name, met, least)| format!("{name}: {met}, not {least}")).collect()
+    }
+}

@@ -1,0 +1,243 @@
+//! Sound nodes at each limit, with events that go up to it and over it.
+
+use super::runs;
+use super::sound::record_volume;
+use super::stored::{Context, Stored};
+use crate::clock::LAST_SECOND;
+use crate::event::{octets, Name, What};
+use crate::fault::Fault;
+use crate::node::MOST_ACCEPTED;
+use crate::random::Random;
+use crate::step::{step, Step, CHANGES, VOLUME};
+
+/// A limit: its name; brings a node to it and says an event, or nothing where
+/// the node can't be brought there; whether a node is at it; and whether a call
+/// on such a node goes to the limit or over it.
+pub struct Limit {
+    pub name: &'static str,
+    pub reach: fn(&mut Stored, &mut Random) -> Option<Vec<u8>>,
+    pub at: fn(&Stored) -> bool,
+    pub over: fn(&Stored, &Step) -> bool,
+}
+
+macro_rules! limits {
+    ($($name:literal $reach:expr, $at:expr, $over:expr;)*) => {
+        pub const LIMITS: &[Limit] =
+            &[$(Limit { name: $name, reach: $reach, at: $at, over: $over }),*];
+    };
+}
+
+limits! {
+    "closed = accepted - 1" closed, |n| some(n, |c| closed_at(n, c)),
+        |n, s| s.records.iter().any(|r| r.number == Some(n.accepted));
+    "changes = limit - 1" changes, |n| some(n, |c| changes_at(n, c)), |_, s| cause(s, CHANGES);
+    "volume = limit - 1" volume, |n| some(n, |c| volume_at(n, c)), |_, s| cause(s, VOLUME);
+    "accepted = 10^15" |n, r| accepted(n, r, MOST_ACCEPTED),
+        |n| n.accepted == MOST_ACCEPTED, |_, s| s.answer == 7;
+    "accepted = 10^15 - 1" |n, r| accepted(n, r, MOST_ACCEPTED - 1),
+        |n| n.accepted == MOST_ACCEPTED - 1, |_, s| s.answer == 0;
+    "clock = 3,155,759,999" clock, |n| n.clock == LAST_SECOND, |_, s| s.answer == 6;
+    "change limit 1" |n, r| change_limit(n, r, 1),
+        |n| n.profile.changes == 1, |_, s| cause(s, CHANGES);
+    "change limit 15" fifteen, |n| n.profile.changes == 15,
+        |_, s| s.records.iter().any(|r| r.containers.len() == 15);
+    "volume limit 1" volume_limit, |n| n.profile.volume == 1, |_, s| cause(s, VOLUME);
+    "offset -720" |n, r| zone(n, r, 0), |n| n.profile.zone == 0, |_, s| !s.records.is_empty();
+    "offset 840" |n, r| zone(n, r, 1560),
+        |n| n.profile.zone == 1560, |_, s| !s.records.is_empty();
+    "all slots taken" full, |n| n.slots(0).is_empty(), |_, s| s.answer == 10;
+}
+
+fn cause(step: &Step, cause: u8) -> bool {
+    step.records.iter().any(|record| record.cause == cause)
+}
+
+fn some(node: &Stored, at: impl Fn(&Context) -> bool) -> bool {
+    node.active().any(at)
+}
+
+fn closed_at(node: &Stored, context: &Context) -> bool {
+    context.closed + 1 == node.accepted
+}
+
+fn changes_at(node: &Stored, context: &Context) -> bool {
+    context.count + 1 == u64::from(node.profile.changes)
+}
+
+fn volume_at(node: &Stored, context: &Context) -> bool {
+    record_volume(context) + 1 == u128::from(node.profile.volume)
+}
+
+/// An active context, if there is one.
+pub fn any_active(node: &Stored, random: &mut Random) -> Option<usize> {
+    let active = node.slots(1);
+    (!active.is_empty()).then(|| random.pick(&active))
+}
+
+fn say(node: &Stored, random: &mut Random, what: What) -> Option<Vec<u8>> {
+    Some(octets(runs::time(random, &node.view()), &what))
+}
+
+/// The next record has the number that was the accepted count.
+fn closed(node: &mut Stored, random: &mut Random) -> Option<Vec<u8>> {
+    let slot = any_active(node, random)?;
+    if random.percent(60) {
+        let least = node.active().map(|c| c.closed + 1).max()?;
+        let many = random.pick(&[127, 128, 32_767, 32_768, 65_536, 1 << 31, 1 << 47]);
+        let many = random.pick(&[many, MOST_ACCEPTED, MOST_ACCEPTED - 1, MOST_ACCEPTED - 2]);
+        node.accepted = many.max(least);
+    }
+    let context = &mut node.contexts[slot];
+    context.closed = node.accepted - 1;
+    let name = context.name();
+    let what = match random.below(5) {
+        0 => What::Release(name, random.pick(&[0, 4, 18])),
+        1 => What::Tick,
+        2 => What::Traffic(name, u32::MAX, u32::MAX),
+        3 => What::Tariff,
+        _ => What::Management(name),
+    };
+    say(node, random, what)
+}
+
+/// The next change closes the record, cause 19.
+fn changes(node: &mut Stored, random: &mut Random) -> Option<Vec<u8>> {
+    let most = node.active().map(|c| c.changes).max()?;
+    node.profile.changes = most + 1;
+    let context = node.active().find(|c| c.changes == most)?;
+    let mut qos = context.qos;
+    if random.percent(80) {
+        qos = runs::other_qos(random, qos);
+    }
+    let what = match random.below(5) {
+        0 => What::Management(context.name()),
+        1 | 2 => What::Tariff,
+        _ => What::Qos(context.name(), qos),
+    };
+    say(node, random, what)
+}
+
+/// One octet more closes the record, cause 16.
+fn volume(node: &mut Stored, random: &mut Random) -> Option<Vec<u8>> {
+    let slot = any_active(node, random)?;
+    let limit = node.profile.volume;
+    let context = &mut node.contexts[slot];
+    let mut left = limit - 1 - record_volume(context) as u64;
+    while left > 0 {
+        let part = if random.percent(50) { left } else { random.sized(left) };
+        left -= part;
+        let used = context.count;
+        let (up, down) = match random.below(used + 1) as usize {
+            at if at as u64 == used => (&mut context.uplink, &mut context.downlink),
+            at => {
+                let container = &mut context.containers[at];
+                (&mut container.uplink, &mut container.downlink)
+            }
+        };
+        *(if random.percent(50) { up } else { down }) += part;
+    }
+    let name = context.name();
+    let what = match random.below(6) {
+        0 => What::Traffic(name, 0, 0),
+        1 => What::Traffic(name, 0, 1),
+        2 => What::Traffic(name, 1, 0),
+        3 => What::Traffic(name, u32::MAX, u32::MAX),
+        4 => What::Tariff,
+        _ => What::Release(name, 0),
+    };
+    say(node, random, what)
+}
+
+/// At 10^15 every event that passes 1 to 6 is refused with 7.
+fn accepted(node: &mut Stored, random: &mut Random, count: u64) -> Option<Vec<u8>> {
+    node.accepted = count;
+    Some(runs::event(random, &node.view()))
+}
+
+/// Equal times are fine, later ones are 6.
+fn clock(node: &mut Stored, random: &mut Random) -> Option<Vec<u8>> {
+    node.clock = LAST_SECOND;
+    if random.percent(30) {
+        return Some(octets(LAST_SECOND + random.below(2) as u32, &What::Tick));
+    }
+    Some(runs::event(random, &node.view()))
+}
+
+/// With 1 every change closes a record of one container.
+fn change_limit(node: &mut Stored, random: &mut Random, limit: u8) -> Option<Vec<u8>> {
+    let fits = node.active().all(|c| c.changes < limit);
+    if !fits {
+        return None;
+    }
+    node.profile.changes = limit;
+    let what = match any_active(node, random) {
+        Some(slot) if random.percent(50) => {
+            What::Qos(node.contexts[slot].name(), runs::qos(random))
+        }
+        _ => What::Tariff,
+    };
+    say(node, random, what)
+}
+
+/// Fifteen containers are the most, and the last change closes them.
+fn fifteen(node: &mut Stored, random: &mut Random) -> Option<Vec<u8>> {
+    any_active(node, random)?;
+    node.profile.changes = 15;
+    let least = random.pick(&[0, 13, 14, 14, 14]);
+    while node.active().all(|c| c.changes < least) {
+        let tariff = octets(node.clock, &What::Tariff);
+        *node = Stored::store(&step(&node.view(), &tariff, runs::ROOM, Fault::None).node);
+    }
+    let context = node.active().max_by_key(|c| c.changes)?;
+    let what = match random.percent(50) {
+        true => What::Qos(context.name(), runs::other_qos(random, context.qos)),
+        false => What::Tariff,
+    };
+    say(node, random, what)
+}
+
+/// No more can be activated.
+fn full(node: &mut Stored, random: &mut Random) -> Option<Vec<u8>> {
+    let taken = node.slots(0).is_empty();
+    taken.then(|| match random.percent(50) {
+        true => {
+            let name = Name { charging_id: random.next() as u32, ggsn: [1, 2, 3, 4] };
+            octets(node.clock, &What::Activate(name, Box::new(runs::start(random))))
+        }
+        false => runs::event(random, &node.view()),
+    })
+}
+
+/// Every octet closes a record.
+fn volume_limit(node: &mut Stored, random: &mut Random) -> Option<Vec<u8>> {
+    let slot = any_active(node, random)?;
+    for context in node.contexts.iter_mut() {
+        (context.uplink, context.downlink) = (0, 0);
+        for container in context.containers.iter_mut() {
+            (container.uplink, container.downlink) = (0, 0);
+        }
+    }
+    node.profile.volume = 1;
+    let (up, down) = random.pick(&[(0, 0), (0, 1), (1, 0), (u32::MAX, 0)]);
+    say(node, random, What::Traffic(node.contexts[slot].name(), up, down))
+}
+
+/// Every stored time has the profile's offset.
+pub fn set_zone(node: &mut Stored, zone: u16) {
+    node.profile.zone = zone;
+    for context in node.contexts.iter_mut().filter(|c| c.active == 1) {
+        context.opening.zone = zone;
+        let used = context.used().len();
+        for container in &mut context.containers[..used] {
+            container.time.zone = zone;
+        }
+    }
+}
+
+fn zone(node: &mut Stored, random: &mut Random, zone: u16) -> Option<Vec<u8>> {
+    let slot = any_active(node, random)?;
+    set_zone(node, zone);
+    let name = node.contexts[slot].name();
+    let what = if random.percent(50) { What::Management(name) } else { What::Release(name, 4) };
+    say(node, random, what)
+}

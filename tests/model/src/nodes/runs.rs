@@ -1,0 +1,300 @@
+//! Sound nodes that are reached by events from a fresh node, and events for
+//! them.
+
+use crate::clock::LAST_SECOND;
+use crate::event::{self, octets, Name, Qos, Start, What, QOS_HIGHEST};
+use crate::fault::Fault;
+use crate::node::{Context, Node};
+use crate::profile::Profile;
+use crate::random::Random;
+use crate::step::{step, step_of_sound};
+
+/// Room for any output: sixteen records of 1,024 octets with their marks.
+pub const ROOM: usize = 16 * (2 + 1024);
+
+const IDS: [u32; 6] = [0, 1, 128, 0x7FFF_FFFF, 0x8000_0000, 0xFFFF_FFFF];
+const GGSNS: [[u8; 4]; 4] = [[10, 0, 0, 2], [0, 0, 0, 0], [255, 255, 255, 255], [2, 0, 0, 10]];
+
+pub fn profile(random: &mut Random) -> Profile {
+    let most = 1_000_000_000_000;
+    Profile {
+        sgsn: [random.octet(), random.octet(), random.octet(), random.octet()],
+        volume_limit: match random.below(12) {
+            0 => 1,
+            1 => 2,
+            2 => most - 1,
+            3..=5 => most,
+            6 => 1 << 32,
+            _ => random.sized(most).max(100),
+        },
+        time_limit: match random.below(6) {
+            0 => 1,
+            1 => 604_800,
+            2 => 604_799,
+            _ => random.sized(604_800).max(1) as u32,
+        },
+        change_limit: match random.below(10) {
+            0 => 1,
+            1 => 2,
+            2..=4 => 15,
+            5 => 14,
+            _ => random.between(1, 15) as u32,
+        },
+        offset: match random.below(6) {
+            0 => -720,
+            1 => 840,
+            2 => 0,
+            _ => random.between(0, 1560) as i32 - 720,
+        },
+        node_id: {
+            let length = match random.below(5) {
+                0 => 0,
+                1 => 20,
+                2 => 19,
+                _ => random.between(0, 20),
+            };
+            (0..length).map(|_| node_id_character(random)).collect()
+        },
+    }
+}
+
+pub fn node_id_character(random: &mut Random) -> u8 {
+    match random.below(8) {
+        0 => 0x20,
+        1 => 0x7E,
+        _ => random.between(0x20, 0x7E) as u8,
+    }
+}
+
+pub fn apn_character(random: &mut Random) -> u8 {
+    random.pick(b"aabmyzzAABMYZZ0189.-")
+}
+
+pub fn imsi(random: &mut Random, digits: usize) -> [u8; 8] {
+    let mut imsi = [0xFF; 8];
+    for half in 0..digits {
+        let digit = random.pick(&[0, 1, 5, 8, 9]);
+        let octet = &mut imsi[half / 2];
+        *octet = if half % 2 == 0 { *octet & 0xF0 | digit } else { *octet & 15 | digit << 4 };
+    }
+    imsi
+}
+
+pub fn qos(random: &mut Random) -> Qos {
+    QOS_HIGHEST.map(|most| match random.below(3) {
+        0 => 0,
+        1 => most,
+        _ => random.between(0, most.into()) as u8,
+    })
+}
+
+fn name(random: &mut Random) -> Name {
+    Name { charging_id: random.pick(&IDS), ggsn: random.pick(&GGSNS) }
+}
+
+pub fn start(random: &mut Random) -> Start {
+    let digits = random.pick(&[6, 6, 7, 8, 11, 14, 15, 15]);
+    let length = match random.below(5) {
+        0 => 1,
+        1 => 63,
+        2 => 62,
+        _ => random.between(1, 63),
+    };
+    Start {
+        flags: random.below(4) as u8,
+        imsi: imsi(random, digits),
+        pdp_type: [random.octet(), random.octet()],
+        address: [random.octet(), random.octet(), random.octet(), random.octet()],
+        qos: qos(random),
+        apn: (0..length).map(|_| apn_character(random)).collect(),
+    }
+}
+
+/// Two volumes, often such that the limit is just met or just missed.
+pub fn volumes(random: &mut Random, context: &Context, limit: u64) -> (u32, u32) {
+    let most = u64::from(u32::MAX);
+    let left = limit.saturating_sub(context.record_volume());
+    let sum = match random.below(8) {
+        0 => 0,
+        1 => left,
+        2 | 3 => left.saturating_sub(1),
+        4 => most * 2,
+        _ => random.sized(left / 4),
+    };
+    let sum = sum.min(most * 2);
+    let uplink = random.between(sum.saturating_sub(most), sum.min(most));
+    (uplink as u32, (sum - uplink) as u32)
+}
+
+/// Another profile, often one that differs in one level alone.
+pub fn other_qos(random: &mut Random, old: Qos) -> Qos {
+    let mut new = old;
+    let at = random.below(5) as usize;
+    new[at] = if new[at] == 0 { 1 } else { new[at] - 1 };
+    if random.percent(50) {
+        new
+    } else {
+        qos(random)
+    }
+}
+
+fn active(random: &mut Random, node: &Node) -> Option<Context> {
+    let active: Vec<&Context> = node.slots.iter().flatten().collect();
+    (!active.is_empty()).then(|| active[random.below(active.len() as u64) as usize].clone())
+}
+
+/// A time from the clock on.
+pub fn time(random: &mut Random, node: &Node) -> u32 {
+    let left = u64::from(LAST_SECOND.saturating_sub(node.clock));
+    let on = match random.below(10) {
+        0..=3 => 0,
+        4..=6 => 1,
+        7 | 8 => random.sized(2000),
+        _ => random.sized(left),
+    };
+    node.clock + on.min(left) as u32
+}
+
+/// What may happen next, as sessions go; the share of those that activate.
+fn next(random: &mut Random, node: &Node, activating: u64) -> What {
+    let Some(context) = active(random, node).filter(|_| !random.percent(activating)) else {
+        return match random.below(20) {
+            0 => What::Tick,
+            1 => What::Tariff,
+            _ => What::Activate(name(random), Box::new(start(random))),
+        };
+    };
+    match random.below(100) {
+        0..=34 => {
+            let (up, down) = volumes(random, &context, node.profile.volume_limit);
+            What::Traffic(context.name, up, down)
+        }
+        35..=69 => What::Qos(context.name, other_qos(random, context.qos)),
+        70..=73 => What::Qos(context.name, context.qos),
+        74..=90 => What::Tariff,
+        91 | 92 => What::Tick,
+        93..=97 => What::Management(context.name),
+        _ => What::Release(context.name, random.pick(&[0, 4, 18])),
+    }
+}
+
+/// The nodes of a run: one after every few events.
+pub fn run(random: &mut Random) -> Vec<Node> {
+    let mut node = Node::fresh(profile(random));
+    let begin = match random.below(4) {
+        0 => 0,
+        1 => random.below(3_000_000_000) as u32,
+        2 => LAST_SECOND - random.sized(1000) as u32,
+        _ => random.sized(1_000_000) as u32,
+    };
+    let mut nodes = vec![node.clone()];
+    let activating = random.pick(&[3, 10, 25, 60]);
+    for round in 0..random.between(8, 90) {
+        let what = next(random, &node, activating);
+        let at = match round {
+            0 => begin,
+            // few jumps, so that records stay open
+            _ if random.percent(5) => time(random, &node),
+            _ => time(random, &node).min(node.clock.saturating_add(60)),
+        };
+        node = step(&node, &octets(at, &what), ROOM, Fault::None).node;
+        if random.percent(12) {
+            nodes.push(node.clone());
+        }
+    }
+    nodes.push(node);
+    nodes
+}
+
+/// An event for a node, most of them such as a sound node takes.
+pub fn event(random: &mut Random, node: &Node) -> Vec<u8> {
+    let mut at = time(random, node);
+    let what = match active(random, node) {
+        Some(context) if random.percent(70) => match random.below(13) {
+            0..=3 => {
+                let (up, down) = volumes(random, &context, node.profile.volume_limit);
+                What::Traffic(context.name, up, down)
+            }
+            4 => What::Qos(context.name, other_qos(random, context.qos)),
+            5 => What::Management(context.name),
+            6 | 7 => {
+                let met = context.opened.saturating_add(node.profile.time_limit);
+                at = met.saturating_sub(random.below(2) as u32).max(node.clock);
+                What::Tick
+            }
+            8 => What::Tariff,
+            9 => What::Activate(context.name, Box::new(start(random))),
+            _ => What::Release(context.name, random.pick(&[0, 4, 18])),
+        },
+        _ => match random.below(8) {
+            0 => What::Tariff,
+            1 => What::Tick,
+            2 => What::Management(name(random)),
+            3 => What::Traffic(name(random), 1, 1),
+            _ => What::Activate(name(random), Box::new(start(random))),
+        },
+    };
+    let mut event = octets(at, &what);
+    // some with two faults, so that the order shows
+    while random.percent(15) && event.len() > event::HEAD {
+        spoil(random, &mut event, node);
+    }
+    event
+}
+
+/// Makes an event that is refused with one of 1 to 6.
+fn spoil(random: &mut Random, event: &mut Vec<u8>, node: &Node) {
+    let kind = event::kind(event);
+    match random.below(14) {
+        0 => event.clear(),
+        1 => event.truncate(random.below(7) as usize),
+        2 | 7 => event[random.below(2) as usize] ^= 1 << random.below(8),
+        3 | 8 => event[2] = random.pick(&[0, 8, 255]),
+        4 => event.push(0),
+        5 => event[3..7].copy_from_slice(&(LAST_SECOND + 1).to_be_bytes()),
+        6 if node.clock > 0 => {
+            event[3..7].copy_from_slice(&(node.clock.min(LAST_SECOND) - 1).to_be_bytes());
+        }
+        _ => spoil_field(random, event, kind),
+    }
+}
+
+/// A field out of range, where the kind has one that may be.
+fn spoil_field(random: &mut Random, event: &mut Vec<u8>, kind: u8) {
+    match kind {
+        event::QOS if event.len() == 20 => {
+            let level = random.below(5) as usize;
+            event[15 + level] = QOS_HIGHEST[level] + 1;
+        }
+        event::RELEASE if event.len() == 16 => event[15] = random.pick(&[1, 16, 17, 255]),
+        event::ACTIVATE if event.len() > 36 => match random.below(6) {
+            0 => event[15] = 4,
+            1 => event[16..24].copy_from_slice(&imsi(random, 5)),
+            2 => event[34] = 19,
+            3 => {
+                event.truncate(36);
+                event[35] = 64;
+                event.resize(100, b'a');
+            }
+            4 => {
+                event.truncate(37);
+                event[35] = 0;
+            }
+            _ => event[36] = b'_',
+        },
+        _ => event.push(0),
+    }
+}
+
+/// A room: all there may be, just enough, one too few, or none.
+pub fn room(random: &mut Random, node: &Node, event: &[u8]) -> usize {
+    let needed = step_of_sound(node, event, ROOM, Fault::None).output.len();
+    match random.below(10) {
+        0 => ROOM,
+        1 => needed.saturating_sub(1),
+        2 => 0,
+        3 => random.below(needed as u64 + 1) as usize,
+        4 => needed + random.below(40) as usize,
+        _ => needed,
+    }
+}

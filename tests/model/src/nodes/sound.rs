@@ -1,0 +1,546 @@
+//! "A sound node", rule by rule, of a node with all its stored fields. Written
+//! from document 01 alone; words in quotes are the document's.
+
+use super::faults::{Bound, Fault, Wrong};
+use super::stored::{within, Container, Context, Stored, APN, NODE_ID, PLACES, SLOTS};
+use crate::event::Qos;
+
+// ---- the ranges ----
+
+/// Each range that a rule speaks of: its name, its lowest and its highest.
+#[derive(Clone, Copy, Debug, PartialEq, Eq)]
+pub enum Range {
+    VolumeLimit,
+    TimeLimit,
+    ChangeLimit,
+    Zone,
+    NodeIdLength,
+    NodeIdCharacter,
+    Clock,
+    Accepted,
+    Flags,
+    ImsiDigits,
+    ApnLength,
+    Signs,
+    Digits,
+    Capitals,
+    Letters,
+    Reliability,
+    Delay,
+    Precedence,
+    Peak,
+    Mean,
+    Condition,
+}
+
+pub const RANGES: [(Range, &str, i128, i128); 21] = [
+    (Range::VolumeLimit, "volume limit", 1, 1_000_000_000_000),
+    (Range::TimeLimit, "time limit", 1, 604_800),
+    (Range::ChangeLimit, "change limit", 1, 15),
+    // "offset from universal time −720..840 minutes", plus 720
+    (Range::Zone, "zone", 0, 1560),
+    (Range::NodeIdLength, "node ID's length", 0, 20),
+    (Range::NodeIdCharacter, "node ID's characters", 0x20, 0x7E),
+    (Range::Clock, "clock", 0, 3_155_759_999),
+    (Range::Accepted, "accepted count", 0, 1_000_000_000_000_000),
+    (Range::Flags, "flags", 0, 3),
+    (Range::ImsiDigits, "IMSI's digits", 6, 15),
+    (Range::ApnLength, "APN's length", 1, 63),
+    // "APN letters, digits, '.', '-'"
+    (Range::Signs, "APN's signs", b'-' as i128, b'.' as i128),
+    (Range::Digits, "APN's digits", b'0' as i128, b'9' as i128),
+    (Range::Capitals, "APN's capitals", b'A' as i128, b'Z' as i128),
+    (Range::Letters, "APN's small letters", b'a' as i128, b'z' as i128),
+    (Range::Reliability, "reliability", 0, 5),
+    (Range::Delay, "delay", 0, 3),
+    (Range::Precedence, "precedence", 0, 3),
+    (Range::Peak, "peak", 0, 9),
+    (Range::Mean, "mean", 0, 18),
+    (Range::Condition, "condition", 0, 1),
+];
+
+pub const QOS: [(Range, &str); 5] = [
+    (Range::Reliability, "reliability"),
+    (Range::Delay, "delay"),
+    (Range::Precedence, "precedence"),
+    (Range::Peak, "peak"),
+    (Range::Mean, "mean"),
+];
+const QOS_PARTS: &[&str] = &["reliability", "delay", "precedence", "peak", "mean"];
+
+// ---- the rules ----
+
+/// A rule: its name, its words and its parts, of which each is broken by
+/// itself, and the test, which says the parts that a node breaks.
+pub struct Rule {
+    pub name: &'static str,
+    pub words: &'static str,
+    pub parts: &'static [&'static str],
+    test: fn(&Stored, &mut Found),
+}
+
+/// The one part of a rule that has no parts.
+pub const WHOLE: &[&str] = &["whole"];
+
+macro_rules! rules {
+    ($($name:literal $words:literal $parts:expr, $test:ident;)*) => {
+        pub const RULES: &[Rule] =
+            &[$(Rule { name: $name, words: $words, parts: $parts, test: $test }),*];
+    };
+}
+
+rules! {
+    "volume limit" "Profile in range; volume limit 1..1,000,000,000,000" WHOLE, volume_limit;
+    "time limit" "Profile in range; time limit 1..604,800" WHOLE, time_limit;
+    "change limit" "Profile in range; change limit 1..15" WHOLE, change_limit;
+    "offset" "Profile in range; offset -720..840" WHOLE, offset;
+    "node ID's length" "Profile in range; node ID of 0..20 characters" WHOLE, node_id_length;
+    "node ID's characters" "characters 0x20..0x7E" WHOLE, node_id_characters;
+    "node ID's unused octets" "its unused octets zero" WHOLE, node_id_unused;
+    "clock" "clock in range" WHOLE, clock;
+    "accepted count" "accepted count in range" WHOLE, accepted;
+    "names" "active names distinct" WHOLE, names;
+    "active" "a slot is active (1) or free (0)" WHOLE, active;
+    "free slot" "free slots all zero" FREE_PARTS, free_slot;
+    "flags" "stored fields in range: flags 0..3" WHOLE, flags;
+    "IMSI" "stored fields in range: IMSI 6..15 digits, all later halves F"
+        &["digits", "later halves"], imsi;
+    "APN's length" "stored fields in range: n 1..63" WHOLE, apn_length;
+    "APN's characters" "stored fields in range: letters, digits, '.', '-'" WHOLE, apn_characters;
+    "APN's unused octets" "unused octets all zero" WHOLE, apn_unused;
+    "QoS" "stored fields in range: the QoS in force" QOS_PARTS, qos;
+    "container's QoS" "stored fields in range: a container's QoS" QOS_PARTS, container_qos;
+    "stored offset" "one offset: that of a stored time is the profile's"
+        &["opening", "container"], stored_offset;
+    "unused place" "unused container places all zero" PLACE_PARTS, unused_place;
+    "closed records" "closed records below the accepted count" WHOLE, closed;
+    "change count" "container count equals change count" WHOLE, change_count;
+    "container count" "and is below the change limit" WHOLE, container_count;
+    "conditions" "conditions 0 or 1" WHOLE, conditions;
+    "times" "opening <= container times in order <= clock" &[
+        "opening, container", "container, container", "container, clock", "opening, clock",
+    ], times;
+    "QoS between containers" "QoS differs .. exactly after condition 0" &[
+        "same after 0, next", "same after 0, running", "other after 1, next",
+        "other after 1, running",
+    ], qos_between;
+    "volumes" "all volumes of the open record sum below the volume limit" WHOLE, volumes;
+}
+
+/// What a node breaks: the rules' places in the list, and their parts.
+pub struct Found {
+    fault: Fault,
+    rule: usize,
+    pub broken: Vec<(usize, &'static str)>,
+}
+
+/// Every rule that the node breaks, with the part of it, each once.
+pub fn broken(node: &Stored, fault: Fault) -> Vec<(usize, &'static str)> {
+    let mut found = Found { fault, rule: 0, broken: Vec::new() };
+    for (at, rule) in RULES.iter().enumerate() {
+        found.rule = at;
+        (rule.test)(node, &mut found);
+    }
+    found.broken
+}
+
+pub fn is_sound(node: &Stored, fault: Fault) -> bool {
+    broken(node, fault).is_empty()
+}
+
+impl Found {
+    fn unless(&mut self, part: &'static str, kept: bool) {
+        let left_out = match self.fault {
+            Fault::Without(rule, None) => rule == self.rule,
+            Fault::Without(rule, Some(other)) => rule == self.rule && other == part,
+            _ => false,
+        };
+        let said = (self.rule, part);
+        if !kept && !left_out && !self.broken.contains(&said) {
+            self.broken.push(said);
+        }
+    }
+
+    fn in_range(&self, range: Range, value: impl Into<i128>) -> bool {
+        let (_, _, mut low, mut high) = RANGES[range as usize];
+        match self.fault {
+            Fault::Moved(other, Bound::Low, by) if other == range => low += i128::from(by),
+            Fault::Moved(other, Bound::High, by) if other == range => high += i128::from(by),
+            _ => {}
+        }
+        (low..=high).contains(&value.into())
+    }
+
+    fn wrong(&self, wrong: Wrong) -> bool {
+        self.fault == Fault::Wrong(wrong)
+    }
+
+    /// The slots that are looked at: all of them.
+    fn slots<'a>(&self, node: &'a Stored) -> &'a [Context] {
+        match self.fault {
+            Fault::Wrong(Wrong::FirstSlotUnseen) => &node.contexts[1..],
+            Fault::Wrong(Wrong::LastSlotUnseen) => &node.contexts[..SLOTS - 1],
+            _ => &node.contexts,
+        }
+    }
+
+    fn active<'a>(&self, node: &'a Stored) -> impl Iterator<Item = &'a Context> {
+        let any = self.wrong(Wrong::AnyActive);
+        self.slots(node).iter().filter(move |c| c.active == 1 || (any && c.active != 0))
+    }
+
+    /// The octets from a length on, which are to be zero.
+    fn unused_octets<'a>(&self, octets: &'a [u8], length: u64) -> &'a [u8] {
+        let unused = &octets[within(length, octets.len())..];
+        match self.fault {
+            Fault::Wrong(Wrong::FirstOctetUnseen) => &unused[1.min(unused.len())..],
+            Fault::Wrong(Wrong::LastOctetUnseen) => &unused[..unused.len().saturating_sub(1)],
+            _ => unused,
+        }
+    }
+}
+
+// ---- "Profile in range; clock and accepted count in range" ----
+
+fn volume_limit(node: &Stored, found: &mut Found) {
+    found.unless("whole", found.in_range(Range::VolumeLimit, node.profile.volume));
+}
+
+fn time_limit(node: &Stored, found: &mut Found) {
+    found.unless("whole", found.in_range(Range::TimeLimit, node.profile.seconds));
+}
+
+fn change_limit(node: &Stored, found: &mut Found) {
+    found.unless("whole", found.in_range(Range::ChangeLimit, node.profile.changes));
+}
+
+fn offset(node: &Stored, found: &mut Found) {
+    found.unless("whole", found.in_range(Range::Zone, node.profile.zone));
+}
+
+fn node_id_length(node: &Stored, found: &mut Found) {
+    found.unless("whole", found.in_range(Range::NodeIdLength, node.profile.nodelen));
+}
+
+fn node_id_characters(node: &Stored, found: &mut Found) {
+    let id = &node.profile.nodeid[..within(node.profile.nodelen, NODE_ID)];
+    found.unless("whole", id.iter().all(|c| found.in_range(Range::NodeIdCharacter, *c)));
+}
+
+fn node_id_unused(node: &Stored, found: &mut Found) {
+    let unused = found.unused_octets(&node.profile.nodeid, node.profile.nodelen);
+    found.unless("whole", unused.iter().all(|octet| *octet == 0));
+}
+
+fn clock(node: &Stored, found: &mut Found) {
+    found.unless("whole", found.in_range(Range::Clock, node.clock));
+}
+
+fn accepted(node: &Stored, found: &mut Found) {
+    found.unless("whole", found.in_range(Range::Accepted, node.accepted));
+}
+
+// ---- "active names distinct" ----
+
+fn names(node: &Stored, found: &mut Found) {
+    let active: Vec<&Context> = found.active(node).collect();
+    let same = |one: &Context, other: &Context| match found.fault {
+        Fault::Wrong(Wrong::NamesById) => one.id == other.id,
+        Fault::Wrong(Wrong::NamesByGgsn) => one.ggsn == other.ggsn,
+        _ => one.name() == other.name(),
+    };
+    let from = |at: usize| match found.fault {
+        Fault::Wrong(Wrong::NamesOfNeighbours) => at.saturating_sub(1),
+        Fault::Wrong(Wrong::NamesButFirst) => 1.min(at),
+        _ => 0,
+    };
+    let distinct = active
+        .iter()
+        .enumerate()
+        .all(|(at, context)| active[from(at)..at].iter().all(|before| !same(before, context)));
+    found.unless("whole", distinct);
+}
+
+// ---- "free slots .. all zero" ----
+
+fn active(node: &Stored, found: &mut Found) {
+    let any = found.wrong(Wrong::AnyActive);
+    found.unless("whole", found.slots(node).iter().all(|c| any || c.active <= 1));
+}
+
+/// The fields of a container, each with whether it is zero.
+const PLACE_PARTS: &[&str] = &[
+    "reliability",
+    "delay",
+    "precedence",
+    "peak",
+    "mean",
+    "uplink",
+    "downlink",
+    "condition",
+    "seconds",
+    "zone",
+];
+
+fn place_zero(container: &Container, found: &mut Found) {
+    let Container { qos, uplink, downlink, condition, time } = container;
+    for ((_, part), value) in QOS.iter().zip(qos) {
+        found.unless(part, *value == 0);
+    }
+    found.unless("uplink", *uplink == 0);
+    found.unless("downlink", *downlink == 0);
+    found.unless("condition", *condition == 0);
+    found.unless("seconds", time.seconds == 0);
+    found.unless("zone", time.zone == 0);
+}
+
+const FREE_PARTS: &[&str] = &[
+    "flags",
+    "id",
+    "ggsn",
+    "imsi",
+    "apn",
+    "apnlen",
+    "pdptype",
+    "address",
+    "qos",
+    "running uplink",
+    "running downlink",
+    "opening's seconds",
+    "opening's zone",
+    "changes",
+    "reliability",
+    "delay",
+    "precedence",
+    "peak",
+    "mean",
+    "uplink",
+    "downlink",
+    "condition",
+    "seconds",
+    "zone",
+    "count",
+    "closed",
+];
+
+fn free_slot(node: &Stored, found: &mut Found) {
+    for context in found.slots(node).iter().filter(|c| c.active == 0) {
+        found.unless("flags", context.flags == 0);
+        found.unless("id", context.id == 0);
+        found.unless("ggsn", context.ggsn == 0);
+        found.unless("imsi", context.imsi == [0; 8]);
+        found.unless("apn", context.apn == [0; APN]);
+        found.unless("apnlen", context.apnlen == 0);
+        found.unless("pdptype", context.pdptype == 0);
+        found.unless("address", context.address == 0);
+        found.unless("qos", context.qos == [0; 5]);
+        found.unless("running uplink", context.uplink == 0);
+        found.unless("running downlink", context.downlink == 0);
+        found.unless("opening's seconds", context.opening.seconds == 0);
+        found.unless("opening's zone", context.opening.zone == 0);
+        found.unless("changes", context.changes == 0);
+        for container in &context.containers {
+            place_zero(container, found);
+        }
+        found.unless("count", context.count == 0);
+        found.unless("closed", context.closed == 0);
+    }
+}
+
+// ---- "stored fields in range", "unused octets and unused container places all zero" ----
+
+fn flags(node: &Stored, found: &mut Found) {
+    found.unless("whole", found.active(node).all(|c| found.in_range(Range::Flags, c.flags)));
+}
+
+/// "IMSI 6..15 digits, low half first, all later halves F"
+fn imsi(node: &Stored, found: &mut Found) {
+    for context in found.active(node) {
+        let halves: Vec<u8> = context.imsi.iter().flat_map(|o| [o & 15, o >> 4]).collect();
+        let digits = halves.iter().take_while(|half| **half < 10).count();
+        let mut later = halves[digits..].iter();
+        found.unless("digits", found.in_range(Range::ImsiDigits, digits as u8));
+        found.unless("later halves", later.all(|half| *half == 15));
+    }
+}
+
+fn apn_length(node: &Stored, found: &mut Found) {
+    found.unless("whole", found.active(node).all(|c| found.in_range(Range::ApnLength, c.apnlen)));
+}
+
+fn apn_characters(node: &Stored, found: &mut Found) {
+    let classes = [Range::Signs, Range::Digits, Range::Capitals, Range::Letters];
+    let good = |c: &u8| classes.iter().any(|class| found.in_range(*class, *c));
+    found.unless("whole", found.active(node).all(|context| context.apn().iter().all(good)));
+}
+
+fn apn_unused(node: &Stored, found: &mut Found) {
+    let zero = |c: &Context| found.unused_octets(&c.apn, c.apnlen).iter().all(|o| *o == 0);
+    found.unless("whole", found.active(node).all(zero));
+}
+
+fn qos_in_range(qos: &Qos, found: &mut Found) {
+    for ((range, part), value) in QOS.iter().zip(qos) {
+        found.unless(part, found.in_range(*range, *value));
+    }
+}
+
+fn qos(node: &Stored, found: &mut Found) {
+    for context in found.active(node) {
+        qos_in_range(&context.qos, found);
+    }
+}
+
+fn container_qos(node: &Stored, found: &mut Found) {
+    for container in found.active(node).flat_map(Context::used) {
+        qos_in_range(&container.qos, found);
+    }
+}
+
+/// The profile has one offset, and a stored time keeps its own beside it.
+fn stored_offset(node: &Stored, found: &mut Found) {
+    for context in found.active(node) {
+        found.unless("opening", context.opening.zone == node.profile.zone);
+        for container in context.used() {
+            found.unless("container", container.time.zone == node.profile.zone);
+        }
+    }
+}
+
+fn unused_place(node: &Stored, found: &mut Found) {
+    for context in found.active(node) {
+        let unused = context.unused();
+        let seen = match found.fault {
+            Fault::Wrong(Wrong::FirstPlaceUnseen) => &unused[1.min(unused.len())..],
+            Fault::Wrong(Wrong::LastPlaceUnseen) => &unused[..unused.len().saturating_sub(1)],
+            _ => unused,
+        };
+        for container in seen {
+            place_zero(container, found);
+        }
+    }
+}
+
+// ---- "Per context" ----
+
+/// "closed records below the accepted count"
+fn closed(node: &Stored, found: &mut Found) {
+    let below = |c: &Context| match found.fault {
+        Fault::Wrong(Wrong::ClosedMayMeet) => c.closed <= node.accepted,
+        Fault::Wrong(Wrong::ClosedTwoBelow) => c.closed.saturating_add(1) < node.accepted,
+        _ => c.closed < node.accepted,
+    };
+    found.unless("whole", found.active(node).all(below));
+}
+
+/// "container count equals change count"
+fn change_count(node: &Stored, found: &mut Found) {
+    let equal = |c: &Context| match found.fault {
+        Fault::Wrong(Wrong::MoreChanges) => c.count <= u64::from(c.changes),
+        Fault::Wrong(Wrong::FewerChanges) => c.count >= u64::from(c.changes),
+        _ => c.count == u64::from(c.changes),
+    };
+    found.unless("whole", found.active(node).all(equal));
+}
+
+/// "and is below the change limit"
+fn container_count(node: &Stored, found: &mut Found) {
+    let limit = u64::from(node.profile.changes);
+    let below = |c: &Context| match found.fault {
+        Fault::Wrong(Wrong::CountMayMeet) => c.count <= limit,
+        Fault::Wrong(Wrong::CountTwoBelow) => c.count.saturating_add(1) < limit.max(2),
+        _ => c.count < limit,
+    };
+    found.unless("whole", found.active(node).all(below));
+}
+
+/// "conditions 0 or 1"
+fn conditions(node: &Stored, found: &mut Found) {
+    let mut used = found.active(node).flat_map(Context::used);
+    found.unless("whole", used.all(|c| found.in_range(Range::Condition, c.condition)));
+}
+
+/// "opening ≤ container times in order ≤ clock"
+fn times(node: &Stored, found: &mut Found) {
+    let strict = found.wrong(Wrong::TimesStrict);
+    let order = |one: u32, other: u32| if strict { one < other } else { one <= other };
+    for context in found.active(node) {
+        let opening = context.opening.seconds;
+        let times: Vec<u32> = context.used().iter().map(|c| c.time.seconds).collect();
+        for pair in times.windows(2) {
+            found.unless("container, container", order(pair[0], pair[1]));
+        }
+        match times[..] {
+            [] => found.unless("opening, clock", opening <= node.clock),
+            [first, ..] => {
+                let last = times[times.len() - 1];
+                found.unless("opening, container", opening <= first);
+                found.unless("container, clock", last <= node.clock);
+            }
+        }
+    }
+}
+
+/// "QoS differs from one container to the next, or to the running one, exactly
+/// after condition 0"
+fn qos_between(node: &Stored, found: &mut Found) {
+    for context in found.active(node) {
+        let used = context.used();
+        for (at, container) in used.iter().enumerate() {
+            let next = used.get(at + 1).map_or(context.qos, |next| next.qos);
+            let same = match found.fault {
+                Fault::Wrong(Wrong::QosButMean) => container.qos[..4] == next[..4],
+                Fault::Wrong(Wrong::QosButReliability) => container.qos[1..] == next[1..],
+                _ => container.qos == next,
+            };
+            let (after_0, after_1) = if at + 1 < used.len() {
+                ("same after 0, next", "other after 1, next")
+            } else {
+                ("same after 0, running", "other after 1, running")
+            };
+            if container.condition == 0 {
+                found.unless(after_0, !same);
+            } else {
+                found.unless(after_1, same);
+            }
+        }
+    }
+}
+
+/// "all volumes of the open record sum below the volume limit"
+fn volumes(node: &Stored, found: &mut Found) {
+    let limit = u128::from(node.profile.volume);
+    let sum = |context: &Context| -> u128 {
+        let ended = context.used().iter().map(|c| (c.uplink, c.downlink));
+        let running = [(context.uplink, context.downlink)].into_iter();
+        let both = |(up, down): (u64, u64)| u128::from(up) + u128::from(down);
+        match found.fault {
+            Fault::Wrong(Wrong::RunningOnly) => running.map(both).sum(),
+            Fault::Wrong(Wrong::EndedOnly) => ended.map(both).sum(),
+            Fault::Wrong(Wrong::UplinkOnly) => ended.chain(running).map(|v| u128::from(v.0)).sum(),
+            Fault::Wrong(Wrong::DownlinkOnly) => {
+                ended.chain(running).map(|v| u128::from(v.1)).sum()
+            }
+            Fault::Wrong(Wrong::SumWraps) => {
+                ended.chain(running).map(both).sum::<u128>() as u64 as u128
+            }
+            _ => ended.chain(running).map(both).sum(),
+        }
+    };
+    let below = |context: &Context| match found.fault {
+        Fault::Wrong(Wrong::VolumesMayMeet) => sum(context) <= limit,
+        Fault::Wrong(Wrong::VolumesTwoBelow) => sum(context) + 1 < limit.max(2),
+        _ => sum(context) < limit,
+    };
+    found.unless("whole", found.active(node).all(below));
+}
+
+/// The volumes of a context's open record.
+pub fn record_volume(context: &Context) -> u128 {
+    let ended: u128 =
+        context.used().iter().map(|c| u128::from(c.uplink) + u128::from(c.downlink)).sum();
+    ended + u128::from(context.uplink) + u128::from(context.downlink)
+}
+
+/// How many places may be used.
+pub const MOST_USED: usize = PLACES - 1;

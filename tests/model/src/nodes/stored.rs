@@ -1,0 +1,385 @@
+//! The node as a host in C holds it (include/charging.h): every stored field,
+//! those of free slots and unused places too.
+
+use crate::event::{Name, Qos, Start};
+use crate::node;
+use crate::profile;
+
+pub const SLOTS: usize = node::SLOTS;
+pub const PLACES: usize = 15;
+pub const APN: usize = 63;
+pub const NODE_ID: usize = 20;
+/// "minutes from universal time plus 720"
+pub const ZONE_OF_ZERO: i32 = 720;
+
+/// A stored time keeps its offset, as a zone.
+#[derive(Clone, Copy, Debug, Default, PartialEq, Eq)]
+pub struct Stamp {
+    pub seconds: u32,
+    pub zone: u16,
+}
+
+#[derive(Clone, Copy, Debug, Default, PartialEq, Eq)]
+pub struct Container {
+    pub qos: Qos,
+    pub uplink: u64,
+    pub downlink: u64,
+    pub condition: u8,
+    pub time: Stamp,
+}
+
+#[derive(Clone, Copy, Debug, PartialEq, Eq)]
+pub struct Context {
+    pub active: u8,
+    pub flags: u8,
+    pub id: u32,
+    pub ggsn: u32,
+    pub imsi: [u8; 8],
+    pub apn: [u8; APN],
+    pub apnlen: u64,
+    pub pdptype: u16,
+    pub address: u32,
+    pub qos: Qos,
+    pub uplink: u64,
+    pub downlink: u64,
+    pub opening: Stamp,
+    pub changes: u8,
+    pub containers: [Container; PLACES],
+    pub count: u64,
+    pub closed: u64,
+}
+
+#[derive(Clone, Copy, Debug, Default, PartialEq, Eq)]
+pub struct Profile {
+    pub sgsn: u32,
+    pub volume: u64,
+    pub seconds: u32,
+    pub changes: u8,
+    pub zone: u16,
+    pub nodeid: [u8; NODE_ID],
+    pub nodelen: u64,
+}
+
+#[derive(Clone, Debug, PartialEq, Eq)]
+pub struct Stored {
+    pub profile: Profile,
+    pub clock: u32,
+    pub accepted: u64,
+    pub contexts: [Context; SLOTS],
+}
+
+/// A free slot: "all zero".
+pub const FREE: Context = Context {
+    active: 0,
+    flags: 0,
+    id: 0,
+    ggsn: 0,
+    imsi: [0; 8],
+    apn: [0; APN],
+    apnlen: 0,
+    pdptype: 0,
+    address: 0,
+    qos: [0; 5],
+    uplink: 0,
+    downlink: 0,
+    opening: Stamp { seconds: 0, zone: 0 },
+    changes: 0,
+    containers: [Container {
+        qos: [0; 5],
+        uplink: 0,
+        downlink: 0,
+        condition: 0,
+        time: Stamp { seconds: 0, zone: 0 },
+    }; PLACES],
+    count: 0,
+    closed: 0,
+};
+
+/// As much of a length as the octets or places allow.
+pub fn within(length: u64, most: usize) -> usize {
+    usize::try_from(length).unwrap_or(most).min(most)
+}
+
+impl Context {
+    pub fn apn(&self) -> &[u8] {
+        &self.apn[..within(self.apnlen, APN)]
+    }
+
+    /// The ended containers of the open record.
+    pub fn used(&self) -> &[Container] {
+        &self.containers[..within(self.count, PLACES)]
+    }
+
+    pub fn unused(&self) -> &[Container] {
+        &self.containers[within(self.count, PLACES)..]
+    }
+
+    pub fn name(&self) -> Name {
+        Name { charging_id: self.id, ggsn: self.ggsn.to_be_bytes() }
+    }
+
+    fn view(&self) -> node::Context {
+        let view = |c: &Container| node::Container {
+            qos: c.qos,
+            uplink: c.uplink,
+            downlink: c.downlink,
+            condition: c.condition,
+            time: c.time.seconds,
+        };
+        node::Context {
+            name: self.name(),
+            start: Start {
+                flags: self.flags,
+                imsi: self.imsi,
+                pdp_type: self.pdptype.to_be_bytes(),
+                address: self.address.to_be_bytes(),
+                qos: self.qos,
+                apn: self.apn().to_vec(),
+            },
+            closed: self.closed,
+            opened: self.opening.seconds,
+            containers: self.used().iter().map(view).collect(),
+            changes: self.changes.into(),
+            qos: self.qos,
+            uplink: self.uplink,
+            downlink: self.downlink,
+            activated: self.opening.seconds,
+        }
+    }
+
+    fn store(context: &node::Context, zone: u16) -> Context {
+        let mut stored = Context {
+            active: 1,
+            flags: context.start.flags,
+            id: context.name.charging_id,
+            ggsn: u32::from_be_bytes(context.name.ggsn),
+            imsi: context.start.imsi,
+            apnlen: context.start.apn.len() as u64,
+            pdptype: u16::from_be_bytes(context.start.pdp_type),
+            address: u32::from_be_bytes(context.start.address),
+            qos: context.qos,
+            uplink: context.uplink,
+            downlink: context.downlink,
+            opening: Stamp { seconds: context.opened, zone },
+            changes: context.changes as u8,
+            count: context.containers.len() as u64,
+            closed: context.closed,
+            ..FREE
+        };
+        stored.apn[..context.start.apn.len()].copy_from_slice(&context.start.apn);
+        for (place, c) in stored.containers.iter_mut().zip(&context.containers) {
+            *place = Container {
+                qos: c.qos,
+                uplink: c.uplink,
+                downlink: c.downlink,
+                condition: c.condition,
+                time: Stamp { seconds: c.time, zone },
+            };
+        }
+        stored
+    }
+}
+
+impl Stored {
+    pub fn zero() -> Stored {
+        Stored { profile: Profile::default(), clock: 0, accepted: 0, contexts: [FREE; SLOTS] }
+    }
+
+    pub fn active(&self) -> impl Iterator<Item = &Context> {
+        self.contexts.iter().filter(|c| c.active == 1)
+    }
+
+    /// The slots with this `active`.
+    pub fn slots(&self, active: u8) -> Vec<usize> {
+        (0..SLOTS).filter(|at| self.contexts[*at].active == active).collect()
+    }
+
+    /// The model's node; what it does not hold is lost.
+    pub fn view(&self) -> node::Node {
+        let profile = &self.profile;
+        let mut view = node::Node::fresh(profile::Profile {
+            sgsn: profile.sgsn.to_be_bytes(),
+            volume_limit: profile.volume,
+            time_limit: profile.seconds,
+            change_limit: profile.changes.into(),
+            offset: i32::from(profile.zone) - ZONE_OF_ZERO,
+            node_id: profile.nodeid[..within(profile.nodelen, NODE_ID)].to_vec(),
+        });
+        view.clock = self.clock;
+        view.accepted = self.accepted;
+        let slot = |c: &Context| (c.active == 1).then(|| c.view());
+        view.slots = self.contexts.iter().map(slot).collect();
+        view
+    }
+
+    /// "free slots, unused octets and unused container places all zero"
+    pub fn store(node: &node::Node) -> Stored {
+        let profile = &node.profile;
+        let zone = (profile.offset + ZONE_OF_ZERO) as u16;
+        let mut stored = Stored::zero();
+        stored.profile = Profile {
+            sgsn: u32::from_be_bytes(profile.sgsn),
+            volume: profile.volume_limit,
+            seconds: profile.time_limit,
+            changes: profile.change_limit as u8,
+            zone,
+            nodeid: [0; NODE_ID],
+            nodelen: profile.node_id.len() as u64,
+        };
+        stored.profile.nodeid[..profile.node_id.len()].copy_from_slice(&profile.node_id);
+        stored.clock = node.clock;
+        stored.accepted = node.accepted;
+        for (slot, context) in stored.contexts.iter_mut().zip(&node.slots) {
+            *slot = context.as_ref().map_or(FREE, |c| Context::store(c, zone));
+        }
+        stored
+    }
+}
+
+// ---- the fields one after another, in the header's order ----
+
+/// What is done with each field: its octets, lowest first.
+pub trait Walk {
+    fn field(&mut self, name: &'static str, octets: &mut [u8]);
+    /// The fields that follow belong to this part, up to the next of its depth.
+    fn part(&mut self, _depth: usize, _name: &'static str, _at: usize) {}
+}
+
+macro_rules! number {
+    ($walk:expr, $name:literal, $field:expr) => {{
+        let mut octets = $field.to_le_bytes();
+        $walk.field($name, &mut octets);
+        copy_back(&mut $field, octets);
+    }};
+}
+
+trait Number<const N: usize> {
+    fn set(&mut self, octets: [u8; N]);
+}
+
+macro_rules! numbers {
+    ($($kind:ty, $size:literal;)*) => {
+        $(impl Number<$size> for $kind {
+            fn set(&mut self, octets: [u8; $size]) {
+                *self = <$kind>::from_le_bytes(octets);
+            }
+        })*
+    };
+}
+numbers! { u8, 1; u16, 2; u32, 4; u64, 8; }
+
+fn copy_back<const N: usize>(field: &mut impl Number<N>, octets: [u8; N]) {
+    field.set(octets);
+}
+
+fn walk_stamp(walk: &mut impl Walk, stamp: &mut Stamp) {
+    number!(walk, "seconds", stamp.seconds);
+    number!(walk, "zone", stamp.zone);
+}
+
+fn walk_container(walk: &mut impl Walk, container: &mut Container) {
+    walk.field("qos", &mut container.qos);
+    number!(walk, "uplink", container.uplink);
+    number!(walk, "downlink", container.downlink);
+    number!(walk, "condition", container.condition);
+    walk_stamp(walk, &mut container.time);
+}
+
+fn walk_context(walk: &mut impl Walk, context: &mut Context) {
+    number!(walk, "active", context.active);
+    number!(walk, "flags", context.flags);
+    number!(walk, "id", context.id);
+    number!(walk, "ggsn", context.ggsn);
+    walk.field("imsi", &mut context.imsi);
+    walk.field("apn", &mut context.apn);
+    number!(walk, "apnlen", context.apnlen);
+    number!(walk, "pdptype", context.pdptype);
+    number!(walk, "address", context.address);
+    walk.field("qos", &mut context.qos);
+    number!(walk, "uplink", context.uplink);
+    number!(walk, "downlink", context.downlink);
+    walk_stamp(walk, &mut context.opening);
+    number!(walk, "changes", context.changes);
+    for (at, container) in context.containers.iter_mut().enumerate() {
+        walk.part(1, "container", at);
+        walk_container(walk, container);
+    }
+    walk.part(1, "", 0);
+    number!(walk, "count", context.count);
+    number!(walk, "closed", context.closed);
+}
+
+fn walk_profile(walk: &mut impl Walk, profile: &mut Profile) {
+    number!(walk, "sgsn", profile.sgsn);
+    number!(walk, "volume", profile.volume);
+    number!(walk, "seconds", profile.seconds);
+    number!(walk, "changes", profile.changes);
+    number!(walk, "zone", profile.zone);
+    walk.field("nodeid", &mut profile.nodeid);
+    number!(walk, "nodelen", profile.nodelen);
+}
+
+impl Stored {
+    pub fn walk(&mut self, walk: &mut impl Walk) {
+        walk_profile(walk, &mut self.profile);
+        number!(walk, "clock", self.clock);
+        number!(walk, "accepted", self.accepted);
+        for (at, context) in self.contexts.iter_mut().enumerate() {
+            walk.part(0, "slot", at);
+            walk_context(walk, context);
+        }
+    }
+
+    pub fn octets(&self) -> Vec<u8> {
+        struct Put(Vec<u8>);
+        impl Walk for Put {
+            fn field(&mut self, _: &'static str, octets: &mut [u8]) {
+                self.0.extend_from_slice(octets);
+            }
+        }
+        let mut put = Put(Vec::with_capacity(OCTETS));
+        self.clone().walk(&mut put);
+        put.0
+    }
+
+    pub fn of_octets(octets: &[u8]) -> Stored {
+        struct Take<'a>(&'a [u8]);
+        impl Walk for Take<'_> {
+            fn field(&mut self, _: &'static str, octets: &mut [u8]) {
+                let (taken, left) = self.0.split_at(octets.len());
+                octets.copy_from_slice(taken);
+                self.0 = left;
+            }
+        }
+        let mut stored = Stored::zero();
+        stored.walk(&mut Take(octets));
+        stored
+    }
+}
+
+/// How many octets a node's fields have.
+pub const OCTETS: usize = 47 + 12 + SLOTS * (139 + PLACES * 28);
+
+/// What the octet at a place belongs to.
+pub fn field_at(place: usize) -> String {
+    struct Find {
+        left: usize,
+        parts: [String; 2],
+        found: Option<String>,
+    }
+    impl Walk for Find {
+        fn field(&mut self, name: &'static str, octets: &mut [u8]) {
+            if self.found.is_none() && self.left < octets.len() {
+                self.found = Some(format!("{}{name}, octet {}", self.parts.concat(), self.left));
+            }
+            self.left = self.left.wrapping_sub(octets.len());
+        }
+        fn part(&mut self, depth: usize, name: &'static str, at: usize) {
+            let part = format!("{name} {at}, ");
+            self.parts[depth] = if name.is_empty() { String::new() } else { part };
+        }
+    }
+    let mut find = Find { left: place, parts: Default::default(), found: None };
+    Stored::zero().walk(&mut find);
+    find.found.unwrap_or("no field".into())
+}

@@ -1,0 +1,152 @@
+/* Calls charging_step on nodes that are handed over, and writes what it answers and leaves.
+ *
+ * Standard input has cases, standard output gets a result for each; tests/model/src/nodes/cases.rs says how both look. There is
+ * no rule of charging here: a node's fields are put where the header says, and read back. */
+#include "charging.h"
+
+extern void *stdin, *stdout;
+size_t fread(void *, size_t, size_t, void *);
+size_t fwrite(const void *, size_t, size_t, void *);
+int fflush(void *);
+_Noreturn void exit(int);
+void *memcpy(void *, const void *, size_t);
+void *memset(void *, int, size_t);
+
+enum { FIELDS = 47 + 12 + CHARGING_CONTEXTS * (139 + CHARGING_CONTAINERS * 28), GUARD = 16, MOST = 65535 };
+
+static struct charging_node node;
+static uint8_t before[FIELDS], after[FIELDS], event[MOST], area[GUARD + MOST + GUARD], was[GUARD + MOST + GUARD];
+
+static void get(void *to, size_t n) {
+    if (fread(to, 1, n, stdin) != n) exit(2);
+}
+
+static void put(const void *from, size_t n) {
+    if (fwrite(from, 1, n, stdout) != n) exit(2);
+}
+
+/* ---- the fields of the node, in the header's order, from octets or to octets ---- */
+
+static uint8_t *at;
+static int filling;
+
+static void field(void *f, size_t n) {
+    if (filling) memcpy(f, at, n);
+    else memcpy(at, f, n);
+    at += n;
+}
+#define FIELD(f) field(&(f), sizeof(f))
+
+static void qos(struct charging_qos *q) {
+    FIELD(q->reliability);
+    FIELD(q->delay);
+    FIELD(q->precedence);
+    FIELD(q->peak);
+    FIELD(q->mean);
+}
+
+static void stamp(struct charging_stamp *s) {
+    FIELD(s->seconds);
+    FIELD(s->zone);
+}
+
+static void container(struct charging_container *c) {
+    qos(&c->qos);
+    FIELD(c->uplink);
+    FIELD(c->downlink);
+    FIELD(c->condition);
+    stamp(&c->time);
+}
+
+static void context(struct charging_context *c) {
+    FIELD(c->active);
+    FIELD(c->flags);
+    FIELD(c->name.id);
+    FIELD(c->name.ggsn);
+    FIELD(c->imsi);
+    FIELD(c->apn);
+    FIELD(c->apnlen);
+    FIELD(c->pdptype);
+    FIELD(c->address);
+    qos(&c->qos);
+    FIELD(c->uplink);
+    FIELD(c->downlink);
+    stamp(&c->opening);
+    FIELD(c->changes);
+    for (int i = 0; i < CHARGING_CONTAINERS; i++) container(&c->containers[i]);
+    FIELD(c->count);
+    FIELD(c->closed);
+}
+
+static void fields(uint8_t *octets, int fill) {
+    at = octets;
+    filling = fill;
+    FIELD(node.profile.sgsn);
+    FIELD(node.profile.limits.volume);
+    FIELD(node.profile.limits.seconds);
+    FIELD(node.profile.limits.changes);
+    FIELD(node.profile.zone);
+    FIELD(node.profile.nodeid);
+    FIELD(node.profile.nodelen);
+    FIELD(node.clock);
+    FIELD(node.accepted);
+    for (int i = 0; i < CHARGING_CONTEXTS; i++) context(&node.contexts[i]);
+    if (at != octets + FIELDS) exit(3);
+}
+
+/* ---- differences ---- */
+
+static void get_difference(uint8_t *octets, size_t n) {
+    for (size_t i = 0;;) {
+        uint16_t run[2];
+        get(run, sizeof run);
+        if (run[1] == 0) return;
+        i += run[0];
+        if (i + run[1] > n) exit(2);
+        get(octets + i, run[1]);
+        i += run[1];
+    }
+}
+
+static void put_difference(const uint8_t *one, const uint8_t *other, size_t n) {
+    uint16_t run[2] = {0, 0};
+    for (size_t i = 0; i < n;) {
+        size_t from = i;
+        while (i < n && one[i] == other[i]) i++;
+        run[0] = (uint16_t)(i - from);
+        from = i;
+        while (i < n && one[i] != other[i]) i++;
+        run[1] = (uint16_t)(i - from);
+        if (run[1] == 0) break;
+        put(run, sizeof run);
+        put(other + from, run[1]);
+    }
+    run[0] = run[1] = 0;
+    put(run, sizeof run);
+}
+
+int main(void) {
+    uint8_t more;
+    while (fread(&more, 1, 1, stdin) == 1) {
+        uint16_t length, room;
+        uint8_t fill;
+        memset(before, 0, sizeof before);
+        get_difference(before, sizeof before);
+        get(&length, sizeof length);
+        get(event, length);
+        get(&room, sizeof room);
+        get(&fill, sizeof fill);
+        size_t whole = GUARD + (size_t)room + GUARD;
+        for (size_t i = 0; i < whole; i++) was[i] = area[i] = (uint8_t)(fill + 7 * i);
+        memset(&node, fill, sizeof node); /* its padding: anything */
+        fields(before, 1);
+        struct charging_answer a = charging_step(&node, event, length, area + GUARD, room);
+        fields(after, 0);
+        uint64_t written = a.written;
+        put(&a.answer, sizeof a.answer);
+        put(&written, sizeof written);
+        put_difference(before, after, FIELDS);
+        put_difference(was, area, whole);
+    }
+    return fflush(stdout) == 0 ? 0 : 2;
+}
