@@ -19,13 +19,16 @@ use charging_model::step::step;
 use std::panic::{catch_unwind, set_hook};
 use std::process::ExitCode;
 
+/// Octets of the results that are changed, one at a time.
+const SPOILT: usize = 16;
+
 // ---- making cases ----
 
 /// Runs of events a round, and pairs of breaks.
 const RUNS: usize = 4;
 const PAIRS: usize = 30;
 /// Nodes that breaks and limits begin from: those of the last runs.
-const POOL: usize = 400;
+const POOL: usize = 1200;
 
 struct Maker {
     random: Random,
@@ -245,8 +248,8 @@ fn shows(cases: &[u8], results: &[u8], fault: Fault) -> Option<(usize, String)> 
     let mut number = 0;
     while !cases.is_empty() {
         number += 1;
-        let case = cases.case()?;
-        let found = results.result(&case)?;
+        let case = cases.case().expect("a file of cases");
+        let Some(found) = results.result(&case) else { return Some((number, "no result".into())) };
         let expected = match fault {
             Fault::None => expected(&case, fault),
             _ => match catch_unwind(|| expected(&case, fault)) {
@@ -258,28 +261,46 @@ fn shows(cases: &[u8], results: &[u8], fault: Fault) -> Option<(usize, String)> 
             return Some((number, difference(&expected, &found)));
         }
     }
-    None
+    (!results.is_empty()).then(|| (number, "more results than cases".into()))
+}
+
+/// Results that are spoilt: an octet changed here and there, one too few, one
+/// too many.
+fn spoilt(results: &[u8]) -> Vec<(String, Vec<u8>)> {
+    let mut all = Vec::new();
+    for part in 0..SPOILT {
+        let at = results.len() / SPOILT * part;
+        let mut changed = results.to_vec();
+        changed[at] ^= 1 << (part % 8);
+        all.push((format!("results with octet {at} changed"), changed));
+    }
+    all.push(("results without the last octet".into(), results[..results.len() - 1].to_vec()));
+    all.push(("results with an octet more".into(), [results, &[0]].concat()));
+    all
 }
 
 fn plant(cases: &[u8], results: &[u8], every: usize) -> bool {
     let (mut passed, mut failed) = (0, 0);
-    if let Some((number, what)) = shows(cases, results, Fault::None) {
-        println!("FAILED  no fault: case {number}, {what}");
-        failed += 1;
+    let mut say = |good: bool, what: String| {
+        println!("{}  {what}", if good { "ok    " } else { "FAILED" });
+        *(if good { &mut passed } else { &mut failed }) += 1;
+    };
+    let shown = |shown: &Option<(usize, String)>| match shown {
+        Some((number, what)) => format!("case {number}, {what}"),
+        None => "no case shows it".into(),
+    };
+    let none = shows(cases, results, Fault::None);
+    say(none.is_none(), format!("no fault: {}", shown(&none)));
+    for (what, results) in spoilt(results) {
+        let noticed = shows(cases, &results, Fault::None);
+        say(noticed.is_some(), format!("{what}: {}", shown(&noticed)));
     }
+    // a faulty model may stop, and says nothing then
     set_hook(Box::new(|_| {}));
     let planted = faults::all();
     for (fault, name, what) in planted.iter().skip(every - 1).step_by(every) {
-        match shows(cases, results, *fault) {
-            Some((number, shown)) => {
-                println!("ok      {name}: {what}: case {number}, {shown}");
-                passed += 1;
-            }
-            None => {
-                println!("FAILED  {name}: {what}: no case shows it");
-                failed += 1;
-            }
-        }
+        let noticed = shows(cases, results, *fault);
+        say(noticed.is_some(), format!("{name}: {what}: {}", shown(&noticed)));
     }
     println!("{passed} passed, {failed} failed");
     failed == 0
@@ -300,7 +321,8 @@ fn main() -> ExitCode {
             plant(&read(cases), &read(results), number(every).max(1) as usize)
         }
         _ => {
-            eprintln!("usage: nodes make SEED ROUNDS CASES | compare CASES RESULTS | faults CASES RESULTS EVERY");
+            eprintln!("usage: nodes make SEED ROUNDS CASES");
+            eprintln!("       nodes compare CASES RESULTS, or faults CASES RESULTS EVERY");
             false
         }
     };

@@ -22,6 +22,7 @@ type Twice = (usize, usize);
 pub struct Counts {
     pub cases: usize,
     nodes: HashSet<u64>,
+    zero: usize,
     /// By how many rules the node breaks.
     broken: BTreeMap<usize, usize>,
     rules: BTreeMap<&'static str, Twice>,
@@ -54,6 +55,7 @@ impl Counts {
         node.octets().hash(&mut hasher);
         self.nodes.insert(hasher.finish());
         self.cases += 1;
+        self.zero += usize::from(*node == Stored::zero());
         *self.answers.entry(answer).or_default() += 1;
         let parts = broken(node, Fault::None);
         let rules: BTreeSet<usize> = parts.iter().map(|part| part.0).collect();
@@ -108,6 +110,7 @@ impl Counts {
         let mut lines = Vec::new();
         let mut line = |name: String, met, least| lines.push((name, met, least));
         line("different nodes".into(), self.nodes.len(), NODES);
+        line("nodes of zeros alone, as 12 leaves them".into(), self.zero, 1);
         line("sound nodes".into(), of(&self.broken, 0), NODES / 4);
         line("nodes that break one rule".into(), of(&self.broken, 1), NODES / 4);
         line("nodes that break two rules".into(), of(&self.broken, 2), NODES / 20);

@@ -42,7 +42,7 @@ faults! { Wrong, WRONGS:
     CountTwoBelow "count-two-below" "the container count must be two below the change limit",
     TimesStrict "times-strict" "equal times of two containers are out of order",
     QosButMean "qos-but-mean" "profiles that differ in mean alone are the same",
-    QosButReliability "qos-but-reliability" "profiles that differ in reliability alone are the same",
+    QosButReliability "qos-but-reliability" "profiles that differ in reliability are the same",
     RunningOnly "running-only" "the volumes of ended containers are not summed",
     EndedOnly "ended-only" "the running volumes are not summed",
     UplinkOnly "uplink-only" "the downlink is not summed",
@@ -100,7 +100,8 @@ pub fn all() -> Vec<(Fault, String, String)> {
     for (wrong, name, what) in WRONGS {
         all.push((Fault::Wrong(*wrong), name.to_string(), what.to_string()));
     }
-    // Two of the model's speak of what is no part of a stored node: an activation that is over, and when one began.
+    // Two of the model's speak of what no node stores: the numbers of an
+    // activation that is over, and when one began.
     let unstored = [fault::Fault::NumberKept, fault::Fault::DurationFromActivation];
     for (event, name, what) in fault::FAULTS.iter().filter(|f| !unstored.contains(&f.0)) {
         all.push((Fault::Event(*event), name.to_string(), what.to_string()));

@@ -83,8 +83,10 @@ fn closed(node: &mut Stored, random: &mut Random) -> Option<Vec<u8>> {
     let slot = any_active(node, random)?;
     if random.percent(60) {
         let least = node.active().map(|c| c.closed + 1).max()?;
-        let many = random.pick(&[127, 128, 32_767, 32_768, 65_536, 1 << 31, 1 << 47]);
-        let many = random.pick(&[many, MOST_ACCEPTED, MOST_ACCEPTED - 1, MOST_ACCEPTED - 2]);
+        let many = match random.percent(50) {
+            true => random.pick(&[128, 32_767, 32_768, 40_000, 65_535, 65_536, 1 << 31, 1 << 47]),
+            false => MOST_ACCEPTED - random.below(3),
+        };
         node.accepted = many.max(least);
     }
     let context = &mut node.contexts[slot];
