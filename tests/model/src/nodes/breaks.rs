@@ -2,7 +2,7 @@
 
 use super::limits::{any_active, set_zone};
 use super::runs::{apn_character, imsi, node_id_character};
-use super::sound::{record_volume, Range, MOST_USED, RANGES};
+use super::sound::{record_volume, Range, RANGES};
 use super::stored::{within, Container, Context, Stored, APN, FREE, NODE_ID, PLACES, SLOTS};
 use crate::random::Random;
 
@@ -408,7 +408,7 @@ fn count_high(node: &mut Stored, random: &mut Random) -> Option<()> {
 /// The change limit is a context's count of containers; or all its places are used.
 fn container_count(node: &mut Stored, random: &mut Random) -> Option<()> {
     let (context, count) = with(node, random, 1)?;
-    if random.percent(30) && count == MOST_USED {
+    if random.percent(30) && count == PLACES - 1 {
         let mut last = context.containers[count - 1];
         last.condition = 1;
         last.qos = context.qos;

@@ -2,12 +2,11 @@
 //! from document 01 alone; words in quotes are the document's.
 
 use super::faults::{Bound, Fault, Wrong};
-use super::stored::{within, Container, Context, Stored, APN, NODE_ID, PLACES, SLOTS};
+use super::stored::{within, Container, Context, Stored, APN, NODE_ID, SLOTS};
 use crate::event::Qos;
 
 // ---- the ranges ----
 
-/// Each range that a rule speaks of: its name, its lowest and its highest.
 #[derive(Clone, Copy, Debug, PartialEq, Eq)]
 pub enum Range {
     VolumeLimit,
@@ -33,6 +32,7 @@ pub enum Range {
     Condition,
 }
 
+/// Each range that a rule speaks of: its name, its lowest and its highest.
 pub const RANGES: [(Range, &str, i128, i128); 21] = [
     (Range::VolumeLimit, "volume limit", 1, 1_000_000_000_000),
     (Range::TimeLimit, "time limit", 1, 604_800),
@@ -524,7 +524,7 @@ fn volumes(node: &Stored, found: &mut Found) {
             Fault::Wrong(Wrong::SumWraps) => {
                 ended.chain(running).map(both).sum::<u128>() as u64 as u128
             }
-            _ => ended.chain(running).map(both).sum(),
+            _ => record_volume(context),
         }
     };
     let below = |context: &Context| match found.fault {
@@ -541,6 +541,3 @@ pub fn record_volume(context: &Context) -> u128 {
         context.used().iter().map(|c| u128::from(c.uplink) + u128::from(c.downlink)).sum();
     ended + u128::from(context.uplink) + u128::from(context.downlink)
 }
-
-/// How many places may be used.
-pub const MOST_USED: usize = PLACES - 1;
