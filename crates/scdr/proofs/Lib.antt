@@ -1,6 +1,7 @@
 pub mod Tails
 pub mod Views
 pub mod Theorems
+pub mod Demand2
 pub mod Listed
 pub mod Printed
 pub mod Bodies
