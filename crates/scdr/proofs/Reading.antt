@@ -1,5 +1,5 @@
 -- Sixteen fields read one after another are the body. Assumes nothing.
-use mathlib.Core.Path.{_≡_, sym, ap, _∙_}
+use mathlib.Core.Path.{_≡_, refl, sym, ap, _∙_}
 use mathlib.Core.Bool.{Bool, true, false}
 use mathlib.Core.Option.{Option, none, some}
 use mathlib.Core.List.{List, [], _∷_, _++_}
@@ -28,8 +28,9 @@ use Rattle.container.specs.Container.{noStamp}
 use Rattle.container.specs.List.{containers}
 use Rattle.scdr.specs.declared.Record.{Record}
 use Rattle.scdr.specs.Layout.{body, fillTo, fieldsOf, NumberLayout, NameLayout}
-use Rattle.scdr.specs.Pieces.{ListsAt, Wired}
+use Rattle.scdr.specs.Private.Pieces.{ListsAt, Wired}
 use Rattle.scdr.proofs.Views.{made}
+use Rattle.scdr.proofs.Seeks.{Finds, lives, finds-over, finds-flag, finds-here}
 
 -- ---- buffers of zeros
 
@@ -125,6 +126,19 @@ module _ {s : List ℕ} (h : length s < nowhere)
   pub fields-no : (q ≡ length s → ⊥) → body .dec s ≡ none
   fields-no e = rest-whole (rest (end-no s q e))
 
+  -- where the access point name lies, if all were read
+  finds-apn : q ≡ length s → {from to next : ℕ} → Raw 63 s f 0x8C from to next → Finds 7 0x8C s 0 (from, to)
+  finds-apn e x =
+      let after = lives h r8D (lives h rAE (lives h (rAF .reads) (lives h r90 (lives h r91 (lives h r92 (lives h r93 (lives h r95
+      (lives h (text-reads 0x96 20 r96) (omega arith))))))))) in
+      finds-over h 0x80 (exactly (18 ∷ [])) r80 refl
+      (finds-flag h 0x81 (0xFF ∷ []) r81 refl
+      (finds-over h 0x83 imsi r83 refl
+      (finds-over h 0xA5 ipv4 rA5 refl
+      (finds-over h 0x8A (refined (λ x. ltb x (2 ^ 32)) int) r8A refl
+      (finds-over h 0xAB ipv4 rAB refl
+      (finds-here h r8C after x))))))
+
   -- the record that they make
   abbrev recordOf : ℕ → Record
   recordOf num = record {
@@ -161,6 +175,7 @@ module _ {s : List ℕ} (h : length s < nowhere)
       node = copied-fills 20 y r96;
       nodelen = copies-count r96;
     });
+    place = λ t. sym (finds-apn (eqb-true q (length s) t) x .is 16 (omega arith));
     order = raw-order x;
     inside = raw-inside x;
     apn = same-part r8C x;
