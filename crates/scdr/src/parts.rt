@@ -12,7 +12,7 @@ ghost use Prim.Native.Nat.{_≤_};
 ghost use lib.Dec.{T};
 ghost use lib.ListN.{take};
 ghost use Rattle.ber.specs.Imsi.{imsiOk};
-ghost use Rattle.ber.proofs.Writers.{Wrote};
+ghost use Rattle.ber.specs.Private.Wrote.{Wrote};
 ghost use Rattle.scdr.specs.Private.Parts.{frontEnc, pdpEnc, endEnc};
 ghost use Rattle.calendar.specs.Stamp.{stampOk};
 
