@@ -16,16 +16,18 @@ use Rattle.format.proofs.Tests.{either}
 use Rattle.ber.specs.Tlv.{tlvDec}
 use Rattle.ber.specs.Field.{first, end, optGood, between}
 use Rattle.ber.proofs.Places.{PartIs, part-is}
+use Rattle.container.specs.List.{containers}
 use Rattle.ber.proofs.Readers.{part-length}
 use Rattle.scdr.specs.declared.Record.{Record}
 use Rattle.scdr.specs.declared.fields.Wire.{Wire}
 use Rattle.scdr.specs.Rules.{shaped, within, duration}
 use Rattle.ber.specs.Text.{orNone}
-use Rattle.scdr.specs.Layout.{Layout, Fields, body, fieldsOf, toRecord, durationRight, inside, scdr}
+use Rattle.scdr.specs.Layout.{Fields, body, fieldsOf, toRecord, durationRight, inside, scdr}
 use Rattle.scdr.specs.Private.Pieces.{Wired}
 use Rattle.scdr.specs.Answers.{readOf, ReadsRecord}
 use Rattle.scdr.specs.Apn.{seek, seekIn, cut, apnPlace, apnOf, ShowsApn}
 use Rattle.scdr.specs.Private.Taken.{Taken, NotTaken}
+use Rattle.scdr.proofs.Bodied.{body-law}
 use Rattle.scdr.proofs.Tails.{fill-length, padded-length}
 use Rattle.scdr.proofs.Answering.{shaped-is}
 
@@ -69,20 +71,13 @@ node-most none g = omega arith
 node-most (some x) g = g .0
 
 good-shaped : (w : Fields) → body .good w → shaped (toRecord w) ≡ true
-unfolding body toRecord
-good-shaped w g =
-    let g5 = g .1 .1 .1 .1 in
-    let gl = g5 .1 .1 .1 .1 .1 in
-    let last = gl .1 .1 .1 .1 .1 in
-    shaped-is (toRecord w) (fill-length 63 0 (w .1 .1 .1 .1 .1 .1 .0) (g5 .1 .1 .0 .0)) (padded-length (w .1 .1 .1 .1 .1 .1 .1 .1 .1 .0) (gl .0 .2))
-    (fill-length 20 0 (orNone (w .1 .1 .1 .1 .1 .1 .1 .1 .1 .1 .1 .1 .1 .1 .1 .0)) (node-most (w .1 .1 .1 .1 .1 .1 .1 .1 .1 .1 .1 .1 .1 .1 .1 .0) (last .1 .0)))
-    (ltb→lt (w .1 .1 .1 .0) (256 ^ 4) (g .1 .1 .1 .0 .0)) (ltb→lt (w .1 .1 .1 .1 .0) (2 ^ 32) (g5 .0 .1))
-    (ltb→lt (w .1 .1 .1 .1 .1 .0) (256 ^ 4) (g5 .1 .0 .0)) (ltb→lt (w .1 .1 .1 .1 .1 .1 .1 .0) (256 ^ 2) (g5 .1 .1 .1 .0))
-    (ltb→lt (w .1 .1 .1 .1 .1 .1 .1 .1 .0) (256 ^ 4) (g5 .1 .1 .1 .1 .0 .0 .0))
-
-body-law : Law body
-unfolding body
-body-law = Layout .law
+unfolding body toRecord containers
+good-shaped (w80, (w81, (w83, (sgsn, (id, (ggsn, (apn, (pdptype, (address, (cs, (w90, (w91, (w92, (w93, (w95, (node, end))))))))))))))))
+    (g80, (g81, (g83, (gA5, (g8A, (gAB, (g8C, (g8D, (gAE, (gAF, (g90, (g91, (g92, (g93, (g95, (g96, gend)))))))))))))))) =
+    shaped-is (toRecord (w80, (w81, (w83, (sgsn, (id, (ggsn, (apn, (pdptype, (address, (cs, (w90, (w91, (w92, (w93, (w95, (node, end)))))))))))))))))
+    (fill-length 63 0 apn (g8C .0)) (padded-length cs (gAF .2)) (fill-length 20 0 (orNone node) (node-most node g96))
+    (ltb→lt sgsn (256 ^ 4) (gA5 .0)) (ltb→lt id (2 ^ 32) (g8A .1)) (ltb→lt ggsn (256 ^ 4) (gAB .0)) (ltb→lt pdptype (256 ^ 2) g8D)
+    (ltb→lt address (256 ^ 4) (gAE .0 .0))
 
 -- ---- the fields, the duration and the rules
 

@@ -1,5 +1,6 @@
 pub mod Tails
 pub mod Views
+pub mod Bodied
 pub mod Theorems
 pub mod Demand2
 pub mod Listed

@@ -9,9 +9,9 @@ use Rattle.ber.specs.Tlv.{tlvEnc}
 use Rattle.ber.specs.Imsi.{halves, leading, allF, imsiOk, imsiEnc}
 use Rattle.calendar.specs.Month.{monthLen, seek, monthDay}
 use Rattle.calendar.specs.Stamp.{stampOk, stampEnc}
-use Rattle.container.specs.Qos.{qosOk, sameQos}
-use Rattle.container.specs.Container.{containerOk, isNew, told}
-use Rattle.container.specs.List.{eachOk, lastAlone, oneOffset, inOrder, qosRule, listOk, noContainers, isBlank, blanks}
+use Rattle.container.specs.Qos.{qosOk, sameQos, qos}
+use Rattle.container.specs.Container.{containerOk, isNew, told, container}
+use Rattle.container.specs.List.{eachOk, lastAlone, oneOffset, inOrder, qosRule, listOk, containers, noContainers, isBlank, blanks}
 use Rattle.scdr.specs.Rules.{allOf, apnChar, nodeChar, apnOk, nodeOk, listRule, release, causeOk, numberOk, changeOk, shaped, within, lastTime, duration}
 use Rattle.scdr.specs.Layout.{body, fillTo, ofRecord, fieldsOf, rules, inside, scdr}
 use Rattle.scdr.specs.Sample.{only, sample, printed}
@@ -22,7 +22,7 @@ unfolding sample only fillTo noContainers sameQos shaped within imsiOk halves le
 sample-within = tt
 
 pub sample-octets : scdr .enc sample ≡ printed
-unfolding sample only printed fillTo noContainers scdr inside body ofRecord fieldsOf duration lastTime tlvEnc lenEnc intEnc lowest imsiEnc halves leading stampEnc monthDay seek monthLen isNew told
+unfolding sample only printed fillTo noContainers scdr inside body ofRecord fieldsOf duration lastTime tlvEnc lenEnc intEnc lowest imsiEnc halves leading stampEnc monthDay seek monthLen isNew told containers container qos
 sample-octets = eqs-eq (scdr .enc sample) printed tt
 
 pub sample-read : scdr .dec printed ≡ some sample
