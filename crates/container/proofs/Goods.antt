@@ -36,7 +36,8 @@ five a b c d e t =
 pub qos-law : Law qos
 unfolding qos
 qos-law =
-    Where (As (Field 0x80 Octet tt (Field 0x81 Octet tt (Field 0x82 Octet tt (Field 0x83 Octet tt (Field 0x84 Octet tt End))))) toQos ofQos (λ w g. refl) (λ q. refl)) qosOk .law
+    Where (As (Field 0x80 Octet tt (Field 0x81 Octet tt (Field 0x82 Octet tt (Field 0x83 Octet tt (Field 0x84 Octet tt End)))))
+    toQos ofQos (λ w g. refl) (λ q. refl)) qosOk .law
 
 pub qos-most : qos .most ≡ 15
 unfolding qos

@@ -126,8 +126,8 @@ part-of-part s a n x y h k =
     let e : a + y - (a + x) ≡ y - x = omega arith in
     rw (e, ← drop-drop x a s) (sym (take-inside x y n (drop a s) h k))
 
-pub taken-record : (s : List ℕ) {a e : ℕ} (p : PartIs s 0 0xA0 a e) {w : Wire} (v : Wired (take (e - a) (drop a s)) w) → w .ok ≡ true → scdr .dec s ≡ some (w .cdr)
-    → Taken s 0 (w .cdr) (a + w .from) (a + w .to)
+pub taken-record : (s : List ℕ) {a e : ℕ} (p : PartIs s 0 0xA0 a e) {w : Wire} (v : Wired (take (e - a) (drop a s)) w)
+    → w .ok ≡ true → scdr .dec s ≡ some (w .cdr) → Taken s 0 (w .cdr) (a + w .from) (a + w .to)
 unfolding apnOf apnPlace
 taken-record s {a} {e} p {w} v t d =
     let l = part-length p in
@@ -150,8 +150,8 @@ taken-nothing s d n = record {
 }
 
 -- the part that was shown is the one where the name lies
-pub shows : {s p : RefT (List ℕ)} {n : ℕ} {r : Record} {from to : ℕ} → Taken (now s) n r from to → now p ≡ cut (from, to) (now s) → ptr p ≡ (ptr s .0, from + ptr s .1)
-    → ShowsApn s p
+pub shows : {s p : RefT (List ℕ)} {n : ℕ} {r : Record} {from to : ℕ}
+    → Taken (now s) n r from to → now p ≡ cut (from, to) (now s) → ptr p ≡ (ptr s .0, from + ptr s .1) → ShowsApn s p
 shows {s} {p} {n} {r} {from} {to} t c q =
     let e = t .place in
     record {

@@ -13,3 +13,4 @@ pub mod Reading
 pub mod Accepting
 pub mod Chars
 pub mod Namings
+pub mod Fixes

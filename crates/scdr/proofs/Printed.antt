@@ -22,7 +22,8 @@ unfolding sample only fillTo noContainers sameQos shaped within imsiOk halves le
 sample-within = tt
 
 pub sample-octets : scdr .enc sample ≡ printed
-unfolding sample only printed fillTo noContainers scdr inside body ofRecord fieldsOf duration lastTime tlvEnc lenEnc intEnc lowest imsiEnc halves leading stampEnc monthDay seek monthLen isNew told containers container qos
+unfolding sample only printed fillTo noContainers scdr inside body ofRecord fieldsOf duration lastTime containers container isNew told qos
+    tlvEnc lenEnc intEnc lowest imsiEnc halves leading stampEnc monthDay seek monthLen
 sample-octets = eqs-eq (scdr .enc sample) printed tt
 
 pub sample-read : scdr .dec printed ≡ some sample

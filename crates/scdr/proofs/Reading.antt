@@ -54,7 +54,8 @@ abbrev with : {A B : Type 0} → A → Option B → Option (A × B)
 with v o = bind o (λ b. some (v, b))
 
 module _ {s : List ℕ} (h : length s < nowhere)
-    {a b c d e f g i j k l m n o p q : ℕ} {network change : Bool} {digits : List ℕ} {sgsn id ggsn pdptype served lasts cause number : ℕ} {cs : List Container} {opening : Stamp}
+    {a b c d e f g i j k l m n o p q : ℕ} {network change : Bool} {digits : List ℕ} {sgsn id ggsn pdptype served lasts cause number : ℕ}
+    {cs : List Container} {opening : Stamp}
     {apn₀ apn node₀ node : List ℕ} {apnlen count nodelen : ℕ}
     (r80 : Reads tt (first 0x80 (exactly (18 ∷ []))) s 0 tt a)
     (r81 : Reads false (flagged 0x81 (0xFF ∷ [])) s a network b)
@@ -95,8 +96,8 @@ module _ {s : List ℕ} (h : length s < nowhere)
       (rest-field (got (maybe-leaves 0x96 (between 1 20)) h (text-reads 0x96 20 r96)) z)))))))))))))))
 
   pub fields-yes : q ≡ length s
-      → body .dec s ≡ some (tt ⨾ network ⨾ digits ⨾ sgsn ⨾ id ⨾ ggsn ⨾ take apnlen apn ⨾ pdptype ⨾ served ⨾ take count cs ⨾ opening ⨾ lasts ⨾ change ⨾ cause ⨾ unless0 number
-      ⨾ unlessNone (take nodelen node) ⨾ tt)
+      → body .dec s ≡ some (tt ⨾ network ⨾ digits ⨾ sgsn ⨾ id ⨾ ggsn ⨾ take apnlen apn ⨾ pdptype ⨾ served ⨾ take count cs ⨾ opening ⨾ lasts
+      ⨾ change ⨾ cause ⨾ unless0 number ⨾ unlessNone (take nodelen node) ⨾ tt)
   fields-yes e = rest-whole (rest (end-yes s q e))
 
   pub fields-no : (q ≡ length s → ⊥) → body .dec s ≡ none

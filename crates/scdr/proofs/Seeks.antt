@@ -77,8 +77,8 @@ pub record Finds (k t : ℕ) (s : List ℕ) (at : ℕ) (z : ℕ × ℕ) : Type 0
   pub is : (n : ℕ) → k ≤ n → seek n t s at ≡ z
 
 -- it lies after a value under another tag
-over-value : (u : ℕ) {A : Type 0} (x : Fmt A) (s : List ℕ) (at : ℕ) {v : A} {next k t : ℕ} {z : ℕ × ℕ} → at ≤ length s → first u x (drop at s) ≡ some (v, drop next s)
-    → eqb u t ≡ false → Finds k t s next z → Finds (suc k) t s at z
+over-value : (u : ℕ) {A : Type 0} (x : Fmt A) (s : List ℕ) (at : ℕ) {v : A} {next k t : ℕ} {z : ℕ × ℕ}
+    → at ≤ length s → first u x (drop at s) ≡ some (v, drop next s) → eqb u t ≡ false → Finds k t s next z → Finds (suc k) t s at z
 over-value u x s at {v} {next} {k} {t} {z} j d ne f = record { place = j; is = go }
   where
     go : (n : ℕ) → suc k ≤ n → seek n t s at ≡ z
@@ -86,7 +86,8 @@ over-value u x s at {v} {next} {k} {t} {z} j d ne f = record { place = j; is = g
     go (suc n) h = let (a, p, _) = value-part u x s at (f .place) d in seek-part p n t ∙ rw ne (f .is n (le-of-suc-le-suc h))
 
 module _ {s : List ℕ} (h : length s < nowhere) {at next k t : ℕ} {z : ℕ × ℕ} where
-  pub finds-over : (u : ℕ) {A : Type 0} (x : Fmt A) {blank v : A} → Reads blank (first u x) s at v next → eqb u t ≡ false → Finds k t s next z → Finds (suc k) t s at z
+  pub finds-over : (u : ℕ) {A : Type 0} (x : Fmt A) {blank v : A} → Reads blank (first u x) s at v next → eqb u t ≡ false
+      → Finds k t s next z → Finds (suc k) t s at z
   finds-over u x r ne f =
       let (j, _, d) = reads-found (first-leaves u x) h r (λ e. omega (arith, f .place)) in
       over-value u x s at j d ne f
@@ -119,7 +120,8 @@ module _ {s : List ℕ} (h : length s < nowhere) {at next t : ℕ} where
       let (j, _, d) = reads-found (first-leaves t (between 1 m)) h (copies-reads c .0) (λ e. omega arith) in
       let (x, p, o) = value-part t (between 1 m) s at i d in
       let l = octets-only t 1 m (drop at s) (take n b′, drop next s) d .1 in
-      let w = guard-some (leb (length (take (next - x) (drop x s))) m && leb 1 (length (take (next - x) (drop x s)))) (take (next - x) (drop x s)) (take n b′) o .1 in
+      let y = take (next - x) (drop x s) in
+      let w = guard-some (leb (length y) m && leb 1 (length y)) y (take n b′) o .1 in
       let k : next - x ≤ m = omega (arith, part-length p, ap length w) in
       let q : _≡_ {A = ℕ × ℕ × ℕ} (a, e, after) (x, next, next) =
       r .is ∙ ap (rawOf m) (sym (part-is s at t (p .order) (p .inside) (p .is))) ∙ rw (le-leb (next - x) m k) in
