@@ -25,7 +25,7 @@ use Rattle.ber.specs.Text.{orNone}
 use Rattle.scdr.specs.Layout.{Fields, body, fieldsOf, toRecord, durationRight, inside, scdr}
 use Rattle.scdr.specs.Private.Pieces.{Wired}
 use Rattle.scdr.specs.Answers.{readOf, ReadsRecord}
-use Rattle.scdr.specs.Apn.{seek, seekIn, cut, apnPlace, apnOf, ShowsApn}
+use Rattle.scdr.specs.Apn.{walk, walkIn, cut, apnPlace, apnOf, ShowsApn}
 use Rattle.scdr.specs.Private.Taken.{Taken, NotTaken}
 use Rattle.scdr.proofs.Bodied.{body-law}
 use Rattle.scdr.proofs.Tails.{fill-length, padded-length}

@@ -8,7 +8,7 @@ pub mod Printed
 pub mod Bodies
 pub mod Answering
 pub mod Pieced
-pub mod Seeks
+pub mod Walks
 pub mod Reading
 pub mod Accepting
 pub mod Chars

@@ -32,7 +32,7 @@ use Rattle.scdr.specs.Layout.{body, fillTo, fieldsOf}
 use Rattle.scdr.specs.Private.Pieces.{ListsAt, Wired}
 use Rattle.scdr.proofs.Bodied.{Number, Name}
 use Rattle.scdr.proofs.Views.{made}
-use Rattle.scdr.proofs.Seeks.{Finds, lives, finds-over, finds-flag, finds-here}
+use Rattle.scdr.proofs.Walks.{Finds, lives, finds-over, finds-flag, finds-here}
 
 -- ---- buffers of zeros
 

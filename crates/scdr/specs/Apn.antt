@@ -26,14 +26,14 @@ seen it on P.NoPart = (0, 0)
 seen it on (P.Found a e) = cond it (a, e) (on e)
 
 -- where the contents under the tag t lie, among n values at most that stand one after another from a place of s on
-unfoldable pub seek : ℕ → ℕ → List ℕ → ℕ → ℕ × ℕ
-seek zero t s at = (0, 0)
-seek (suc n) t s at = seen (eqb (getD s at 0) t) (seek n t s) (partAt s at (getD s at 0))
+unfoldable pub walk : ℕ → ℕ → List ℕ → ℕ → ℕ × ℕ
+walk zero t s at = (0, 0)
+walk (suc n) t s at = seen (eqb (getD s at 0) t) (walk n t s) (partAt s at (getD s at 0))
 
 -- the same in a part of s, counted from the start of s
-abbrev pub seekIn : ℕ → ℕ → List ℕ → Part → ℕ × ℕ
-seekIn n t s P.NoPart = (0, 0)
-seekIn n t s (P.Found a e) = (a + seek n t (cut (a, e) s) 0 .0, a + seek n t (cut (a, e) s) 0 .1)
+abbrev pub walkIn : ℕ → ℕ → List ℕ → Part → ℕ × ℕ
+walkIn n t s P.NoPart = (0, 0)
+walkIn n t s (P.Found a e) = (a + walk n t (cut (a, e) s) 0 .0, a + walk n t (cut (a, e) s) 0 .1)
 
 -- ---- the access point name
 
@@ -44,7 +44,7 @@ ifRead (some r) z = z
 
 -- Where it lies in s: the contents under 8C, of the at most 16 fields under A0. Where s is no record within the rules, the empty part at the start.
 unfoldable pub apnPlace : List ℕ → ℕ × ℕ
-apnPlace s = ifRead (scdr .dec s) (seekIn 16 0x8C s (partAt s 0 0xA0))
+apnPlace s = ifRead (scdr .dec s) (walkIn 16 0x8C s (partAt s 0 0xA0))
 
 -- the access point name of what was read
 unfoldable pub apnOf : Option Record → List ℕ

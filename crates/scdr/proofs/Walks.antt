@@ -1,4 +1,4 @@
--- Where a field lies: the readers that go from field to field come to the place to which `seek` comes.
+-- Where a field lies: the readers that go from field to field come to the place to which `walk` comes.
 use mathlib.Core.Path.{_≡_, refl, sym, ap, subst, _∙_}
 use mathlib.Core.Bool.{Bool, true, false, cond, _&&_}
 use mathlib.Core.Option.{Option, none, some, Option·none-ne-some, Option·some-injective}
@@ -22,7 +22,7 @@ use Rattle.ber.specs.declared.tlv.Part.the-variants as P
 use Rattle.ber.proofs.Places.{part-end, part-other, part-none, part-some, part-is, PartIs}
 use Rattle.ber.proofs.Readers.{here-no, reads-found, first-leaves, flagged-leaves, part-length}
 use Rattle.ber.proofs.Texts.{octets-only, copies-reads}
-use Rattle.scdr.specs.Apn.{seek}
+use Rattle.scdr.specs.Apn.{walk}
 
 -- ---- one value
 
@@ -35,9 +35,9 @@ tag-is s at u {q} d =
     (λ n. absurd (Option·none-ne-some q (sym (part-other s at u h (eqb-false (getD s at 0) u n)) ∙ d))))
 
 module _ {s : List ℕ} {at u a e : ℕ} (p : PartIs s at u a e) where
-  seek-part : (n t : ℕ) → seek (suc n) t s at ≡ cond (eqb u t) (a, e) (seek n t s e)
-  unfolding seek
-  seek-part n t = rw (tag-is s at u (p .is), ← part-is s at u (p .order) (p .inside) (p .is))
+  walk-part : (n t : ℕ) → walk (suc n) t s at ≡ cond (eqb u t) (a, e) (walk n t s e)
+  unfolding walk
+  walk-part n t = rw (tag-is s at u (p .is), ← part-is s at u (p .order) (p .inside) (p .is))
 
 -- a value of format x under the tag, which ends at next
 module _ (u : ℕ) {A : Type 0} (x : Fmt A) (s : List ℕ) (at : ℕ) {v : A} {next : ℕ} where
@@ -74,16 +74,16 @@ lives {A} {blank} {p} {s} {at} {next} h r k =
 -- among k values or more from a place on, what is sought under t lies at z
 pub record Finds (k t : ℕ) (s : List ℕ) (at : ℕ) (z : ℕ × ℕ) : Type 0 where
   pub place : at ≤ length s
-  pub is : (n : ℕ) → k ≤ n → seek n t s at ≡ z
+  pub is : (n : ℕ) → k ≤ n → walk n t s at ≡ z
 
 -- it lies after a value under another tag
 over-value : (u : ℕ) {A : Type 0} (x : Fmt A) (s : List ℕ) (at : ℕ) {v : A} {next k t : ℕ} {z : ℕ × ℕ}
     → at ≤ length s → first u x (drop at s) ≡ some (v, drop next s) → eqb u t ≡ false → Finds k t s next z → Finds (suc k) t s at z
 over-value u x s at {v} {next} {k} {t} {z} j d ne f = record { place = j; is = go }
   where
-    go : (n : ℕ) → suc k ≤ n → seek n t s at ≡ z
+    go : (n : ℕ) → suc k ≤ n → walk n t s at ≡ z
     go zero h = absurd (not-suc-le-zero h)
-    go (suc n) h = let (a, p, _) = value-part u x s at (f .place) d in seek-part p n t ∙ rw ne (f .is n (le-of-suc-le-suc h))
+    go (suc n) h = let (a, p, _) = value-part u x s at (f .place) d in walk-part p n t ∙ rw ne (f .is n (le-of-suc-le-suc h))
 
 module _ {s : List ℕ} (h : length s < nowhere) {at next k t : ℕ} {z : ℕ × ℕ} where
   pub finds-over : (u : ℕ) {A : Type 0} (x : Fmt A) {blank v : A} → Reads blank (first u x) s at v next → eqb u t ≡ false
@@ -110,7 +110,7 @@ module _ {s : List ℕ} (h : length s < nowhere) {at next k t : ℕ} {z : ℕ ×
           (λ y.
           let e : drop at s ≡ drop next s = ap (λ (y : Option (Unit {0}) × List ℕ). y .1) (Option·some-injective (none, drop at s) q (rw y at g)) ∙ l in
           let same : next ≡ at = omega (arith, ap length e, length-drop at s, length-drop next s, f .place) in
-          record { place = j; is = λ n o. subst (λ (y : ℕ). seek n t s y ≡ z) same (f .is n (omega arith)) })
+          record { place = j; is = λ n o. subst (λ (y : ℕ). walk n t s y ≡ z) same (f .is n (omega arith)) })
 
 module _ {s : List ℕ} (h : length s < nowhere) {at next t : ℕ} where
   -- what was copied lies where it was looked for
@@ -127,6 +127,6 @@ module _ {s : List ℕ} (h : length s < nowhere) {at next t : ℕ} where
       r .is ∙ ap (rawOf m) (sym (part-is s at t (p .order) (p .inside) (p .is))) ∙ rw (le-leb (next - x) m k) in
       record { place = j; is = go p (λ i. (q i .0, q i .1)) }
     where
-      go : {x : ℕ} → PartIs s at t x next → _≡_ {A = ℕ × ℕ} (a, e) (x, next) → (n : ℕ) → 1 ≤ n → seek n t s at ≡ (a, e)
+      go : {x : ℕ} → PartIs s at t x next → _≡_ {A = ℕ × ℕ} (a, e) (x, next) → (n : ℕ) → 1 ≤ n → walk n t s at ≡ (a, e)
       go p q zero h = absurd (not-suc-le-zero h)
-      go p q (suc n) h = seek-part p n t ∙ rw (T-true (eqb t t) (eqb-refl t)) (sym q)
+      go p q (suc n) h = walk-part p n t ∙ rw (T-true (eqb t t) (eqb-refl t)) (sym q)
