@@ -15,19 +15,22 @@ use Rattle.format.proofs.Maybe.{guard-yes}
 use Rattle.ber.specs.Int.{int, intEnc}
 use Rattle.ber.specs.Tlv.{tlvEnc, tlvForm}
 use Rattle.ber.specs.Field.{first, new, newEnc}
-use Rattle.ber.specs.Read.{nowhere, stay, Reads}
+use Rattle.ber.specs.Read.{nowhere, Reads}
+use Rattle.ber.specs.Private.Stay.{stay}
 use Rattle.ber.specs.Write.{Puts}
 use Rattle.ber.proofs.Tlvs.{tlv-yes}
 use Rattle.ber.proofs.Places.{PartIs}
 use Rattle.ber.proofs.Readers.{part-length, Rest, Leaves, got, reads-some, first-leaves, rest-field, rest-mapped, rest-refined, end-yes, end-no}
-use Rattle.ber.proofs.Writers.{puts-is, puts-none, puts-nothing, Wrote, wrote, wrote-then, wrote-none, filled}
+use Rattle.ber.proofs.Writers.{puts-is, puts-none, puts-nothing, wrote, wrote-then, wrote-none, filled}
+use Rattle.ber.specs.Private.Wrote.{Wrote}
 use Rattle.calendar.specs.declared.Stamp.{Stamp}
 use Rattle.calendar.specs.declared.StampRead.the-variants.{Time, NoTime}
 use Rattle.calendar.specs.Stamp.{stamp, stampRead, stampOk, stampEnc}
 use Rattle.container.specs.declared.Qos.{Qos}
 use Rattle.container.specs.declared.Container.{Container}
-use Rattle.container.specs.Qos.{qosOk, sameQos, qos, noQos, QosLayout, toQos, ofQos}
-use Rattle.container.specs.Container.{containerOk, isNew, told, isTold, formed, newForm, container, ContainerLayout, toContainer, ofContainer, noStamp}
+use Rattle.container.specs.Qos.{qosOk, sameQos, qos, noQos, qosLayout, toQos, ofQos}
+use Rattle.container.specs.Container.{containerOk, isNew, told, isTold, formed, container, containerLayout, toContainer, ofContainer, noStamp}
+use Rattle.container.specs.Private.NewForm.{newForm}
 use Rattle.container.proofs.Goods.{qos-law, qos-good, told-none, told-some, container-law, container-good, within}
 
 -- ---- answers of readers
@@ -63,7 +66,7 @@ module _ {s : List ℕ} {a b c d e f g h i j : ℕ} (l : length s < nowhere)
   pub qos-cut : (e ≡ length s → ⊥) → Rest (qos .dec) s 0 none
   unfolding qos
   qos-cut n =
-      rest-refined qosOk (mapped toQos ofQos (QosLayout .fmt)) (rest-mapped toQos ofQos (QosLayout .fmt)
+      rest-refined qosOk (mapped toQos ofQos qosLayout) (rest-mapped toQos ofQos qosLayout
       (rest-field (got (first-leaves 0x80 _) l r₁) (rest-field (got (first-leaves 0x81 _) l r₂) (rest-field (got (first-leaves 0x82 _) l r₃)
       (rest-field (got (first-leaves 0x83 _) l r₄) (rest-field (got (first-leaves 0x84 _) l r₅) (end-no s e n)))))))
 
@@ -71,7 +74,7 @@ module _ {s : List ℕ} {a b c d e f g h i j : ℕ} (l : length s < nowhere)
     fields : Rest (qos .dec) s 0 (guard (qosOk profile) profile)
     unfolding qos
     fields =
-        rest-refined qosOk (mapped toQos ofQos (QosLayout .fmt)) (rest-mapped toQos ofQos (QosLayout .fmt)
+        rest-refined qosOk (mapped toQos ofQos qosLayout) (rest-mapped toQos ofQos qosLayout
         (rest-field (got (first-leaves 0x80 _) l r₁) (rest-field (got (first-leaves 0x81 _) l r₂) (rest-field (got (first-leaves 0x82 _) l r₃)
         (rest-field (got (first-leaves 0x83 _) l r₄) (rest-field (got (first-leaves 0x84 _) l r₅) (end-yes s e q)))))))
 
@@ -109,7 +112,7 @@ module _ (z : Container) {s : List ℕ} {a b c d e up down why : ℕ} {p : Qos} 
   pub container-cut : (e ≡ length s → ⊥) → Rest (container z .dec) s 0 none
   unfolding container qos
   container-cut n =
-      rest-refined containerOk (mapped toContainer ofContainer (ContainerLayout z .fmt)) (rest-mapped toContainer ofContainer (ContainerLayout z .fmt)
+      rest-refined containerOk (mapped toContainer ofContainer (containerLayout z)) (rest-mapped toContainer ofContainer (containerLayout z)
       (rest-field (got (new-leaves (told z)) l r₁) (rest-field (got (first-leaves 0x83 _) l r₂) (rest-field (got (first-leaves 0x84 _) l r₃)
       (rest-field (got (first-leaves 0x85 _) l r₄) (rest-field (got (first-leaves 0x86 _) l r₅) (end-no s e n)))))))
 
@@ -117,7 +120,7 @@ module _ (z : Container) {s : List ℕ} {a b c d e up down why : ℕ} {p : Qos} 
     parts : Rest (container z .dec) s 0 (guard (containerOk held) held)
     unfolding container qos
     parts =
-        rest-refined containerOk (mapped toContainer ofContainer (ContainerLayout z .fmt)) (rest-mapped toContainer ofContainer (ContainerLayout z .fmt)
+        rest-refined containerOk (mapped toContainer ofContainer (containerLayout z)) (rest-mapped toContainer ofContainer (containerLayout z)
         (rest-field (got (new-leaves (told z)) l r₁) (rest-field (got (first-leaves 0x83 _) l r₂) (rest-field (got (first-leaves 0x84 _) l r₃)
         (rest-field (got (first-leaves 0x85 _) l r₄) (rest-field (got (first-leaves 0x86 _) l r₅) (end-yes s e q)))))))
 

@@ -1,5 +1,5 @@
--- Which values have a form: those that the tests of specs/ take, and no others. The laws of the three formats, and how long their
--- forms get. Assumes nothing.
+-- The laws of the three formats, and how long their forms get. Which values have a form: those that the tests of specs/ take, and no
+-- others. Assumes nothing.
 use mathlib.Core.Path.{_≡_, refl, sym, subst}
 use mathlib.Core.Bool.{Bool, true, false, not, _&&_, Bool·beq}
 use mathlib.Core.Option.{none, some}
@@ -12,13 +12,16 @@ use Rattle.format.specs.Format.{Law}
 use Rattle.format.proofs.Tests.{by, T-true, true-T, and-l, and-r, and-i}
 use Rattle.ber.specs.Field.{newGood, runGood}
 use Rattle.ber.proofs.Ints.{int-good}
+use Rattle.ber.proofs.Fields.{many-law}
+use Rattle.ber.proofs.Codec.{Codec, Octet, Int, End, Field, UnlessKnown, As, Where}
 use Rattle.calendar.specs.declared.Stamp.{Stamp}
-use Rattle.calendar.specs.Stamp.{stampOk}
+use Rattle.calendar.specs.Stamp.{stamp, stampOk}
+use Rattle.calendar.proofs.Stamps.{stamp-law}
 use Rattle.container.specs.declared.Qos.{Qos}
 use Rattle.container.specs.declared.Container.{Container}
-use Rattle.container.specs.Qos.{qosOk, sameQos, qos, QosCodec}
-use Rattle.container.specs.Container.{containerOk, isNew, told, isTold, formed, container, ContainerCodec, noContainer}
-use Rattle.container.specs.List.{eachOk, lastAlone, oneOffset, inOrder, changes, qosRule, listOk, containers, allFormed, ListCodec}
+use Rattle.container.specs.Qos.{qosOk, sameQos, qos, toQos, ofQos}
+use Rattle.container.specs.Container.{containerOk, isNew, told, isTold, formed, container, toContainer, ofContainer, noContainer}
+use Rattle.container.specs.List.{eachOk, lastAlone, oneOffset, inOrder, changes, qosRule, listOk, containers, allFormed}
 
 -- five tests that all pass
 five : (a b c d e : Bool) → T (a && b && c && d && e) → T a × T b × T c × T d × T e
@@ -32,25 +35,33 @@ five a b c d e t =
 
 pub qos-law : Law qos
 unfolding qos
-qos-law = QosCodec .law
-
-pub container-law : (b : Container) → Law (container b)
-unfolding container
-container-law b = ContainerCodec b .law
-
-pub containers-law : Law containers
-unfolding containers
-containers-law = ListCodec .law
-
--- ---- the octets of the longest forms
+qos-law =
+    Where (As (Field 0x80 Octet tt (Field 0x81 Octet tt (Field 0x82 Octet tt (Field 0x83 Octet tt (Field 0x84 Octet tt End)))))
+    toQos ofQos (λ w g. refl) (λ q. refl)) qosOk .law
 
 pub qos-most : qos .most ≡ 15
 unfolding qos
 qos-most = refl
 
-pub container-most : (b : Container) → container b .most ≡ 53
+abbrev Profile : Codec Qos
+Profile = record { fmt = qos; law = qos-law }
+
+abbrev Time : Codec Stamp
+Time = record { fmt = stamp; law = stamp-law }
+
+pub container-law : (b : Container) → Law (container b)
 unfolding container
+container-law b =
+    Where (As (UnlessKnown 0xA2 Profile (rw qos-most tt) (Field 0x83 Int tt (Field 0x84 Int tt (Field 0x85 Octet tt (Field 0x86 Time tt End)))) (told b))
+    toContainer ofContainer (λ w g. refl) (λ c. refl)) containerOk .law
+
+pub container-most : (b : Container) → container b .most ≡ 53
+unfolding container qos
 container-most b = refl
+
+pub containers-law : Law containers
+unfolding containers
+containers-law = many-law 0x30 container container-law 53 (λ b. omega (arith, container-most b)) tt noContainer 1 15
 
 pub containers-most : containers .most ≡ 825
 unfolding containers

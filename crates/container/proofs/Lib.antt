@@ -4,3 +4,4 @@ pub mod Lists
 pub mod Turns
 pub mod Opens
 pub mod Printed
+pub mod Fixes

@@ -21,7 +21,8 @@ use Rattle.ber.specs.Read.{nowhere}
 use Rattle.ber.specs.Write.{put, Puts}
 use Rattle.ber.proofs.Tlvs.{tlv-fits}
 use Rattle.ber.proofs.Readers.{Got, Rest, rest-whole, run-end, run-past, run-full, run-more}
-use Rattle.ber.proofs.Writers.{Put, put-then, put-is, put-part, part-room, puts-is, puts-room, wrote-none}
+use Rattle.ber.proofs.Writers.{put-then, put-is, put-part, part-room, puts-is, puts-room, wrote-none}
+use Rattle.ber.specs.Private.Wrote.{Put}
 use Rattle.container.specs.declared.Container.{Container}
 use Rattle.container.specs.Container.{formed, container, noContainer}
 use Rattle.container.specs.List.{allFormed, containers, noContainers, listed, Listed}

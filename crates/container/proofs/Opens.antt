@@ -17,7 +17,7 @@ use Rattle.container.specs.declared.open.Run.{Run}
 use Rattle.container.specs.Container.{containerOk}
 use Rattle.container.specs.List.{eachOk, lastAlone, oneOffset, inOrder, changes, qosRule, listOk, noContainers, padded, blanks, isBlank}
 use Rattle.container.specs.Open.{midway, timesTo, qosRun, openOk, volumeOf, heldOk}
-use Rattle.container.specs.Turns.{precedes, turned}
+use Rattle.container.specs.Private.Turns.{precedes, turned}
 use Rattle.container.proofs.Turns.{blanks-are, are-blanks}
 
 -- ---- tests that pass together

@@ -16,7 +16,7 @@ use Rattle.container.specs.declared.Container.{Container}
 use Rattle.container.specs.Qos.{sameQos, noQos}
 use Rattle.container.specs.Container.{containerOk, noContainer}
 use Rattle.container.specs.List.{eachOk, lastAlone, oneOffset, inOrder, changes, qosRule, listOk, isBlank, blanks, noContainers}
-use Rattle.container.specs.Turns.{stands, allStand, follows, allFollow, lastEnds}
+use Rattle.container.specs.Private.Turns.{stands, allStand, follows, allFollow, lastEnds}
 use Rattle.container.proofs.Goods.{same-qos}
 
 -- ---- the loops: one container more

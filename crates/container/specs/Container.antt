@@ -1,37 +1,24 @@
 -- A container (12.15's ChangeOfCharCondition): values and octets. Its QoS is among the octets where it is new: in the first container of a
 -- record, and after one that a QoS change ended (02, W1; source document 003). Assumes nothing.
-use mathlib.Core.Path.{refl}
 use mathlib.Core.Bool.{Bool, cond, _&&_, _||_}
 use mathlib.Core.Option.{Option, none, some}
-use mathlib.Core.List.{List, []}
 use Prim.Native.Nat.{ℕ, _^_}
 use lib.Dec.{leb, ltb, eqb}
-use Rattle.format.specs.Maybe.{guard}
-use Rattle.format.specs.Format.{Fmt}
-use Rattle.ber.specs.Tlv.{tlvEnc}
-use Rattle.ber.proofs.Codec.{Codec, Octet, Int, End, Field, UnlessKnown, As, Where}
+use Rattle.format.specs.Format.{Fmt, refined, mapped}
+use Rattle.ber.specs.Int.{int}
+use Rattle.ber.specs.Field.{field, end, unlessKnown, anyOctet, _▸_, _⊗_, _⨾_}
 use Rattle.calendar.specs.declared.Stamp.{Stamp}
 use Rattle.calendar.specs.Stamp.{stamp, stampOk}
-use Rattle.calendar.proofs.Stamps.{stamp-law}
 use Rattle.container.specs.declared.Qos.{Qos}
 use Rattle.container.specs.declared.Container.{Container}
-use Rattle.container.specs.Qos.{qosOk, sameQos, qos, QosCodec, noQos}
+use Rattle.container.specs.Qos.{qosOk, sameQos, qos, noQos}
 
 -- each value by itself: the QoS in its ranges, volumes below 2^40, condition 0, 1 or 2, a time of 2000 to 2099 with its offset
 unfoldable pub containerOk : Container → Bool
 containerOk c =
     qosOk (c .qos) && ltb (c .uplink) (2 ^ 40) && ltb (c .downlink) (2 ^ 40) && leb (c .condition) 2 && stampOk (c .time)
 
--- ---- its octets: A2 the QoS, 83 uplink, 84 downlink, 85 condition, 86 time
-
-abbrev pub Time : Codec Stamp
-Time = record { fmt = stamp; law = stamp-law }
-
-abbrev pub CountFields : Type 0
-CountFields = ℕ × (ℕ × (ℕ × (Stamp × Unit {0})))
-
-abbrev pub CountLayout : Codec CountFields
-CountLayout = Field 0x83 Int tt (Field 0x84 Int tt (Field 0x85 Octet tt (Field 0x86 Time tt End)))
+-- ---- its octets: "30; A2 (80..84, one octet each, the QoS); 83 uplink; 84 downlink; 85 condition; 86 time" (01). The 30 is the list's.
 
 -- the QoS after b is new where a QoS change ended b (condition 0)
 unfoldable pub isNew : Container → Bool
@@ -41,22 +28,29 @@ isNew b = eqb (b .condition) 0
 unfoldable pub told : Container → Option Qos
 told b = cond (isNew b) none (some (b .qos))
 
--- so A2 is there exactly where the QoS is not told
-abbrev pub ContainerLayout : Container → Codec (Qos × CountFields)
-ContainerLayout b = UnlessKnown 0xA2 QosCodec tt CountLayout (told b)
+abbrev pub ContainerFields : Type 0
+ContainerFields = Qos ⊗ ℕ ⊗ ℕ ⊗ ℕ ⊗ Stamp ⊗ Unit {0}
 
-abbrev pub toContainer : Qos × CountFields → Container
-toContainer w = record { qos = w .0; uplink = w .1 .0; downlink = w .1 .1 .0; condition = w .1 .1 .1 .0; time = w .1 .1 .1 .1 .0 }
+-- a container after b
+abbrev pub containerLayout : Container → Fmt ContainerFields
+containerLayout b =
+    unlessKnown 0xA2 qos (told b)  -- the QoS: there exactly where b does not tell it
+    ▸ field 0x83 int  -- uplink
+    ▸ field 0x84 int  -- downlink
+    ▸ field 0x85 anyOctet  -- condition
+    ▸ field 0x86 stamp  -- time
+    ▸ end
 
-abbrev pub ofContainer : Container → Qos × CountFields
-ofContainer c = (c .qos, (c .uplink, (c .downlink, (c .condition, (c .time, tt)))))
+abbrev pub toContainer : ContainerFields → Container
+toContainer (q, (uplink, (downlink, (condition, (time, _))))) =
+    record { qos = q; uplink = uplink; downlink = downlink; condition = condition; time = time }
 
--- the format and its law, of a container after b: these fields, each value as it must be
-abbrev pub ContainerCodec : Container → Codec Container
-ContainerCodec b = Where (As (ContainerLayout b) toContainer ofContainer (λ w g. refl) (λ c. refl)) containerOk
+abbrev pub ofContainer : Container → ContainerFields
+ofContainer c = c .qos ⨾ c .uplink ⨾ c .downlink ⨾ c .condition ⨾ c .time ⨾ tt
 
+-- the format of a container after b: these fields, each value as it must be
 unfoldable pub container : Container → Fmt Container
-container b = ContainerCodec b .fmt
+container b = refined containerOk (mapped toContainer ofContainer (containerLayout b))
 
 -- can the QoS of c, which stands after b, be told: is it new, or the same still?
 unfoldable pub isTold : Container → Container → Bool
@@ -65,10 +59,6 @@ isTold b c = isNew b || sameQos (b .qos) (c .qos)
 -- which containers have a form after b
 abbrev pub formed : Container → Container → Bool
 formed b c = containerOk c && isTold b c
-
--- the octets of a QoS after b: under A2 where it is new, else none
-unfoldable pub newForm : Container → Qos → Option (List ℕ)
-newForm b q = cond (isNew b) (guard (qosOk q) (tlvEnc 0xA2 (qos .enc q))) (some [])
 
 -- no time
 abbrev pub noStamp : Stamp

@@ -1,6 +1,6 @@
 pub mod Qos
 pub mod Container
 pub mod List
-pub mod Turns
 pub mod Open
 pub mod Sample
+pub mod Private

@@ -5,15 +5,14 @@ use mathlib.Core.Option.{Option, none, some}
 use mathlib.Core.List.{List, [], _∷_, _++_}
 use Prim.Native.Nat.{ℕ, zero, suc, _-_}
 use lib.Dec.{leb, ltb, eqb}
-use native.Mathlib.Omega.{arith}
 use lib.ListN.{length}
 use Rattle.format.specs.Format.{Fmt}
-use Rattle.ber.proofs.Codec.{Codec, Many}
+use Rattle.ber.specs.Field.{many}
 use Rattle.calendar.specs.declared.Stamp.{Stamp}
 use Rattle.container.specs.declared.Qos.{Qos}
 use Rattle.container.specs.declared.Container.{Container}
 use Rattle.container.specs.Qos.{sameQos, noQos}
-use Rattle.container.specs.Container.{containerOk, formed, ContainerCodec, noContainer}
+use Rattle.container.specs.Container.{containerOk, formed, container, noContainer}
 
 -- every container's values are as they must be
 unfoldable pub eachOk : List Container → Bool
@@ -54,11 +53,9 @@ listOk opening cs =
 
 -- ---- its octets: the containers one after another, each under 30; the first stands after none, as after a QoS change
 
-abbrev pub ListCodec : Codec (List Container)
-ListCodec = Many 0x30 ContainerCodec 53 (λ b. omega arith) tt noContainer 1 15
-
+-- 1 to 15 of them, each of at most 53 octets
 unfoldable pub containers : Fmt (List Container)
-containers = ListCodec .fmt
+containers = many 0x30 container noContainer 53 1 15
 
 -- each has a form after the one before it, the first after b
 unfoldable pub allFormed : Container → List Container → Bool

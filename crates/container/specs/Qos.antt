@@ -1,10 +1,9 @@
 -- The QoS profile (12.15's QoSInformation): values and octets. Assumes nothing.
-use mathlib.Core.Path.{refl}
 use mathlib.Core.Bool.{Bool, _&&_}
 use Prim.Native.Nat.{ℕ}
 use lib.Dec.{leb, eqb}
-use Rattle.format.specs.Format.{Fmt}
-use Rattle.ber.proofs.Codec.{Codec, Octet, End, Field, As, Where}
+use Rattle.format.specs.Format.{Fmt, refined, mapped}
+use Rattle.ber.specs.Field.{field, end, anyOctet, _▸_, _⊗_, _⨾_}
 use Rattle.container.specs.declared.Qos.{Qos}
 
 -- reliability 0..5, delay 0..3, precedence 0..3, peak 0..9, mean 0..18
@@ -20,23 +19,27 @@ sameQos a b =
 -- ---- its octets: 80 to 84, one octet each
 
 abbrev pub QosFields : Type 0
-QosFields = ℕ × (ℕ × (ℕ × (ℕ × (ℕ × Unit {0}))))
+QosFields = ℕ ⊗ ℕ ⊗ ℕ ⊗ ℕ ⊗ ℕ ⊗ Unit {0}
 
-abbrev pub QosLayout : Codec QosFields
-QosLayout = Field 0x80 Octet tt (Field 0x81 Octet tt (Field 0x82 Octet tt (Field 0x83 Octet tt (Field 0x84 Octet tt End))))
+abbrev pub qosLayout : Fmt QosFields
+qosLayout =
+    field 0x80 anyOctet  -- reliability
+    ▸ field 0x81 anyOctet  -- delay
+    ▸ field 0x82 anyOctet  -- precedence
+    ▸ field 0x83 anyOctet  -- peak
+    ▸ field 0x84 anyOctet  -- mean
+    ▸ end
 
 abbrev pub toQos : QosFields → Qos
-toQos w = record { reliability = w .0; delay = w .1 .0; precedence = w .1 .1 .0; peak = w .1 .1 .1 .0; mean = w .1 .1 .1 .1 .0 }
+toQos (reliability, (delay, (precedence, (peak, (mean, _))))) =
+    record { reliability = reliability; delay = delay; precedence = precedence; peak = peak; mean = mean }
 
 abbrev pub ofQos : Qos → QosFields
-ofQos q = (q .reliability, (q .delay, (q .precedence, (q .peak, (q .mean, tt)))))
+ofQos q = q .reliability ⨾ q .delay ⨾ q .precedence ⨾ q .peak ⨾ q .mean ⨾ tt
 
--- the format and its law: five octets, in range
-abbrev pub QosCodec : Codec Qos
-QosCodec = Where (As QosLayout toQos ofQos (λ w g. refl) (λ q. refl)) qosOk
-
+-- the format: five octets, in range
 unfoldable pub qos : Fmt Qos
-qos = QosCodec .fmt
+qos = refined qosOk (mapped toQos ofQos qosLayout)
 
 -- nothing said
 abbrev pub noQos : Qos

@@ -8,7 +8,7 @@ ghost use mathlib.Core.Path.{_≡_};
 ghost use Prim.Native.Nat.{_-_};
 ghost use lib.ListN.{take};
 ghost use Rattle.container.specs.Open.{heldOk, volumeOf};
-ghost use Rattle.container.specs.Turns.{precedes, turned};
+ghost use Rattle.container.specs.Private.Turns.{precedes, turned};
 
 // Are the first n containers of v those of a record that opened at a time in a zone, with q in force now, with less counted in them than
 // a limit, and is every place after them zero? From the last place to the first, in one turn: an array is copied for each function that

@@ -9,7 +9,7 @@ ghost use mathlib.Core.Bool.{_&&_, Bool·beq};
 ghost use lib.Dec.{leb};
 ghost use lib.ListN.{take};
 ghost use Rattle.container.specs.List.{listOk, changes};
-ghost use Rattle.container.specs.Turns.{stands, follows};
+ghost use Rattle.container.specs.Private.Turns.{stands, follows};
 
 // Do the first n containers of v keep the rules of a record that opened at a time?
 pub fn list_ok(v: [Container; 15], n: usize, opening: Stamp) -> bool

@@ -15,7 +15,8 @@ ghost use Rattle.ber.specs.Field.{first, new};
 ghost use Rattle.ber.specs.Read.{Reads};
 ghost use Rattle.ber.specs.Write.{Puts};
 ghost use Rattle.container.specs.Qos.{qos, noQos};
-ghost use Rattle.container.specs.Container.{containerOk, isNew, told, isTold, formed, container, newForm, noContainer};
+ghost use Rattle.container.specs.Container.{containerOk, isNew, told, isTold, formed, container, noContainer};
+ghost use Rattle.container.specs.Private.NewForm.{newForm};
 
 // Is each value of a container as it must be?
 pub fn container_ok(c: Container) -> bool

@@ -10,7 +10,8 @@ use lib.ListN.{length, take, drop, take-append-drop}
 use borrow.Author.Tests.{le-leb, eq-eqb, ne-eqb}
 use borrow.Rule.Slice.PartMut.{midOf, putMid}
 use Rattle.ber.specs.Write.{Puts}
-use Rattle.ber.proofs.Writers.{Put, put-of, put-then, put-is, put-part, part-room, puts-room}
+use Rattle.ber.proofs.Writers.{put-of, put-then, put-is, put-part, part-room, puts-room}
+use Rattle.ber.specs.Private.Wrote.{Put}
 use Rattle.scdr.specs.declared.Record.{Record}
 use Rattle.scdr.specs.Rules.{within}
 use Rattle.scdr.specs.Layout.{scdr}

@@ -7,9 +7,9 @@ use Rattle.ber.specs.Tlv.{tlvEnc}
 use Rattle.ber.specs.Imsi.{halves, leading, allF, imsiOk, imsiEnc}
 use Rattle.calendar.specs.Month.{monthLen, seek, monthDay}
 use Rattle.calendar.specs.Stamp.{stampOk, stampEnc}
-use Rattle.container.specs.Qos.{qosOk, sameQos}
-use Rattle.container.specs.Container.{containerOk, isNew, told}
-use Rattle.container.specs.List.{eachOk, oneOffset, noContainers, isBlank, blanks}
+use Rattle.container.specs.Qos.{qosOk, sameQos, qos}
+use Rattle.container.specs.Container.{containerOk, isNew, told, container}
+use Rattle.container.specs.List.{eachOk, oneOffset, containers, noContainers, isBlank, blanks}
 use Rattle.container.specs.Open.{midway, timesTo, qosRun, openOk, volumeOf}
 use Rattle.scdr.specs.Rules.{allOf, apnChar, nodeChar, apnOk, nodeOk, release, lastTime, duration}
 use Rattle.scdr.specs.Layout.{body, fillTo, ofRecord, fieldsOf, inside, scdr}
@@ -30,10 +30,12 @@ use Rattle.node.specs.Sample.{at, named, written, session, first, second
 -- time 0: activate; time 5: 400 up, 599 down; time 6: release 0. The last writes the mark and the record that 01 prints.
 pub one-session : session (activate ∷ traffic ∷ released 0 ∷ []) ≡ (0, []) ∷ (0, []) ∷ (0, 0xC3 ∷ 0x5A ∷ printed) ∷ []
 unfolding intEnc lowest lenEnc tlvEnc halves leading allF imsiOk imsiEnc monthLen seek monthDay stampOk stampEnc qosOk sameQos containerOk isNew told eachOk oneOffset noContainers isBlank blanks midway timesTo qosRun openOk volumeOf allOf apnChar nodeChar apnOk nodeOk release lastTime duration body fillTo ofRecord fieldsOf inside scdr printed be wholeLength activateOk fieldsOk firstFit rows marked known measured eventOf activate traffic released limitsOk profileOk storedOk unusedOk closedOk countOk containersOk volumeOk contextOk zeroOk slotOk slotsOk sameName isActive isFree bears noneBears distinct reported qosAfter changeOf reached closing changed opened numberFor recordOf goesOn closedBy afterClosing hearWith hear sound activated markedOctets octetsOf nodeAfter recordsOf output notActive wasActive allTaken tableRows laterRows refusals outcome stepOf written
+    containers container qos
 one-session = refl
 
 -- Instead at 6: 0 up, 1 down. Tariff at 10; tick at 65 does nothing; tick at 66; release at 66.
 pub other-session : session (activate ∷ traffic ∷ at 2 6 (named (0 ∷ 0 ∷ 0 ∷ 0 ∷ 0 ∷ 0 ∷ 0 ∷ 1 ∷ [])) ∷ at 4 10 [] ∷ at 6 65 [] ∷ at 6 66 [] ∷ at 5 66 (named (0 ∷ [])) ∷ [])
     ≡ (0, []) ∷ (0, []) ∷ (0, first) ∷ (0, []) ∷ (0, []) ∷ (0, second) ∷ (0, third) ∷ []
 unfolding first second third intEnc lowest lenEnc tlvEnc halves leading allF imsiOk imsiEnc monthLen seek monthDay stampOk stampEnc qosOk sameQos containerOk isNew told eachOk oneOffset noContainers isBlank blanks midway timesTo qosRun openOk volumeOf allOf apnChar nodeChar apnOk nodeOk release lastTime duration body fillTo ofRecord fieldsOf inside scdr be wholeLength activateOk fieldsOk firstFit rows marked known measured eventOf activate traffic limitsOk profileOk storedOk unusedOk closedOk countOk containersOk volumeOk contextOk zeroOk slotOk slotsOk sameName isActive isFree bears noneBears distinct reported qosAfter changeOf reached closing changed opened numberFor recordOf goesOn closedBy afterClosing hearWith hear sound activated markedOctets octetsOf nodeAfter recordsOf output notActive wasActive allTaken tableRows laterRows refusals outcome stepOf written
+    containers container qos
 other-session = refl

@@ -7,7 +7,8 @@ use native.Mathlib.Nat.{le-of-suc-le-suc}
 use native.Mathlib.Numerals.{add-one}
 use native.Mathlib.Omega.{arith}
 use lib.ListN.{length, getD, set, length-append, length-set}
-use Rattle.ber.proofs.Writers.{Put, put-of, put-then, put-is}
+use Rattle.ber.proofs.Writers.{put-of, put-then, put-is}
+use Rattle.ber.specs.Private.Wrote.{Put}
 use Rattle.profile.specs.declared.Profile.{Profile}
 use Rattle.context.specs.declared.Context.{Context}
 use Rattle.context.specs.Sound.{slotOk}

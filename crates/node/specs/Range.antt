@@ -5,7 +5,7 @@ use mathlib.Core.List.{List, [], _∷_, _++_}
 use Prim.Native.Nat.{ℕ, zero, suc, _+_, _≤_}
 use lib.Dec.{leb, eqb}
 use lib.ListN.{length, drop}
-use Rattle.ber.proofs.Writers.{Put}
+use Rattle.ber.specs.Private.Wrote.{Put}
 use Rattle.profile.specs.declared.Profile.{Profile}
 use Rattle.context.specs.declared.Context.{Context}
 use Rattle.node.specs.declared.Node.{Node}

@@ -1,5 +1,5 @@
 -- What the reader of a record finds: all of the octets under A0, the fields, the duration, the rules. Assumes nothing.
-use mathlib.Core.Path.{_≡_, refl, sym, ap, _∙_}
+use mathlib.Core.Path.{_≡_, refl, sym, ap, subst, _∙_}
 use mathlib.Core.Bool.{Bool, true, false, _&&_}
 use mathlib.Core.Option.{Option, none, some}
 use mathlib.Core.List.{List, [], _∷_}
@@ -9,20 +9,25 @@ use native.Mathlib.Omega.{arith}
 use lib.Dec.{eqb, ltb→lt}
 use lib.ListN.{length, take, drop, getD, drop-of-length-le}
 use lib.Seq.{drop-cons, drop-drop}
+use denote.Ref.{RefT, ptr, now}
 use Rattle.format.specs.Maybe.{bind, guard}
 use Rattle.format.specs.Format.{Law}
 use Rattle.format.proofs.Tests.{either}
 use Rattle.ber.specs.Tlv.{tlvDec}
 use Rattle.ber.specs.Field.{first, end, optGood, between}
-use Rattle.ber.proofs.Places.{PartIs}
+use Rattle.ber.proofs.Places.{PartIs, part-is}
+use Rattle.container.specs.List.{containers}
 use Rattle.ber.proofs.Readers.{part-length}
 use Rattle.scdr.specs.declared.Record.{Record}
 use Rattle.scdr.specs.declared.fields.Wire.{Wire}
 use Rattle.scdr.specs.Rules.{shaped, within, duration}
 use Rattle.ber.specs.Text.{orNone}
-use Rattle.scdr.specs.Layout.{Layout, Fields, body, fieldsOf, toRecord, durationRight, inside, scdr}
-use Rattle.scdr.specs.Pieces.{Wired}
-use Rattle.scdr.specs.Answers.{readOf, apnOf, ReadsRecord, Taken, NotTaken}
+use Rattle.scdr.specs.Layout.{Fields, body, fieldsOf, toRecord, durationRight, inside, scdr}
+use Rattle.scdr.specs.Private.Pieces.{Wired}
+use Rattle.scdr.specs.Answers.{readOf, ReadsRecord}
+use Rattle.scdr.specs.Apn.{walk, walkIn, cut, apnPlace, apnOf, ShowsApn}
+use Rattle.scdr.specs.Private.Taken.{Taken, NotTaken}
+use Rattle.scdr.proofs.Bodied.{body-law}
 use Rattle.scdr.proofs.Tails.{fill-length, padded-length}
 use Rattle.scdr.proofs.Answering.{shaped-is}
 
@@ -66,20 +71,13 @@ node-most none g = omega arith
 node-most (some x) g = g .0
 
 good-shaped : (w : Fields) → body .good w → shaped (toRecord w) ≡ true
-unfolding body toRecord
-good-shaped w g =
-    let g5 = g .1 .1 .1 .1 in
-    let gl = g5 .1 .1 .1 .1 .1 in
-    let last = gl .1 .1 .1 .1 .1 in
-    shaped-is (toRecord w) (fill-length 63 0 (w .1 .1 .1 .1 .1 .1 .0) (g5 .1 .1 .0 .0)) (padded-length (w .1 .1 .1 .1 .1 .1 .1 .1 .1 .0) (gl .0 .2))
-    (fill-length 20 0 (orNone (w .1 .1 .1 .1 .1 .1 .1 .1 .1 .1 .1 .1 .1 .1 .1 .0)) (node-most (w .1 .1 .1 .1 .1 .1 .1 .1 .1 .1 .1 .1 .1 .1 .1 .0) (last .1 .0)))
-    (ltb→lt (w .1 .1 .1 .0) (256 ^ 4) (g .1 .1 .1 .0 .0)) (ltb→lt (w .1 .1 .1 .1 .0) (2 ^ 32) (g5 .0 .1))
-    (ltb→lt (w .1 .1 .1 .1 .1 .0) (256 ^ 4) (g5 .1 .0 .0)) (ltb→lt (w .1 .1 .1 .1 .1 .1 .1 .0) (256 ^ 2) (g5 .1 .1 .1 .0))
-    (ltb→lt (w .1 .1 .1 .1 .1 .1 .1 .1 .0) (256 ^ 4) (g5 .1 .1 .1 .1 .0 .0 .0))
-
-body-law : Law body
-unfolding body
-body-law = Layout .law
+unfolding body toRecord containers
+good-shaped (w80, (w81, (w83, (sgsn, (id, (ggsn, (apn, (pdptype, (address, (cs, (w90, (w91, (w92, (w93, (w95, (node, end))))))))))))))))
+    (g80, (g81, (g83, (gA5, (g8A, (gAB, (g8C, (g8D, (gAE, (gAF, (g90, (g91, (g92, (g93, (g95, (g96, gend)))))))))))))))) =
+    shaped-is (toRecord (w80, (w81, (w83, (sgsn, (id, (ggsn, (apn, (pdptype, (address, (cs, (w90, (w91, (w92, (w93, (w95, (node, end)))))))))))))))))
+    (fill-length 63 0 apn (g8C .0)) (padded-length cs (gAF .2)) (fill-length 20 0 (orNone node) (node-most node g96))
+    (ltb→lt sgsn (256 ^ 4) (gA5 .0)) (ltb→lt id (2 ^ 32) (g8A .1)) (ltb→lt ggsn (256 ^ 4) (gAB .0)) (ltb→lt pdptype (256 ^ 2) g8D)
+    (ltb→lt address (256 ^ 4) (gAE .0 .0))
 
 -- ---- the fields, the duration and the rules
 
@@ -128,26 +126,41 @@ part-of-part s a n x y h k =
     let e : a + y - (a + x) ≡ y - x = omega arith in
     rw (e, ← drop-drop x a s) (sym (take-inside x y n (drop a s) h k))
 
-pub taken-record : (s : List ℕ) {a e : ℕ} (p : PartIs s 0 0xA0 a e) {w : Wire} (v : Wired (take (e - a) (drop a s)) w) → scdr .dec s ≡ some (w .cdr)
-    → Taken s 0 (w .cdr) (a + w .from) (a + w .to)
-unfolding apnOf
-taken-record s {a} {e} p {w} v d =
+pub taken-record : (s : List ℕ) {a e : ℕ} (p : PartIs s 0 0xA0 a e) {w : Wire} (v : Wired (take (e - a) (drop a s)) w)
+    → w .ok ≡ true → scdr .dec s ≡ some (w .cdr) → Taken s 0 (w .cdr) (a + w .from) (a + w .to)
+unfolding apnOf apnPlace
+taken-record s {a} {e} p {w} v t d =
     let l = part-length p in
     record {
       reads = reads-record s d;
+      place = ap (λ (z : ℕ × ℕ). (a + z .0, a + z .1)) (v .place t) ∙ sym (rw (d, ← part-is s 0 0xA0 (p .order) (p .inside) (p .is)));
       order = omega (arith, v .order);
       inside = omega (arith, v .inside, l, p .order, p .inside);
       name = part-of-part s a (e - a) (w .from) (w .to) (v .order) (omega (arith, v .inside, l)) ∙ v .apn ∙ rw d;
     }
 
 pub taken-nothing : (s : List ℕ) {n : ℕ} {r : Record} {from to : ℕ} → scdr .dec s ≡ none → NotTaken n r from to → Taken s n r from to
-unfolding readOf apnOf
+unfolding readOf apnOf apnPlace
 taken-nothing s d n = record {
   reads = record { is = rw d (λ i. (n .number i, n .blank i)) };
+  place = rw d (λ i. (n .start i, n .end i));
   order = omega (arith, n .start, n .end);
   inside = omega (arith, n .end);
   name = rw (n .start, n .end, d);
 }
+
+-- the part that was shown is the one where the name lies
+pub shows : {s p : RefT (List ℕ)} {n : ℕ} {r : Record} {from to : ℕ}
+    → Taken (now s) n r from to → now p ≡ cut (from, to) (now s) → ptr p ≡ (ptr s .0, from + ptr s .1) → ShowsApn s p
+shows {s} {p} {n} {r} {from} {to} t c q =
+    let e = t .place in
+    record {
+      order = subst (λ (z : ℕ × ℕ). z .0 ≤ z .1) e (t .order);
+      inside = subst (λ (z : ℕ × ℕ). z .1 ≤ length (now s)) e (t .inside);
+      place = subst (λ (z : ℕ × ℕ). ptr p ≡ (ptr s .0, z .0 + ptr s .1)) e q;
+      part = subst (λ (z : ℕ × ℕ). now p ≡ cut z (now s)) e c;
+      name = c ∙ t .name;
+    }
 
 -- the test of the rules first, then of the duration
 pub and-no : (a : Bool) {b : Bool} → b ≡ false → false ≡ (a && b)

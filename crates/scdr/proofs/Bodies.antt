@@ -19,7 +19,7 @@ use Rattle.container.specs.List.{containers, allFormed}
 use Rattle.scdr.specs.declared.Record.{Record}
 use Rattle.scdr.specs.Rules.{within, duration}
 use Rattle.scdr.specs.Layout.{body, ofRecord, fieldsOf}
-use Rattle.scdr.specs.Parts.{flagEnc, frontEnc, pdpEnc, endEnc}
+use Rattle.scdr.specs.Private.Parts.{flagEnc, frontEnc, pdpEnc, endEnc}
 use Rattle.scdr.proofs.Views.{withins, places-rules}
 use Rattle.scdr.proofs.Theorems.{list-rules}
 

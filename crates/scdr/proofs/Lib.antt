@@ -1,12 +1,16 @@
 pub mod Tails
 pub mod Views
+pub mod Bodied
 pub mod Theorems
+pub mod Demand2
 pub mod Listed
 pub mod Printed
 pub mod Bodies
 pub mod Answering
 pub mod Pieced
+pub mod Walks
 pub mod Reading
 pub mod Accepting
 pub mod Chars
 pub mod Namings
+pub mod Fixes

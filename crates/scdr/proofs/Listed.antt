@@ -18,7 +18,7 @@ use Rattle.ber.proofs.Fields.{first-complete, first-sound}
 use Rattle.scdr.specs.declared.Record.{Record}
 use Rattle.scdr.specs.Layout.{rules, body, inside, scdr}
 use Rattle.scdr.specs.List.{listEnc, markAt, listDec, recordList}
-use Rattle.scdr.proofs.Theorems.{good-is-rules, inside-law}
+use Rattle.scdr.proofs.Theorems.{good-is-rules, inside-law, inside-caps}
 
 -- each record is within the rules
 abbrev pub AllRight : List Record → Type 0
@@ -39,13 +39,11 @@ octets-are r = append-nil (tlvEnc 0xA0 (inside .enc r))
 
 -- the record at the front of octets, and what follows it
 front : (r : Record) (s : List ℕ) → T (rules r) → first 0xA0 inside (scdr .enc r ++ s) ≡ some (r, s)
-unfolding inside body
-front r s t = rw (octets-are r) (first-complete 0xA0 inside inside-law tt r s (inside-good r t))
+front r s t = rw (octets-are r) (first-complete 0xA0 inside inside-law inside-caps r s (inside-good r t))
 
 front-sound : (s : List ℕ) (p : Record × List ℕ) → first 0xA0 inside s ≡ some p → T (rules (p .0)) × (s ≡ scdr .enc (p .0) ++ p .1)
-unfolding inside body
 front-sound s p e =
-    let (g, w) = first-sound 0xA0 inside inside-law tt s p e in
+    let (g, w) = first-sound 0xA0 inside inside-law inside-caps s p e in
     (good-inside (p .0) g, w ∙ ap (λ (x : List ℕ). x ++ p .1) (sym (octets-are (p .0))))
 
 reads : (n : ℕ) (rs : List Record) → AllRight rs → length rs ≤ n → listDec n (listEnc rs) ≡ some rs

@@ -11,7 +11,7 @@ use Rattle.ber.proofs.Places.{PartIs}
 use Rattle.ber.proofs.Readers.{first-there, first-bad}
 use Rattle.container.specs.declared.Container.{Container}
 use Rattle.container.specs.List.{containers, noContainers, isThere, listed, Listed}
-use Rattle.scdr.specs.Pieces.{ListsAt}
+use Rattle.scdr.specs.Private.Pieces.{ListsAt}
 use Rattle.scdr.proofs.Tails.{take-padded}
 
 there-some : (o : Option (List Container)) → isThere o ≡ true → o ≡ some (listed o)

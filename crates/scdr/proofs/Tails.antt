@@ -8,13 +8,12 @@ use lib.Dec.{T, eqb, eqb→eq}
 use lib.ListN.{length, take, drop, replicate, length-append, length-drop, length-replicate, take-append-drop, length-map}
 use lib.Seq.{take-at, length-take-le}
 use Rattle.format.proofs.Tests.{and-l, and-r}
-use Rattle.ber.specs.Field.{unless0, unlessNone, optGood, between}
-use Rattle.ber.specs.Int.{counted}
+use Rattle.ber.specs.Field.{unlessNone, optGood, between}
 use Rattle.container.specs.declared.Container.{Container}
 use Rattle.container.specs.List.{noContainers, padded}
 use Rattle.scdr.specs.Rules.{allOf, isZero}
 use Rattle.ber.specs.Text.{orNone}
-use Rattle.scdr.specs.Layout.{fillTo, orZero}
+use Rattle.scdr.specs.Layout.{fillTo}
 
 module _ {A : Type 0} (n : ℕ) (d : A) where
   pub take-fill : (xs : List A) → take (length xs) (fillTo n d xs) ≡ xs
@@ -54,16 +53,6 @@ pub zeros-are : (xs : List ℕ) → T (allOf isZero xs) → xs ≡ replicate (le
 unfolding allOf
 zeros-are [] h = refl
 zeros-are (x ∷ xs) h = ap₂ {C = List ℕ} (λ y ys. y ∷ ys) (eqb→eq x 0 (and-l (eqb x 0) (allOf isZero xs) h)) (zeros-are xs (and-r (eqb x 0) (allOf isZero xs) h))
-
--- a number that was read, and kept as 0 where there is none
-pub number-back : (o : Option ℕ) → optGood 0x95 counted o → unless0 (orZero o) ≡ o
-number-back none g = refl
-number-back (some zero) g = absurd (g .1)
-number-back (some (suc n)) g = refl
-
-pub number-kept : (n : ℕ) → orZero (unless0 n) ≡ n
-number-kept zero = refl
-number-kept (suc n) = refl
 
 -- octets that were read, and kept as none where there are none
 pub octets-back : (o : Option (List ℕ)) → optGood 0x96 (between 1 20) o → unlessNone (orNone o) ≡ o

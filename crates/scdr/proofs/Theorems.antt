@@ -13,10 +13,10 @@ use lib.Seq.{length-take-le}
 use Rattle.format.specs.Format.{Law, exactly}
 use Rattle.format.proofs.Tests.{and-l, and-r}
 use Rattle.format.proofs.Formats.{viewed-law, injective, refuses}
-use Rattle.ber.specs.Field.{optGood, there, unless0, unlessNone, between}
+use Rattle.ber.specs.Field.{optGood, there, unless0, unlessNone, between, _⨾_}
 use Rattle.ber.specs.Int.{counted}
 use Rattle.ber.proofs.Ints.{int-good}
-use Rattle.ber.proofs.Fields.{alone-law}
+use Rattle.ber.proofs.Fields.{Caps, alone-law}
 use Rattle.calendar.specs.declared.Stamp.{Stamp}
 use Rattle.calendar.specs.Stamp.{stampOk}
 use Rattle.container.specs.declared.Container.{Container}
@@ -26,7 +26,8 @@ use Rattle.container.proofs.Goods.{each-good, first-formed}
 use Rattle.container.specs.List.{eachOk, lastAlone, oneOffset, inOrder, qosRule, listOk, allFormed, containers}
 use Rattle.scdr.specs.declared.Record.{Record}
 use Rattle.scdr.specs.Rules.{shaped, within, numberOk, lastTime, duration, durationFrom}
-use Rattle.scdr.specs.Layout.{Layout, body, ofRecord, fieldsOf, toRecord, durationRight, rules, inside, scdr}
+use Rattle.scdr.specs.Layout.{body, ofRecord, fieldsOf, toRecord, durationRight, rules, inside, scdr}
+use Rattle.scdr.proofs.Bodied.{body-law}
 use Rattle.scdr.proofs.Views.{shape, withins, apn-rules, node-rules, places-rules, fields-back, record-back}
 
 -- ---- the rules of a list one by one, as far as the octets rest on them
@@ -105,49 +106,24 @@ rules-body r t =
     let l = list-rules (r .opening) (take (r .count) (r .containers)) (p .list) in
     let d = last-most (r .opening .seconds) (take (r .count) (r .containers)) (opening-most (r .opening) (w .opening)) (l .each) in
     let apnlen : length (take (r .apnlen) (r .apn)) ≡ r .apnlen = length-take-le (r .apnlen) (r .apn) (omega (arith, h .apn, a .most)) in
-    let nodelen : length (take (r .nodelen) (r .nodeid)) ≡ r .nodelen = length-take-le (r .nodelen) (r .nodeid) (omega (arith, h .node, n .most)) in (
-      tt,
-      (
-        flag-good 0x81 (0xFF ∷ []) (r .network),
-        (
-          w .imsi,
-          (
-            (lt→ltb (r .sgsn) (256 ^ 4) (h .sgsn), tt),
-            (
-              (int-good (r .charging) (omega (arith, h .charging)), lt→ltb (r .charging) (2 ^ 32) (h .charging)),
-              (
-                (lt→ltb (r .ggsn) (256 ^ 4) (h .ggsn), tt),
-                (
-                  (omega (arith, apnlen, a .most), le→leb 1 (length (take (r .apnlen) (r .apn))) (omega (arith, apnlen, a .least))),
-                  (
-                    lt→ltb (r .pdptype) (256 ^ 2) (h .pdptype),
-                    (
-                      ((lt→ltb (r .address) (256 ^ 4) (h .address), tt), tt),
-                      (
-                        each-good (take (r .count) (r .containers)) (l .formed) (l .least) (l .most),
-                        (
-                          w .opening,
-                          (
-                            int-good (durationFrom (r .opening .seconds) (take (r .count) (r .containers))) (omega arith),
-                            (
-                              flag-good 0x92 (0xFF ∷ []) (r .change),
-                              (
-                                tt,
-                                (number-good (r .number) (number-most (r .cause) (r .number) (w .number)), (octets-good (take (r .nodelen) (r .nodeid)) (omega (arith, nodelen, n .most)), tt)),
-                              ),
-                            ),
-                          ),
-                        ),
-                      ),
-                    ),
-                  ),
-                ),
-              ),
-            ),
-          ),
-        ),
-      ),
-    )
+    let nodelen : length (take (r .nodelen) (r .nodeid)) ≡ r .nodelen = length-take-le (r .nodelen) (r .nodeid) (omega (arith, h .node, n .most)) in
+    tt
+    ⨾ flag-good 0x81 (0xFF ∷ []) (r .network)
+    ⨾ w .imsi
+    ⨾ (lt→ltb (r .sgsn) (256 ^ 4) (h .sgsn), tt)
+    ⨾ (int-good (r .charging) (omega (arith, h .charging)), lt→ltb (r .charging) (2 ^ 32) (h .charging))
+    ⨾ (lt→ltb (r .ggsn) (256 ^ 4) (h .ggsn), tt)
+    ⨾ (omega (arith, apnlen, a .most), le→leb 1 (length (take (r .apnlen) (r .apn))) (omega (arith, apnlen, a .least)))
+    ⨾ lt→ltb (r .pdptype) (256 ^ 2) (h .pdptype)
+    ⨾ ((lt→ltb (r .address) (256 ^ 4) (h .address), tt), tt)
+    ⨾ each-good (take (r .count) (r .containers)) (l .formed) (l .least) (l .most)
+    ⨾ w .opening
+    ⨾ int-good (durationFrom (r .opening .seconds) (take (r .count) (r .containers))) (omega arith)
+    ⨾ flag-good 0x92 (0xFF ∷ []) (r .change)
+    ⨾ tt
+    ⨾ number-good (r .number) (number-most (r .cause) (r .number) (w .number))
+    ⨾ octets-good (take (r .nodelen) (r .nodeid)) (omega (arith, nodelen, n .most))
+    ⨾ tt
 
 -- a record is one that the format takes exactly where it is within the rules
 pub good-is-rules : (r : Record) → scdr .good r ↔ T (rules r)
@@ -155,18 +131,22 @@ unfolding scdr inside
 good-is-rules r = (λ g. g .0 .1, λ t. ((rules-body r t, t), tt))
 
 pub inside-law : Law inside
-unfolding inside body
-inside-law = viewed-law durationRight rules toRecord ofRecord body (Layout .law) fields-back record-back
+unfolding inside
+inside-law = viewed-law durationRight rules toRecord ofRecord body body-law fields-back record-back
+
+pub inside-caps : Caps inside
+unfolding inside body containers
+inside-caps = tt
 
 pub scdr-law : Law scdr
-unfolding scdr inside body
-scdr-law = alone-law 0xA0 inside inside-law tt
+unfolding scdr
+scdr-law = alone-law 0xA0 inside inside-law inside-caps
 
 -- ---- the theorems
 
 -- no record within the rules passes 1,024 octets
 pub at-most-1024 : (r : Record) → T (rules r) → length (scdr .enc r) ≤ 1024
-unfolding scdr inside body
+unfolding scdr inside body containers
 at-most-1024 r t = let h = scdr-law .fits r (good-is-rules r .1 t) in omega arith
 
 -- the octets of a record within the rules read back as that record

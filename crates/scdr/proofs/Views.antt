@@ -8,16 +8,17 @@ use lib.Dec.{T, leb, ltb, eqb, eqb→eq, eqb-refl, leb→le, ltb→lt}
 use lib.ListN.{length, take, drop}
 use lib.Seq.{length-take-le}
 use Rattle.format.proofs.Tests.{and-l, and-r, T-true}
-use Rattle.ber.specs.Field.{unless0, unlessNone}
+use Rattle.ber.specs.Field.{unless0, orZero, unlessNone, _⊗_, _⨾_}
 use Rattle.ber.specs.Imsi.{imsiOk}
+use Rattle.ber.proofs.Counts.{number-back, number-kept}
 use Rattle.calendar.specs.Stamp.{stampOk}
 use Rattle.container.specs.List.{listOk, blanks, padded}
 use Rattle.container.proofs.Turns.{blanks-are}
 use Rattle.scdr.specs.declared.Record.{Record}
 use Rattle.scdr.specs.Rules.{allOf, isZero, apnChar, nodeChar, apnOk, nodeOk, listRule, causeOk, numberOk, changeOk, shaped, within, duration, durationFrom}
 use Rattle.ber.specs.Text.{orNone}
-use Rattle.scdr.specs.Layout.{Fields, body, fillTo, orZero, listFields, numberFields, ofRecord, fieldsOf, toRecord, durationRight, rules}
-use Rattle.scdr.proofs.Tails.{take-fill, fill-take, take-padded, padded-take, zeros-are, number-back, number-kept, octets-back, octets-kept}
+use Rattle.scdr.specs.Layout.{Fields, body, fillTo, ofRecord, fieldsOf, toRecord, durationRight, rules}
+use Rattle.scdr.proofs.Tails.{take-fill, fill-take, take-padded, padded-take, zeros-are, octets-back, octets-kept}
 
 -- ---- the rules one by one
 
@@ -155,61 +156,16 @@ places-rules r t =
 
 pub fields-back : (w : Fields) → body .good w → T (durationRight w) → ofRecord (toRecord w) ≡ w
 unfolding body ofRecord fieldsOf toRecord durationRight duration
-fields-back w g t =
-    let apn = w .1 .1 .1 .1 .1 .1 .0 in
-    let cs = listFields w .0 in
-    let o = listFields w .1 .0 in
+fields-back (_, (network, (imsi, (sgsn, (id, (ggsn, (apn, (pdptype, (address, (cs, (o, (lasts, (change, (cause, (number, (node, _)))))))))))))))) g t =
     let last = g .1 .1 .1 .1 .1 .1 .1 .1 .1 .1 .1 .1 .1 .1 in
     let a : take (length apn) (fillTo 63 0 apn) ≡ apn = take-fill 63 0 apn in
     let l : take (length cs) (padded cs) ≡ cs = take-padded cs in
-    let d : durationFrom (o .seconds) (take (length cs) (padded cs)) ≡ listFields w .1 .1 .0 =
-    ap (durationFrom (o .seconds)) l ∙ sym (eqb→eq (listFields w .1 .1 .0) (durationFrom (o .seconds) cs) t) in
-    let n : unless0 (orZero (numberFields w .0)) ≡ numberFields w .0 = number-back (numberFields w .0) (last .0) in
-    let s : unlessNone (take (length (orNone (numberFields w .1 .0))) (fillTo 20 0 (orNone (numberFields w .1 .0)))) ≡ numberFields w .1 .0 =
-    ap unlessNone (take-fill 20 0 (orNone (numberFields w .1 .0))) ∙ octets-back (numberFields w .1 .0) (last .1 .0) in
-    λ i. (
-      tt,
-      (
-        w .1 .0,
-        (
-          w .1 .1 .0,
-          (
-            w .1 .1 .1 .0,
-            (
-              w .1 .1 .1 .1 .0,
-              (
-                w .1 .1 .1 .1 .1 .0,
-                (
-                  a i,
-                  (
-                    w .1 .1 .1 .1 .1 .1 .1 .0,
-                    (
-                      w .1 .1 .1 .1 .1 .1 .1 .1 .0,
-                      (
-                        l i,
-                        (
-                          o,
-                          (
-                            d i,
-                            (
-                              listFields w .1 .1 .1 .0,
-                              (
-                                listFields w .1 .1 .1 .1 .0,
-                                (n i, (s i, tt)),
-                              ),
-                            ),
-                          ),
-                        ),
-                      ),
-                    ),
-                  ),
-                ),
-              ),
-            ),
-          ),
-        ),
-      ),
-    )
+    let d : durationFrom (o .seconds) (take (length cs) (padded cs)) ≡ lasts =
+    ap (durationFrom (o .seconds)) l ∙ sym (eqb→eq lasts (durationFrom (o .seconds) cs) t) in
+    let n : unless0 (orZero number) ≡ number = number-back 0x95 number (last .0) in
+    let s : unlessNone (take (length (orNone node)) (fillTo 20 0 (orNone node))) ≡ node =
+    ap unlessNone (take-fill 20 0 (orNone node)) ∙ octets-back node (last .1 .0) in
+    λ i. tt ⨾ network ⨾ imsi ⨾ sgsn ⨾ id ⨾ ggsn ⨾ a i ⨾ pdptype ⨾ address ⨾ l i ⨾ o ⨾ d i ⨾ change ⨾ cause ⨾ n i ⨾ s i ⨾ tt
 
 -- ---- from a record to fields and back
 

@@ -3,9 +3,9 @@ use mathlib.Core.Path.{_≡_}
 use mathlib.Core.Bool.{cond, false}
 use mathlib.Core.Option.{Option, none, some}
 use mathlib.Core.List.{List, [], _++_}
-use Prim.Native.Nat.{ℕ, _≤_, _-_}
+use Prim.Native.Nat.{ℕ, _≤_}
 use lib.Dec.{leb}
-use lib.ListN.{length, take, drop}
+use lib.ListN.{length, drop}
 use Rattle.container.specs.List.{padded}
 use Rattle.scdr.specs.declared.Record.{Record}
 use Rattle.scdr.specs.Rules.{within}
@@ -72,30 +72,3 @@ readOf (some r) = (0, r)
 
 pub record ReadsRecord (s : List ℕ) (answer : ℕ) (r : Record) : Type 0 where
   pub is : _≡_ {A = ℕ × Record} (answer, r) (readOf (scdr .dec s))
-
--- the access point name of what was read
-unfoldable pub apnOf : Option Record → List ℕ
-apnOf none = []
-apnOf (some r) = take (r .apnlen) (r .apn)
-
--- The access point name as the very part of s where it lies, from a to e: empty where s is no record.
-pub record ShowsApn (s p : List ℕ) : Type 0 where
-  pub from : ℕ
-  pub to : ℕ
-  pub order : from ≤ to
-  pub inside : to ≤ length s
-  pub part : p ≡ take (to - from) (drop from s)
-  pub name : p ≡ apnOf (scdr .dec s)
-
--- both at once: the answer, the record, and where its access point name lies
-pub record Taken (s : List ℕ) (answer : ℕ) (r : Record) (from to : ℕ) : Type 0 where
-  pub reads : ReadsRecord s answer r
-  pub order : from ≤ to
-  pub inside : to ≤ length s
-  pub name : take (to - from) (drop from s) ≡ apnOf (scdr .dec s)
-
-pub record NotTaken (answer : ℕ) (r : Record) (from to : ℕ) : Type 0 where
-  pub number : answer ≡ noRecord
-  pub blank : r ≡ blankRecord
-  pub start : from ≡ 0
-  pub end : to ≡ 0

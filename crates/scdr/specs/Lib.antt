@@ -2,6 +2,6 @@ pub mod Rules
 pub mod Layout
 pub mod Sample
 pub mod Answers
+pub mod Apn
 pub mod List
-pub mod Parts
-pub mod Pieces
+pub mod Private

@@ -5,7 +5,7 @@ use crate::parts;
 use ber::text;
 use container::list;
 ghost use lib.Dec.{T};
-ghost use Rattle.ber.proofs.Writers.{Wrote};
+ghost use Rattle.ber.specs.Private.Wrote.{Wrote};
 ghost use Rattle.scdr.specs.Rules.{within};
 ghost use Rattle.scdr.specs.Layout.{body, ofRecord};
 

@@ -10,7 +10,7 @@ use ber::flag;
 use ber::imsi;
 use ber::text;
 use container::stamp;
-ghost use Rattle.scdr.specs.Pieces.{Wired};
+ghost use Rattle.scdr.specs.Private.Pieces.{Wired};
 
 // A record as its fields say it, with the duration beside; ok where all fields were read to the end.
 pub struct Wire {

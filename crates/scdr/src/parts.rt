@@ -12,8 +12,8 @@ ghost use Prim.Native.Nat.{_≤_};
 ghost use lib.Dec.{T};
 ghost use lib.ListN.{take};
 ghost use Rattle.ber.specs.Imsi.{imsiOk};
-ghost use Rattle.ber.proofs.Writers.{Wrote};
-ghost use Rattle.scdr.specs.Parts.{frontEnc, pdpEnc, endEnc};
+ghost use Rattle.ber.specs.Private.Wrote.{Wrote};
+ghost use Rattle.scdr.specs.Private.Parts.{frontEnc, pdpEnc, endEnc};
 ghost use Rattle.calendar.specs.Stamp.{stampOk};
 
 // 80 record type, 81 network initiation, 83 IMSI, A5 SGSN, 8A charging ID.

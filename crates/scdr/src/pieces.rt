@@ -14,7 +14,7 @@ ghost use Rattle.ber.specs.Int.{int};
 ghost use Rattle.ber.specs.Field.{first};
 ghost use Rattle.ber.specs.Read.{Reads, nowhere};
 ghost use Rattle.container.specs.List.{noContainers};
-ghost use Rattle.scdr.specs.Pieces.{ListsAt};
+ghost use Rattle.scdr.specs.Private.Pieces.{ListsAt};
 
 // The containers under a tag, and the place after them.
 pub struct ListAt {
@@ -23,7 +23,7 @@ pub struct ListAt {
     pub next: usize,
 }
 
-// The number of four octets at most under the tag at a place of s.
+// The number below 2^32 under the tag at a place of s: five octets at most, because one from 2^31 on takes five.
 pub fn id_at(s: &[u8], at: usize, tag: u8) -> AddressAt
     ensures { λ r. ⌜ Reads 0 (first tag (refined (λ n. ltb n (2 ^ 32)) int)) (now (s .entry)) at (r .v) (r .next) ⌝ }
 {

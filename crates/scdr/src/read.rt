@@ -9,7 +9,9 @@ ghost use mathlib.Core.Path.{_≡_};
 ghost use mathlib.Core.Bool.{_&&_};
 ghost use lib.Dec.{eqb};
 ghost use Rattle.scdr.specs.Rules.{within, duration};
-ghost use Rattle.scdr.specs.Answers.{ReadsRecord, ShowsApn, Taken, NotTaken};
+ghost use Rattle.scdr.specs.Answers.{ReadsRecord};
+ghost use Rattle.scdr.specs.Apn.{ShowsApn};
+ghost use Rattle.scdr.specs.Private.Taken.{Taken, NotTaken};
 
 // 0 and the record, or 20 and a record that is all zero.
 pub struct Read {
@@ -31,7 +33,7 @@ pub fn read_record(s: &[u8]) -> Read
 
 // The access point name of the record that s is, as the very part of s where it lies; empty where s is no record within the rules.
 pub fn apn_part(s: &[u8]) -> &[u8]
-    ensures { λ r. ⌜ ShowsApn (now (s .entry)) (now r) ⌝ }
+    ensures { λ r. ⌜ ShowsApn (s .entry) r ⌝ }
 {
     let w = take_apart(s);
     let a = w.from;

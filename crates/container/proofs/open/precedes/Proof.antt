@@ -3,7 +3,7 @@ use mathlib.Core.Path.{ap₂}
 use mathlib.Core.Bool.{Bool, _&&_}
 use lib.Dec.{leb, ltb, eqb}
 use borrow.Author.Needs.{needs}
-use Rattle.container.specs.Turns.{precedes}
+use Rattle.container.specs.Private.Turns.{precedes}
 use Rattle.container.proofs.open.precedes.Statement.{statement}
 use Rattle.container.proofs.open.precedes.Tie as tie
 

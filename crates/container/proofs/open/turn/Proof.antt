@@ -1,6 +1,6 @@
 -- `container::open::turn` meets its contract: a place that is used, and one that is not. Assumes nothing.
 use borrow.Author.Needs.{needs}
-use Rattle.container.specs.Turns.{turned}
+use Rattle.container.specs.Private.Turns.{turned}
 use Rattle.container.proofs.open.turn.Statement.{statement}
 use Rattle.container.proofs.open.turn.Tie as tie
 

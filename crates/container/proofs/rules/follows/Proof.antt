@@ -3,7 +3,7 @@ use mathlib.Core.Path.{ap}
 use mathlib.Core.Bool.{Bool, _&&_}
 use lib.Dec.{ltb}
 use borrow.Author.Needs.{needs}
-use Rattle.container.specs.Turns.{follows}
+use Rattle.container.specs.Private.Turns.{follows}
 use Rattle.container.proofs.rules.follows.Statement.{statement}
 use Rattle.container.proofs.rules.follows.Tie as tie
 

@@ -3,7 +3,7 @@ use mathlib.Core.Path.{ap}
 use mathlib.Core.Bool.{Bool, _&&_}
 use lib.Dec.{leb, eqb}
 use borrow.Author.Needs.{needs}
-use Rattle.container.specs.Turns.{stands}
+use Rattle.container.specs.Private.Turns.{stands}
 use Rattle.container.proofs.rules.stands.Statement.{statement}
 use Rattle.container.proofs.rules.stands.Tie as tie
 

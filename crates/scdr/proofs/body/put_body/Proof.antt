@@ -14,7 +14,7 @@ use Rattle.container.specs.Container.{noContainer}
 use Rattle.container.specs.Container.{noContainer}
 use Rattle.container.specs.List.{containers, allFormed}
 use Rattle.scdr.specs.Rules.{duration}
-use Rattle.scdr.specs.Parts.{endEnc}
+use Rattle.scdr.specs.Private.Parts.{endEnc}
 use Rattle.scdr.proofs.Tails.{length-of-map}
 use Rattle.scdr.proofs.Views.{withins, apn-rules, node-rules}
 use Rattle.scdr.proofs.Namings.{duration-is}

@@ -75,7 +75,7 @@ returns c =
     wired (short (c .before .before .before .before .before .before .before .before .before .before .before .before .before .before .before .before .before .before .before .before .before .before .before .before .before .before)) (c .before .before .before .before .before .before .before .before .before .before .before .before .before .before .before .before .before .before .before .before .before .before .before .before .const-at .ensures) (c .before .before .before .before .before .before .before .before .before .before .before .before .before .before .before .before .before .before .before .before .before .before .before .flag-at .ensures) (c .before .before .before .before .before .before .before .before .before .before .before .before .before .before .before .before .before .before .before .before .before .before .imsi-at .ensures) (c .before .before .before .before .before .before .before .before .before .before .before .before .before .before .before .before .before .before .before .before .before .address-at .ensures) (c .before .before .before .before .before .before .before .before .before .before .before .before .before .before .before .before .before .before .before .before .id-at .ensures)
     (c .before .before .before .before .before .before .before .before .before .before .before .before .before .before .before .before .before .before .before .address-at2 .ensures) (c .before .before .before .before .before .before .before .before .before .before .before .before .before .before .before .before .before .octets-at .ensures) (c .before .before .before .before .before .before .before .before .before .before .before .before .before .before .before .pair-at .ensures) (c .before .before .before .before .before .before .before .before .before .before .before .before .before .before .address-in-at .ensures) (c .before .before .before .before .before .before .before .before .before .before .before .before .before .list-at .ensures)
     (c .before .before .before .before .before .before .before .before .before .before .before .before .stamp-at .ensures) (c .before .before .before .before .before .before .before .before .before .before .before .int-at .ensures) (c .before .before .before .before .before .before .before .before .before .before .flag-at2 .ensures) (c .before .before .before .before .before .before .before .before .before .octet-at .ensures) (c .before .before .before .before .before .before .before .before .count-at .ensures) (c .before .before .before .before .before .before .text-at .ensures)
-    (c .before .before .before .before .before .before .before .before .count-at .result .v) refl refl refl (c .before .before .before .before .part-in .ensures)
+    refl refl (c .before .before .before .before .part-in .ensures)
 
 pub read-fields-spec : {M : Type 1} → statement M
 read-fields-spec =

@@ -80,7 +80,9 @@ returns-4 c =
     let s = c .before .before .before .before .before .before .before .before .before .before .before .before .before .before .before .args .s .now in
     let p = part-some s 0 0xA0 (sym (c .before .before .before .before .before .before .before .before .before .before .before .a .given .1) ∙ c .before .before .before .before .before .before .before .before .before .before .before .before .before .part-at .ensures) in
     let v = c .before .before .before .before .before .before .before .read-fields .ensures in
-    taken-record s p v (scdr-whole s p (c .before .before .before .before .before .before .before .before .before .if1 .left) ∙ wire-yes _ v (not-false _ (c .before .before .before .before .if2 .left)) (sym (c .before .before .before .passes .ensures) ∙ c .before .before .if3 .taken))
+    let ok = not-false _ (c .before .before .before .before .if2 .left) in
+    let whole = scdr-whole s p (c .before .before .before .before .before .before .before .before .before .if1 .left) in
+    taken-record s p v ok (whole ∙ wire-yes _ v ok (sym (c .before .before .before .passes .ensures) ∙ c .before .before .if3 .taken))
 
 no-record-requires-4 : tie.Need-no-record-requires-4
 no-record-requires-4 c κs = search needs

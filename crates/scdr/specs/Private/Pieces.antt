@@ -11,6 +11,7 @@ use Rattle.container.specs.declared.Container.{Container}
 use Rattle.container.specs.List.{containers, padded}
 use Rattle.scdr.specs.declared.fields.Wire.{Wire}
 use Rattle.scdr.specs.Layout.{body, fieldsOf, toRecord}
+use Rattle.scdr.specs.Apn.{walk}
 
 -- a list of containers read under the tag, in an array whose other places hold nothing
 pub record ListsAt (s : List ℕ) (at t n : ℕ) (v : List Container) (next : ℕ) : Type 0 where
@@ -23,6 +24,7 @@ pub record Wired (s : List ℕ) (w : Wire) : Type 0 where
   pub yes : w .ok ≡ true → body .dec s ≡ some (fieldsOf (w .cdr) (w .lasts))
   pub no : w .ok ≡ false → body .dec s ≡ none
   pub back : toRecord (fieldsOf (w .cdr) (w .lasts)) ≡ w .cdr
+  pub place : w .ok ≡ true → _≡_ {A = ℕ × ℕ} (w .from, w .to) (walk 16 0x8C s 0)
   pub order : w .from ≤ w .to
   pub inside : w .to ≤ length s
   pub apn : take (w .to - w .from) (drop (w .from) s) ≡ take (w .cdr .apnlen) (w .cdr .apn)

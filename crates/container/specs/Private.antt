@@ -1,0 +1,3 @@
+-- What only the private functions of this crate promise: no part of what a reader has to believe.
+pub mod NewForm
+pub mod Turns
