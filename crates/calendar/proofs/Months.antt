@@ -9,10 +9,12 @@ use lib.Dec.{T, ltb, leb, eqb, leb→le, eqb→eq}
 use lib.ListN.{getD}
 use borrow.Author.Tests.{ltb-true, ltb-false, eqb-true}
 use Rattle.format.proofs.Tests.{by, either, and-l, and-r}
-use Rattle.calendar.specs.Month.{leap, plain, monthLen, firstDay, seek, monthDay, Lies, Dated, Row, Placed}
+use Rattle.calendar.specs.Month.{leap, plain, monthLen, firstDay, seek, monthDay, Lies}
+use Rattle.calendar.specs.Private.Date.{Placed, Dated, Lasts}
+use Rattle.calendar.specs.Private.Table.{Row}
 
 -- January 2000 begins on day 0
-start : 0 ≡ firstDay 0
+pub start : 0 ≡ firstDay 0
 unfolding firstDay
 start = refl
 
@@ -100,6 +102,23 @@ month-is d k h u v =
     (λ (a : m ≤ k). either k m (λ (b : k ≤ m). omega arith) (λ (b : m < k). absurd (omega (arith, next m, later (suc m) k (omega arith)))))
     (λ (a : k < m). absurd (omega (arith, next m, later (suc k) m (omega arith))))
 
+-- ---- a day by its month and its place there
+
+module _ (k p : ℕ) (h : k < 1200) (l : p < monthLen k) where
+  -- it is a day of these years
+  day-there : firstDay k + p < 36525
+  day-there = omega (arith, next k, later (suc k) 1200 (omega arith), end)
+
+  -- and has these
+  pub month-there : monthDay (firstDay k + p) .0 ≡ k
+  month-there = month-is (firstDay k + p) k day-there (omega arith) (omega (arith, next k))
+
+  pub place-there : monthDay (firstDay k + p) .1 ≡ p
+  place-there =
+      let s = lies (firstDay k + p) day-there .starts in
+      let e = ap firstDay month-there in
+      omega arith
+
 -- ---- bounds
 
 abbrev all : (ℕ → Bool) → List ℕ → Bool
@@ -123,6 +142,15 @@ short k =
     (λ a. rw (a, eqb-true (k % 12) 1 a) (omega (arith, one (leap (2000 + k / 12)))))
     (λ a. rw a (omega (arith, entries plain tt (k % 12))))
 
+-- what is answered of a month
+pub lasts : (k f n : ℕ) → k < 1200 → f ≡ firstDay k → n ≡ monthLen k → Lasts k f n
+lasts k f n h e q = record { first = e; count = q; known = omega (arith, below k h); short = omega (arith, short k) }
+
+-- a December has 31 days
+pub december : (k : ℕ) → k % 12 ≡ 11 → monthLen k ≡ 31
+unfolding monthLen
+december k e = rw e
+
 -- so each begins at most 31 days after the one before
 slow : (n k : ℕ) → firstDay (k + n) ≤ firstDay k + n * 31
 slow zero k = rw (add-zero k) (omega arith)
@@ -134,6 +162,20 @@ dated d k f h e q =
     let l = lies d h in
     let g = ap firstDay e in
     record { month = e; place = omega arith; known = omega arith; small = omega (arith, short (monthDay d .0)) }
+
+-- ---- a month in the row of its four years
+
+module _ (k : ℕ) {l : List ℕ} (r : Row (k / 48) l) where
+  pub row-at : getD l (k % 48) 0 ≡ firstDay k
+  row-at =
+      let e : k / 48 * 48 + k % 48 ≡ k = omega arith in
+      r .begins (k % 48) (omega arith) ∙ ap firstDay e
+
+  -- the next month's entry, where the row has it
+  pub row-next : k % 48 < 47 → getD l (k % 48 + 1) 0 ≡ firstDay k + monthLen k
+  row-next h =
+      let e : k / 48 * 48 + (k % 48 + 1) ≡ suc k = omega arith in
+      r .begins (k % 48 + 1) (omega arith) ∙ ap firstDay e ∙ next k
 
 -- ---- a day in the row of its four years
 

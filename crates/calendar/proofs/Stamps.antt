@@ -10,12 +10,13 @@ use lib.ListN.{length, getD}
 use borrow.Author.Tests.{ltb-true, ltb-false, le-ltb}
 use Rattle.format.specs.Format.{Law, eqs}
 use Rattle.format.proofs.Formats.{checked-law, eqs-refl, eqs-eq}
-use Rattle.format.proofs.Tests.{by, and-l, and-r, T-true}
+use Rattle.format.proofs.Tests.{by, and-l, and-r, T-true, true-T}
 use Rattle.calendar.specs.declared.Stamp.{Stamp}
 use Rattle.calendar.specs.declared.StampRead.the-variants.{Time, NoTime}
-use Rattle.calendar.specs.Month.{firstDay, monthDay}
+use Rattle.calendar.specs.Month.{monthLen, firstDay, monthDay}
 use Rattle.calendar.specs.Stamp.{
   stampOk,
+  octetsOf,
   stampEnc,
   stampVal,
   stamp,
@@ -30,7 +31,7 @@ use Rattle.calendar.specs.Stamp.{
   clockVal,
   zoneVal,
 }
-use Rattle.calendar.proofs.Months.{lies, past}
+use Rattle.calendar.proofs.Months.{lies, past, month-there, place-there}
 
 -- ---- each part reads back
 
@@ -52,6 +53,10 @@ zone-back z =
     (λ a. rw (a, size-back (720 - z)) (omega (arith, ltb-true z 720 a)))
     (λ a. rw (a, size-back (z - 720)) (omega (arith, ltb-false z 720 a)))
 
+-- a zone in range is at most 14 hours away
+pub away-known : (z : ℕ) → z ≤ 1560 → away z ≤ 840
+away-known z h = by (ltb z 720) (λ a. rw a (omega arith)) (λ a. rw a (omega arith))
+
 -- ---- the whole does
 
 module _ (t : Stamp) (h : T (stampOk t)) where
@@ -60,12 +65,9 @@ module _ (t : Stamp) (h : T (stampOk t)) where
   unfolding stampOk
   day-known = omega (arith, ltb→lt (t .seconds) 3155760000 (and-l (ltb (t .seconds) 3155760000) (leb (t .zone) 1560) h))
 
-  -- a zone in range is at most 14 hours away
-  pub away-known : away (t .zone) ≤ 840
+  pub zone-known : t .zone ≤ 1560
   unfolding stampOk
-  away-known =
-      let z = leb→le (t .zone) 1560 (and-r (ltb (t .seconds) 3155760000) (leb (t .zone) 1560) h) in
-      by (ltb (t .zone) 720) (λ a. rw a (omega arith)) (λ a. rw a (omega arith))
+  zone-known = leb→le (t .zone) 1560 (and-r (ltb (t .seconds) 3155760000) (leb (t .zone) 1560) h)
 
   stamp-back : stampVal (stampEnc t) ≡ t
   unfolding stampEnc stampVal
@@ -86,20 +88,20 @@ stamp-law = checked-law stampOk stampEnc stampVal 9 stamp-back (λ t g. omega (a
 
 -- ---- what the writer answers
 
--- what nine calls gave is the form of t
-pub nine : (t : Stamp) {k p z a b c d e f g i j : ℕ} → k ≡ monthDay (t .seconds / 86400) .0 → p ≡ monthDay (t .seconds / 86400) .1 → z ≡ away (t .zone)
-    → a ≡ bcd (k / 12) → b ≡ bcd (k % 12 + 1) → c ≡ bcd (p + 1)
-    → d ≡ bcd (t .seconds % 86400 / 3600) → e ≡ bcd (t .seconds % 86400 / 60 % 60) → f ≡ bcd (t .seconds % 86400 % 60)
-    → g ≡ sign (t .zone) → i ≡ bcd (z / 60) → j ≡ bcd (z % 60)
-    → a ∷ b ∷ c ∷ d ∷ e ∷ f ∷ g ∷ i ∷ j ∷ [] ≡ stampEnc t
+-- what nine calls gave are the octets of month k, place p, second c of the day and zone z
+pub nine : (k p c z : ℕ) {w a b d e f g h i j : ℕ} → w ≡ away z → a ≡ bcd (k / 12) → b ≡ bcd (k % 12 + 1) → d ≡ bcd (p + 1)
+    → e ≡ bcd (c / 3600) → f ≡ bcd (c / 60 % 60) → g ≡ bcd (c % 60) → h ≡ sign z → i ≡ bcd (w / 60) → j ≡ bcd (w % 60)
+    → a ∷ b ∷ d ∷ e ∷ f ∷ g ∷ h ∷ i ∷ j ∷ [] ≡ octetsOf (k, p) c z
+nine k p c z w a b d e f g h i j =
+    let i′ = i ∙ ap (λ (x : ℕ). bcd (x / 60)) w in
+    let j′ = j ∙ ap (λ (x : ℕ). bcd (x % 60)) w in
+    λ l. a l ∷ b l ∷ d l ∷ e l ∷ f l ∷ g l ∷ h l ∷ i′ l ∷ j′ l ∷ []
+
+-- those of its own date and second are a time's form
+pub form-of : (t : Stamp) {k p c : ℕ} {o : List ℕ} → k ≡ monthDay (t .seconds / 86400) .0 → p ≡ monthDay (t .seconds / 86400) .1 → c ≡ t .seconds % 86400
+    → o ≡ octetsOf (k, p) c (t .zone) → o ≡ stampEnc t
 unfolding stampEnc
-nine t k p z a b c d e f g i j =
-    let a′ = a ∙ ap (λ (x : ℕ). bcd (x / 12)) k in
-    let b′ = b ∙ ap (λ (x : ℕ). bcd (x % 12 + 1)) k in
-    let c′ = c ∙ ap (λ (x : ℕ). bcd (x + 1)) p in
-    let i′ = i ∙ ap (λ (x : ℕ). bcd (x / 60)) z in
-    let j′ = j ∙ ap (λ (x : ℕ). bcd (x % 60)) z in
-    λ l. a′ l ∷ b′ l ∷ c′ l ∷ d l ∷ e l ∷ f l ∷ g l ∷ i′ l ∷ j′ l ∷ []
+form-of t k p c e = e ∙ (λ i. octetsOf (k i, p i) (c i) (t .zone))
 
 pub stamped-yes : (t : Stamp) {o : List ℕ} → stampOk t ≡ true → o ≡ stampEnc t → Stamped t true o
 stamped-yes t h e = record { within = sym h; form = rw h e }
@@ -135,6 +137,36 @@ pub read-late : (s : List ℕ) → 1200 ≤ monthVal (getD s 0 0) (getD s 1 0) �
 unfolding stampOk stampVal
 read-late s h = out s (ap (λ (b : Bool). b && leb (stampVal s .zone) 1560) (le-ltb (stampVal s .seconds) 3155760000 (omega (arith, past (monthVal (getD s 0 0) (getD s 1 0)) h))))
 
+-- A time's octets name its own day, which lies in its month, and its own second, which lies in its day.
+module _ (s : List ℕ) (h : stampOk (stampVal s) ≡ true) (e : stampEnc (stampVal s) ≡ s) where
+  day-said : unbcd (getD s 2 0) - 1 < monthLen (monthVal (getD s 0 0) (getD s 1 0))
+  unfolding stampEnc
+  day-said =
+      let v = stampVal s in
+      let m = monthDay (v .seconds / 86400) in
+      let a = subst (λ (l : List ℕ). monthVal (getD l 0 0) (getD l 1 0) ≡ m .0) e (month-back (m .0)) in
+      let b = subst (λ (l : List ℕ). unbcd (getD l 2 0) ≡ m .1 + 1) e (digits-back (m .1 + 1)) in
+      let q = ap monthLen a in
+      omega (arith, lies (v .seconds / 86400) (day-known v (true-T _ h)) .inside)
+
+  clock-said : clockVal (getD s 3 0) (getD s 4 0) (getD s 5 0) < 86400
+  unfolding stampEnc
+  clock-said =
+      let c = stampVal s .seconds % 86400 in
+      let a = subst (λ (l : List ℕ). clockVal (getD l 3 0) (getD l 4 0) (getD l 5 0) ≡ c) e (clock-back c) in
+      omega arith
+
+-- so octets that name a day past its month, or a second past its day, are no time
+unless : (s : List ℕ) → (stampOk (stampVal s) ≡ true → stampEnc (stampVal s) ≡ s → ⊥) → NoTime ≡ stampRead (stamp .dec s)
+unless s n = by (stampOk (stampVal s)) (λ h. differ s (n h)) (out s)
+
+pub read-day : (s : List ℕ) {k n p : ℕ} → k ≡ monthVal (getD s 0 0) (getD s 1 0) → n ≡ monthLen k → p ≡ unbcd (getD s 2 0) - 1
+    → n ≤ p → NoTime ≡ stampRead (stamp .dec s)
+read-day s a b c n = let q = ap monthLen a in unless s (λ h e. omega (arith, day-said s h e))
+
+pub read-clock : (s : List ℕ) {c : ℕ} → c ≡ clockVal (getD s 3 0) (getD s 4 0) (getD s 5 0) → 86400 ≤ c → NoTime ≡ stampRead (stamp .dec s)
+read-clock s a n = unless s (λ h e. omega (arith, clock-said s h e))
+
 -- what was put together of the octets' parts is what they say
 pub value : (s : List ℕ) {k f d c z : ℕ} → k ≡ monthVal (getD s 0 0) (getD s 1 0) → f ≡ firstDay k → d ≡ unbcd (getD s 2 0) - 1
     → c ≡ clockVal (getD s 3 0) (getD s 4 0) (getD s 5 0) → z ≡ zoneVal (getD s 6 0) (getD s 7 0) (getD s 8 0)
@@ -142,23 +174,31 @@ pub value : (s : List ℕ) {k f d c z : ℕ} → k ≡ monthVal (getD s 0 0) (ge
 unfolding stampVal
 value s k f d c z = let g = f ∙ ap firstDay k in λ i. record { seconds = (g i + d i) * 86400 + c i; zone = z i }
 
--- the ways out: s says t, and the writer answered ok and o for t
-module _ (s : List ℕ) {t : Stamp} {ok : Bool} {o : List ℕ} (e : t ≡ stampVal s) (w : Stamped t ok o) where
-  pub read-out : ok ≡ false → NoTime ≡ stampRead (stamp .dec s)
-  read-out h = out s (ap stampOk (sym e) ∙ sym (w .within) ∙ h)
+-- its octets are made of the same parts
+pub form-there : (f k p c z : ℕ) {o : List ℕ} → k < 1200 → f ≡ firstDay k → p < monthLen k → c < 86400 → o ≡ octetsOf (k, p) c z
+    → o ≡ stampEnc (record { seconds = (f + p) * 86400 + c; zone = z })
+form-there f k p c z h e l u =
+    let d : firstDay k + p ≡ ((f + p) * 86400 + c) / 86400 = omega arith in
+    form-of (record { seconds = (f + p) * 86400 + c; zone = z })
+    (sym (month-there k p h l) ∙ ap (λ (x : ℕ). monthDay x .0) d)
+    (sym (place-there k p h l) ∙ ap (λ (x : ℕ). monthDay x .1) d)
+    (omega arith)
 
-  module _ (h : ok ≡ true) where
-    inside : stampOk t ≡ true
-    inside = sym (w .within) ∙ h
+-- the ways out: s says t
+module _ (s : List ℕ) {t : Stamp} (e : t ≡ stampVal s) where
+  pub read-out : stampOk t ≡ false → NoTime ≡ stampRead (stamp .dec s)
+  read-out h = out s (ap stampOk (sym e) ∙ h)
 
+  -- whose octets are o
+  module _ {o : List ℕ} (w : o ≡ stampEnc t) where
     again : o ≡ stampEnc (stampVal s)
-    again = stamped-form w inside ∙ ap stampEnc e
+    again = w ∙ ap stampEnc e
 
     pub read-differs : (o ≡ s → ⊥) → NoTime ≡ stampRead (stamp .dec s)
     read-differs n = differ s (λ q. n (again ∙ q))
 
-    pub read-there : o ≡ s → Time t ≡ stampRead (stamp .dec s)
-    read-there q =
-        let x = ap stampOk (sym e) ∙ inside in
+    pub read-there : stampOk t ≡ true → o ≡ s → Time t ≡ stampRead (stamp .dec s)
+    read-there h q =
+        let x = ap stampOk (sym e) ∙ h in
         let y = T-true (eqs (stampEnc (stampVal s)) s) (subst (λ (z : List ℕ). T (eqs z s)) (sym (sym again ∙ q)) (eqs-refl s)) in
         rw (x, y) (ap Time e)

@@ -1,3 +1,3 @@
-pub mod Bound
 pub mod Month
 pub mod Stamp
+pub mod Private

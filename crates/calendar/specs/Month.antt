@@ -2,7 +2,7 @@
 use mathlib.Core.Bool.{Bool, true, false, cond, not, _&&_, _||_}
 use mathlib.Core.List.{List, [], _∷_}
 use mathlib.Core.Path.{_≡_}
-use Prim.Native.Nat.{ℕ, zero, suc, _+_, _-_, _*_, _/_, _%_, _<_}
+use Prim.Native.Nat.{ℕ, zero, suc, _+_, _-_, _/_, _%_, _<_}
 use lib.Dec.{ltb, eqb}
 use lib.ListN.{getD}
 
@@ -38,19 +38,3 @@ pub record Lies (d k p : ℕ) : Type 0 where
   pub starts : firstDay k + p ≡ d
   pub inside : p < monthLen k
   pub known : k < 1200
-
--- What is answered for day d: its month k and its place p there, with the bounds that a caller needs to go on computing.
-pub record Dated (d k p : ℕ) : Type 0 where
-  pub month : k ≡ monthDay d .0
-  pub place : p ≡ monthDay d .1
-  pub known : k < 1200
-  pub small : p < 31
-
--- A row of the code's table: the days on which the 48 months of four years begin, from month k * 48 on. A look at it relies on this.
-pub record Row (k : ℕ) (l : List ℕ) : Type 0 where
-  pub begins : (i : ℕ) → i < 48 → getD l i 0 ≡ firstDay (k * 48 + i)
-
--- What is found for day d in the row of its four years, which have 1,461 days: its month's place i there.
-pub record Placed (d i : ℕ) : Type 0 where
-  pub month : d / 1461 * 48 + i ≡ monthDay d .0
-  pub known : i < 48

@@ -1,7 +1,7 @@
 // Two decimal digits in an octet.
 ghost use Prim.Native.Nat.{_<_, _-_};
 ghost use mathlib.Core.Path.{_≡_};
-ghost use Rattle.calendar.specs.Bound.{Is};
+ghost use Rattle.calendar.specs.Private.Bound.{Is};
 ghost use Rattle.calendar.specs.Stamp.{bcd, unbcd};
 
 // The octet of a number below 100.

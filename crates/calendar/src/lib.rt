@@ -7,14 +7,16 @@ mod table;
 mod zone;
 
 ghost use mathlib.Core.Path.{_≡_};
-ghost use Rattle.calendar.specs.Bound.{Is};
-ghost use Rattle.calendar.specs.Stamp.{stampOk, stamp, stampRead, Stamped, clockVal};
+ghost use Prim.Native.Nat.{_<_, _≤_};
+ghost use Rattle.calendar.specs.Private.Bound.{Is};
+ghost use Rattle.calendar.specs.Stamp.{stampOk, stamp, stampRead, Stamped, clockVal, octetsOf};
 use digits::less_one;
 use digits::of_bcd;
 use digits::to_bcd;
+use month::Date;
 use month::date_of;
+use month::days_of;
 use month::month_named;
-use table::first_day;
 use zone::away_of;
 use zone::sign_of;
 use zone::zone_of;
@@ -56,21 +58,27 @@ pub fn stamp_octets(t: Stamp) -> StampOctets
             octets: [0; 9],
         };
     }
-    let date = date_of(t.seconds / 86400);
-    let second = t.seconds % 86400;
-    let size = away_of(t.zone);
-    let octets = [
+    let octets = octets_of(date_of(t.seconds / 86400), t.seconds % 86400, t.zone);
+    StampOctets { ok: true, octets }
+}
+
+// The nine octets of a date, a second of the day, and a zone.
+fn octets_of(date: Date, second: u32, zone: u16) -> [u8; 9]
+    requires { ⌜ (date .month < 1200) × (date .place < 31) × (second < 86400) × (zone ≤ 1560) ⌝ }
+    ensures { λ r. ⌜ r ≡ octetsOf (date .month, date .place) second zone ⌝ }
+{
+    let size = away_of(zone);
+    [
         to_bcd(date.month / 12),
         to_bcd(date.month % 12 + 1),
         to_bcd(date.place + 1),
         to_bcd(second / 3600),
         to_bcd(second / 60 % 60),
         to_bcd(second % 60),
-        sign_of(t.zone),
+        sign_of(zone),
         to_bcd(size / 60),
         to_bcd(size % 60),
-    ];
-    StampOctets { ok: true, octets }
+    ]
 }
 
 // The second of the day at hh mm ss.
@@ -81,7 +89,7 @@ fn second_of(hours: u8, minutes: u8, seconds: u8) -> u32
 }
 
 // Reads the whole contents of a TimeStamp. What the octets say is worked out digit by digit, and counts if it is in range and has
-// these very octets: so 31 February, 2D 00 00, or a digit above 9 is no time.
+// these very octets: so 2D 00 00, or a digit above 9, is no time. Nor is 31 February or 24:00:00, which would say a time of another day.
 pub fn stamp_of(s: &[u8]) -> StampRead
     ensures { λ r. ⌜ r ≡ stampRead (stamp .dec (now (s .entry))) ⌝ }
 {
@@ -92,16 +100,23 @@ pub fn stamp_of(s: &[u8]) -> StampRead
     if 1200 <= month {
         return StampRead::NoTime;
     }
-    let day = first_day(month) + less_one(of_bcd(s[2]));
-    let t = Stamp {
-        seconds: day * 86400 + second_of(s[3], s[4], s[5]),
-        zone: zone_of(s[6], s[7], s[8]),
-    };
-    let again = stamp_octets(t);
-    if !again.ok {
+    let days = days_of(month);
+    let place = less_one(of_bcd(s[2]));
+    if days.count <= place {
         return StampRead::NoTime;
     }
-    let octets = again.octets;
+    let second = second_of(s[3], s[4], s[5]);
+    if 86400 <= second {
+        return StampRead::NoTime;
+    }
+    let t = Stamp {
+        seconds: (days.first + place) * 86400 + second,
+        zone: zone_of(s[6], s[7], s[8]),
+    };
+    if !stamp_within(t) {
+        return StampRead::NoTime;
+    }
+    let octets = octets_of(Date { month, place }, second, t.zone);
     if check::same(&octets, s) {
         return StampRead::Time(t);
     }

@@ -1,7 +1,8 @@
 // Months, counted from January 2000.
 ghost use Prim.Native.Nat.{_/_, _<_};
-ghost use Rattle.calendar.specs.Bound.{Is};
-ghost use Rattle.calendar.specs.Month.{Row, Placed, Dated};
+ghost use Rattle.calendar.specs.Private.Bound.{Is};
+ghost use Rattle.calendar.specs.Private.Date.{Placed, Dated, Lasts};
+ghost use Rattle.calendar.specs.Private.Table.{Row};
 ghost use Rattle.calendar.specs.Stamp.{monthVal};
 use crate::digits::less_one;
 use crate::digits::of_bcd;
@@ -41,6 +42,29 @@ pub fn date_of(day: u32) -> Date
     Date {
         month: k * 48 + i,
         place: day - day_in(&row, i),
+    }
+}
+
+// The days of a month: the one on which it begins, and how many there are.
+pub struct Days {
+    pub first: u32,
+    pub count: u32,
+}
+
+// They end where the next month begins. The last month of a row has no next one there; it is a December.
+pub fn days_of(month: u32) -> Days
+    requires { ⌜ month < 1200 ⌝ }
+    ensures { λ r. ⌜ Lasts month (r .first) (r .count) ⌝ }
+{
+    let row = years(month / 48);
+    let i = month % 48;
+    let first = day_in(&row, i);
+    if i == 47 {
+        return Days { first, count: 31 };
+    }
+    Days {
+        first,
+        count: day_in(&row, i + 1) - first,
     }
 }
 

@@ -3,14 +3,27 @@
 use mathlib.Core.Path.{_≡_, sym, ap, _∙_, subst}
 use mathlib.Core.Bool.{true, false}
 use mathlib.Core.List.{List}
-use Prim.Native.Nat.{ℕ, _+_, _-_, _*_}
+use Prim.Native.Nat.{ℕ, _+_, _-_, _*_, _<_}
 use lib.Dec.{T}
+use lib.ListN.{getD}
 use native.Mathlib.Omega.{arith}
 use borrow.Author.Needs.{needs}
 use borrow.Author.Tests.{not-true, not-false}
+use Rattle.format.proofs.Tests.{true-T}
 use Rattle.calendar.specs.declared.Stamp.{Stamp}
-use Rattle.calendar.specs.Stamp.{stampVal}
-use Rattle.calendar.proofs.Stamps.{read-length, read-late, value, read-out, read-there, read-differs}
+use Rattle.calendar.specs.Stamp.{stampOk, stampEnc, stampVal, unbcd}
+use Rattle.calendar.proofs.Stamps.{
+  zone-known,
+  read-length,
+  read-late,
+  read-day,
+  read-clock,
+  value,
+  form-there,
+  read-out,
+  read-there,
+  read-differs,
+}
 use Rattle.calendar.proofs.stamp_of.Statement.{statement}
 use Rattle.calendar.proofs.stamp_of.Tie as tie
 
@@ -29,8 +42,8 @@ month-named-requires c κs = search needs
 returns-2 : tie.Need-returns-2
 returns-2 c = read-late (c .before .before .before .before .before .before .args .s .now) (omega arith)
 
-first-day-requires : tie.Need-first-day-requires
-first-day-requires c κs = search needs
+days-of-requires : tie.Need-days-of-requires
+days-of-requires c κs = search needs
 
 shared-slice-read-of-bcd : tie.Need-shared-slice-read-of-bcd
 shared-slice-read-of-bcd c = search needs
@@ -41,11 +54,18 @@ of-bcd-requires c κs = search needs
 less-one-requires : tie.Need-less-one-requires
 less-one-requires c κs = search needs
 
-add-day : tie.Need-add-day
-add-day c = search needs
+-- where the day's octet has been read: the octets, and the place that it names
+abbrev read : tie.After-less-one → List ℕ
+read c = c .before .before .before .before .before .before .before .before .before .before .args .s .now
 
-mul-t13 : tie.Need-mul-t13
-mul-t13 c = search needs
+place : (c : tie.After-less-one) → c .less-one .result ≡ unbcd (getD (read c) 2 0) - 1
+place c = c .less-one .ensures ∙ ap (λ (n : ℕ). n - 1) (c .before .of-bcd .ensures .same)
+
+returns-3 : tie.Need-returns-3
+returns-3 c =
+    let l = c .before .before in
+    let d = l .before .before .before in
+    read-day (read l) (d .before .before .month-named .ensures .same) (d .days-of .ensures .count) (place l) (c .if3 .taken)
 
 shared-slice-read-second-of : tie.Need-shared-slice-read-second-of
 shared-slice-read-second-of c = search needs
@@ -59,8 +79,17 @@ shared-slice-read-second-of-3 c = search needs
 second-of-requires : tie.Need-second-of-requires
 second-of-requires c κs = search needs
 
-add-t15 : tie.Need-add-t15
-add-t15 c = search needs
+returns-4 : tie.Need-returns-4
+returns-4 c = read-clock (read (c .before .before .before .before .before .before .before)) (c .before .second-of .ensures .same) (c .if4 .taken)
+
+add-t14 : tie.Need-add-t14
+add-t14 c = search needs
+
+mul-t20 : tie.Need-mul-t20
+mul-t20 c = search needs
+
+add-t21 : tie.Need-add-t21
+add-t21 c = search needs
 
 shared-slice-read-zone-of : tie.Need-shared-slice-read-zone-of
 shared-slice-read-zone-of c = search needs
@@ -74,40 +103,67 @@ shared-slice-read-zone-of-3 c = search needs
 zone-of-requires : tie.Need-zone-of-requires
 zone-of-requires c κs = search needs
 
-stamp-octets-requires : tie.Need-stamp-octets-requires
-stamp-octets-requires c κs = search needs
+stamp-within-requires : tie.Need-stamp-within-requires
+stamp-within-requires c κs = search needs
 
--- where the time has been put together: the octets, and the time
+-- where all of them have been read: the place of the day's, of the clock's, and the month's days; the octets, and the time
+abbrev less : tie.After-zone-of → tie.After-less-one
+less c = c .before .before .before .before .before .before .before .before .before .before .before .before
+
+abbrev clock : tie.After-zone-of → tie.After-second-of
+clock c = c .before .before .before .before .before .before
+
+abbrev days : tie.After-zone-of → tie.After-days-of
+days c = less c .before .before .before
+
 abbrev octets : tie.After-zone-of → List ℕ
-octets c = c .before .before .before .before .before .before .before .before .before .before .before .before .before .before .before .before .before .before .args .s .now
+octets c = read (less c)
 
 abbrev time : tie.After-zone-of → Stamp
-time c =
-    let less = c .before .before .before .before .before .before .before .before in
-    record {
-      seconds = (less .before .before .before .first-day .result + less .less-one .result) * 86400 + c .before .before .before .before .second-of .result;
-      zone = c .zone-of .result;
-    }
+time c = record {
+  seconds = (days c .days-of .result .first + less c .less-one .result) * 86400 + clock c .second-of .result;
+  zone = c .zone-of .result;
+}
+
+-- the day lies in the month
+shorter : (c : tie.After-zone-of) → less c .less-one .result < days c .days-of .result .count
+shorter c = c .before .before .before .before .before .before .before .before .before .before .if3 .left
 
 -- it is what the octets say
 said : (c : tie.After-zone-of) → time c ≡ stampVal (octets c)
 said c =
-    let less = c .before .before .before .before .before .before .before .before in
-    let first = less .before .before .before in
     value (octets c)
-    (first .before .before .month-named .ensures .same)
-    (first .first-day .ensures .same)
-    (less .less-one .ensures ∙ ap (λ (n : ℕ). n - 1) (less .before .of-bcd .ensures .same))
-    (c .before .before .before .before .second-of .ensures .same)
+    (days c .before .before .month-named .ensures .same)
+    (days c .days-of .ensures .first)
+    (place (less c))
+    (clock c .second-of .ensures .same)
     (c .zone-of .ensures)
 
-true-not-false : true ≡ false → ⊥
-true-not-false e = subst T e tt
+returns-5 : tie.Need-returns-5
+returns-5 c =
+    let z = c .before .before in
+    read-out (octets z) (said z) (sym (c .before .stamp-within .ensures) ∙ not-true _ (c .if5 .taken))
 
-returns-3 : tie.Need-returns-3
-returns-3 c =
+-- past that test
+inside : (c : tie.Else5) → stampOk (time (c .before .before)) ≡ true
+inside c = sym (c .before .stamp-within .ensures) ∙ not-false _ (c .if5 .left)
+
+octets-of-requires : tie.Need-octets-of-requires
+octets-of-requires c κs =
+    let z = c .before .before in
+    (search needs, omega (arith, days z .days-of .ensures .short, shorter z), search needs, zone-known (time z) (true-T _ (inside c)))
+
+-- the nine octets are those of the time
+form : (c : tie.After-octets-of) → c .octets-of .result ≡ stampEnc (time (c .before .before .before))
+form c =
     let z = c .before .before .before in
-    read-out (octets z) (said z) (c .before .before .stamp-octets .ensures) (not-true _ (c .if3 .taken))
+    let d = days z in
+    form-there (d .days-of .result .first) (d .before .before .month-named .result) (less z .less-one .result) (clock z .second-of .result) (z .zone-of .result)
+    (omega arith)
+    (d .days-of .ensures .first)
+    (omega (arith, d .days-of .ensures .count, shorter z))
+    (omega arith)
+    (c .octets-of .ensures)
 
 slice-aggregate-same : tie.Need-slice-aggregate-same
 slice-aggregate-same c = search needs
@@ -115,16 +171,20 @@ slice-aggregate-same c = search needs
 same-requires : tie.Need-same-requires
 same-requires c κs = search needs
 
-returns-4 : tie.Need-returns-4
-returns-4 c =
-    let z = c .before .before .before .before .before .before .before in
-    read-there (octets z) (said z) (c .before .before .before .before .before .before .stamp-octets .ensures) (not-false _ (c .before .before .before .before .if3 .left)) (c .before .same .ensures .0 (c .if4 .taken))
+true-not-false : true ≡ false → ⊥
+true-not-false e = subst T e tt
 
-returns-5 : tie.Need-returns-5
-returns-5 c =
-    let z = c .before .before .before .before .before .before .before in
-    read-differs (octets z) (said z) (c .before .before .before .before .before .before .stamp-octets .ensures) (not-false _ (c .before .before .before .before .if3 .left))
-    (λ q. true-not-false (sym (c .before .same .ensures .1 q) ∙ c .if4 .left))
+returns-6 : tie.Need-returns-6
+returns-6 c =
+    let o = c .before .before .before in
+    let z = o .before .before .before in
+    read-there (octets z) (said z) (form o) (inside (o .before)) (c .before .same .ensures .0 (c .if6 .taken))
+
+returns-7 : tie.Need-returns-7
+returns-7 c =
+    let o = c .before .before .before in
+    let z = o .before .before .before in
+    read-differs (octets z) (said z) (form o) (λ q. true-not-false (sym (c .before .same .ensures .1 q) ∙ c .if6 .left))
 
 pub stamp-of-spec : {M : Type 1} → statement M
 stamp-of-spec =
@@ -135,24 +195,27 @@ stamp-of-spec =
     shared-slice-read-month-named-2
     month-named-requires
     returns-2
-    first-day-requires
+    days-of-requires
     shared-slice-read-of-bcd
     of-bcd-requires
     less-one-requires
-    add-day
-    mul-t13
+    returns-3
     shared-slice-read-second-of
     shared-slice-read-second-of-2
     shared-slice-read-second-of-3
     second-of-requires
-    add-t15
+    returns-4
+    add-t14
+    mul-t20
+    add-t21
     shared-slice-read-zone-of
     shared-slice-read-zone-of-2
     shared-slice-read-zone-of-3
     zone-of-requires
-    stamp-octets-requires
-    returns-3
+    stamp-within-requires
+    returns-5
+    octets-of-requires
     slice-aggregate-same
     same-requires
-    returns-4
-    returns-5)
+    returns-6
+    returns-7)

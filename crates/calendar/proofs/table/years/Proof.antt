@@ -1,45 +1,43 @@
--- `calendar::table::years` meets its contract. Of each arm two things are asked: that the table has the row, and that the row is the
--- one that the calendar makes, which antt computes, entry for entry. Assumes nothing.
-use mathlib.Core.Path.{refl}
+-- `calendar::table::years` meets its contract: each arm's row is the table's, so it is the calendar's. Assumes nothing.
 use native.Mathlib.Omega.{arith}
 use borrow.Author.Needs.{needs}
-use Rattle.calendar.specs.Month.{monthLen}
-use Rattle.calendar.proofs.Entries.{days, row-of, Past, last}
+use Rattle.calendar.proofs.Entries.{row-is, Past, last}
 use Rattle.calendar.proofs.table.years.Statement.{statement}
 use Rattle.calendar.proofs.table.years.Tie as tie
 
 pub years-spec : {M : Type 1} → statement M
-unfolding days monthLen Past
+unfolding Past
 years-spec =
     tie.close
     (tie.spec
-    (λ c. search needs) (λ c. search needs) (λ c. search needs) (λ c. search needs) (λ c. search needs)
-    (λ c. search needs) (λ c. search needs) (λ c. search needs) (λ c. search needs) (λ c. search needs)
-    (λ c. search needs) (λ c. search needs) (λ c. search needs) (λ c. search needs) (λ c. search needs)
-    (λ c. search needs) (λ c. search needs) (λ c. search needs) (λ c. search needs) (λ c. search needs)
-    (λ c. search needs) (λ c. search needs) (λ c. search needs) (λ c. search needs) (λ c. search needs)
-    (λ c. row-of 0 _ (omega arith) tt refl)
-    (λ c. row-of 1 _ (omega arith) tt refl)
-    (λ c. row-of 2 _ (omega arith) tt refl)
-    (λ c. row-of 3 _ (omega arith) tt refl)
-    (λ c. row-of 4 _ (omega arith) tt refl)
-    (λ c. row-of 5 _ (omega arith) tt refl)
-    (λ c. row-of 6 _ (omega arith) tt refl)
-    (λ c. row-of 7 _ (omega arith) tt refl)
-    (λ c. row-of 8 _ (omega arith) tt refl)
-    (λ c. row-of 9 _ (omega arith) tt refl)
-    (λ c. row-of 10 _ (omega arith) tt refl)
-    (λ c. row-of 11 _ (omega arith) tt refl)
-    (λ c. row-of 12 _ (omega arith) tt refl)
-    (λ c. row-of 13 _ (omega arith) tt refl)
-    (λ c. row-of 14 _ (omega arith) tt refl)
-    (λ c. row-of 15 _ (omega arith) tt refl)
-    (λ c. row-of 16 _ (omega arith) tt refl)
-    (λ c. row-of 17 _ (omega arith) tt refl)
-    (λ c. row-of 18 _ (omega arith) tt refl)
-    (λ c. row-of 19 _ (omega arith) tt refl)
-    (λ c. row-of 20 _ (omega arith) tt refl)
-    (λ c. row-of 21 _ (omega arith) tt refl)
-    (λ c. row-of 22 _ (omega arith) tt refl)
-    (λ c. row-of 23 _ (omega arith) tt refl)
-    (λ c. row-of 24 _ (last 24 _ (c .before .match .rest) (c .before .before .pre)) tt refl))
+    (λ c κs. search needs)
+    (λ c κs. search needs) (λ c κs. search needs) (λ c κs. search needs) (λ c κs. search needs) (λ c κs. search needs)
+    (λ c κs. search needs) (λ c κs. search needs) (λ c κs. search needs) (λ c κs. search needs) (λ c κs. search needs)
+    (λ c κs. search needs) (λ c κs. search needs) (λ c κs. search needs) (λ c κs. search needs) (λ c κs. search needs)
+    (λ c κs. search needs) (λ c κs. search needs) (λ c κs. search needs) (λ c κs. search needs) (λ c κs. search needs)
+    (λ c κs. search needs) (λ c κs. search needs) (λ c κs. search needs) (λ c κs. search needs) (λ c κs. search needs)
+    (λ c. row-is (omega arith) (c .row-of .ensures))
+    (λ c. row-is (omega arith) (c .row-of2 .ensures))
+    (λ c. row-is (omega arith) (c .row-of3 .ensures))
+    (λ c. row-is (omega arith) (c .row-of4 .ensures))
+    (λ c. row-is (omega arith) (c .row-of5 .ensures))
+    (λ c. row-is (omega arith) (c .row-of6 .ensures))
+    (λ c. row-is (omega arith) (c .row-of7 .ensures))
+    (λ c. row-is (omega arith) (c .row-of8 .ensures))
+    (λ c. row-is (omega arith) (c .row-of9 .ensures))
+    (λ c. row-is (omega arith) (c .row-of10 .ensures))
+    (λ c. row-is (omega arith) (c .row-of11 .ensures))
+    (λ c. row-is (omega arith) (c .row-of12 .ensures))
+    (λ c. row-is (omega arith) (c .row-of13 .ensures))
+    (λ c. row-is (omega arith) (c .row-of14 .ensures))
+    (λ c. row-is (omega arith) (c .row-of15 .ensures))
+    (λ c. row-is (omega arith) (c .row-of16 .ensures))
+    (λ c. row-is (omega arith) (c .row-of17 .ensures))
+    (λ c. row-is (omega arith) (c .row-of18 .ensures))
+    (λ c. row-is (omega arith) (c .row-of19 .ensures))
+    (λ c. row-is (omega arith) (c .row-of20 .ensures))
+    (λ c. row-is (omega arith) (c .row-of21 .ensures))
+    (λ c. row-is (omega arith) (c .row-of22 .ensures))
+    (λ c. row-is (omega arith) (c .row-of23 .ensures))
+    (λ c. row-is (omega arith) (c .row-of24 .ensures))
+    (λ c. row-is (last 24 _ (c .before .before .match .rest) (c .before .before .before .before .pre)) (c .row-of25 .ensures)))
