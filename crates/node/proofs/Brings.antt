@@ -26,11 +26,11 @@ use Rattle.event.specs.declared.Decoded.the-variants as D
 use Rattle.event.specs.Number.{be}
 use Rattle.event.specs.Fields.{kindOf}
 use Rattle.event.specs.Event.{trafficOf, eventOf, decoded}
-use Rattle.event.proofs.Theorems.{heard, activated as activate-in, profiled, released}
+use Rattle.event.proofs.Theorems.{heard, activated as activate-in, qos-changed, released}
 use Rattle.context.specs.Sound.{contextOk}
 use Rattle.context.proofs.Sounds.{good-is}
 use Rattle.history.specs.Log.{Said, activates, tells, tellsAll, nothing}
-use Rattle.node.specs.declared.Heard.{Heard}
+use Rattle.node.specs.declared.Message.{Message}
 use Rattle.node.specs.Step.{Brought, broughtBy, takes, activated}
 use Rattle.node.specs.Told.{Fair}
 use Rattle.node.specs.Held.{Octets, HeldContext}
@@ -64,7 +64,7 @@ pub record Brings (m : Name) (b : Brought) : Type 0 where
   pub address : b .address < 2 ^ 32
 
 -- Of any event; none says nothing.
-abbrev pub Fairly : Said (Unit {0}) Name Brought Heard → Type 0
+abbrev pub Fairly : Said (Unit {0}) Name Brought Message → Type 0
 Fairly (activates m b) = Brings m (b tt)
 Fairly (tells m h) = Fair h
 Fairly (tellsAll h) = Fair h
@@ -95,7 +95,7 @@ fair-said s (E.Traffic n up down) o d =
     let u : up ≡ be 4 15 s = cc in
     let v : down ≡ be 4 19 s = cc in
     (rw u (be-below 4 15 s o), rw v (be-below 4 19 s o))
-fair-said s (E.Profile n q) o d = profiled s d
+fair-said s (E.Qos n q) o d = qos-changed s d
 fair-said s E.Tariff o d = tt
 fair-said s (E.Release n c) o d = released s d
 fair-said s E.Tick o d = tt

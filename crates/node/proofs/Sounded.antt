@@ -23,7 +23,7 @@ use Rattle.context.proofs.Sounds.{slot-active}
 use Rattle.history.specs.Lists.{All}
 use Rattle.history.specs.Log.{Said, activates, tells, tellsAll, nothing}
 use Rattle.node.specs.declared.Node.{Node}
-use Rattle.node.specs.declared.Heard.{Heard}
+use Rattle.node.specs.declared.Message.{Message}
 use Rattle.node.specs.Sound.{sound, latest, mostAccepted}
 use Rattle.node.specs.Step.{Brought, slots, activated, nodeAfter, recordsOf, output, notActive, isActive, allTaken, tableRows, laterRows, saidOf, refusals}
 use Rattle.node.specs.Told.{Due}
@@ -106,7 +106,7 @@ module _ (n : Node) (t : ℕ) (ok : sound n ≡ true) (h : Held n) (since : n .c
   onward-whole : (cs : List Context) → Onward (n .profile) t (n .accepted + 1) (n .contexts) cs → Whole (advanced n t cs)
   onward-whole cs o = whole cs (onward-slots o) (onward-distinct o (rules n ok .names)) (onward-held o) (onward-length o)
 
-  node-kept : (w : Said (Unit {0}) Name Brought Heard) → Fairly w → isActive (n .profile) w (slots n) ≡ false → Whole (nodeAfter n t w)
+  node-kept : (w : Said (Unit {0}) Name Brought Message) → Fairly w → isActive (n .profile) w (slots n) ≡ false → Whole (nodeAfter n t w)
   unfolding nodeAfter isActive activated
   node-kept (activates m b) f new =
       let p = n .profile in
@@ -122,7 +122,7 @@ module _ (n : Node) (t : ℕ) (ok : sound n ≡ true) (h : Held n) (since : n .c
   node-kept (tellsAll x) f new = onward-whole _ (all-stay (n .profile) t due (h .profile) (tellsAll x) f (n .contexts) (rules n ok .slots) (h .contexts))
   node-kept nothing f new = absurd f
 
-  records-fine : (w : Said (Unit {0}) Name Brought Heard) → Fairly w → All Fine (recordsOf n t w)
+  records-fine : (w : Said (Unit {0}) Name Brought Message) → Fairly w → All Fine (recordsOf n t w)
   unfolding recordsOf
   records-fine (activates m b) f = tt
   records-fine (tells m x) f = all-fine (n .profile) t due (h .profile) (tells m x) f (n .contexts) (rules n ok .slots) (h .contexts)

@@ -1,5 +1,5 @@
 // One call: an event's octets, a lent buffer, and the node that the last call handed back.
-use crate::Heard;
+use crate::Message;
 use crate::Node;
 use crate::emit;
 use crate::emit::Tried;
@@ -63,7 +63,7 @@ fn accepted(node: Node, t: u32, contexts: [Context; 16], written: usize) -> Step
 }
 
 // All slots hear h: first the room is looked for, then each writes where the last ended.
-fn serve(node: Node, t: u32, h: Heard, out: &mut [u8]) -> Stepped
+fn serve(node: Node, t: u32, h: Message, out: &mut [u8]) -> Stepped
     requires { ⌜ Ready (node .profile) t (node .contexts) ⌝ }
     requires { ⌜ Fair h ⌝ }
     requires { ⌜ node .accepted < mostAccepted ⌝ }

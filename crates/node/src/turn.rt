@@ -1,5 +1,5 @@
 // What stands of a context after it heard something: the record that goes on, the record that closed, the next one.
-use crate::Heard;
+use crate::Message;
 use crate::closing;
 use crate::closing::Told;
 use calendar::Stamp;
@@ -117,7 +117,7 @@ fn record_of(p: Profile, c: Context, t: u32, cause: u8, number: u64) -> Record
 }
 
 // The context where nothing closes.
-pub fn goes_on(p: Profile, c: Context, t: u32, h: Heard) -> Context
+pub fn goes_on(p: Profile, c: Context, t: u32, h: Message) -> Context
     requires { ⌜ Roomy c ⌝ }
     requires { ⌜ Ample c ⌝ }
     ensures { λ r. ⌜ r ≡ goesOn p c t h (changeOf c h) ⌝ }
@@ -130,7 +130,7 @@ pub fn goes_on(p: Profile, c: Context, t: u32, h: Heard) -> Context
 }
 
 // The record that closes with a cause.
-pub fn closed_by(p: Profile, c: Context, t: u32, h: Heard, cause: u8) -> Record
+pub fn closed_by(p: Profile, c: Context, t: u32, h: Message, cause: u8) -> Record
     requires { ⌜ Roomy c ⌝ }
     requires { ⌜ Ample c ⌝ }
     ensures { λ r. ⌜ r ≡ closedBy p c t h cause ⌝ }
@@ -140,7 +140,7 @@ pub fn closed_by(p: Profile, c: Context, t: u32, h: Heard, cause: u8) -> Record
 }
 
 // What stands in the slot after a closing.
-pub fn after_closing(p: Profile, c: Context, t: u32, h: Heard) -> Context
+pub fn after_closing(p: Profile, c: Context, t: u32, h: Message) -> Context
     requires { ⌜ Roomy c ⌝ }
     requires { ⌜ Ample c ⌝ }
     ensures { λ r. ⌜ r ≡ stood (afterClosing p c t h) ⌝ }
