@@ -32,7 +32,7 @@ use Rattle.context.proofs.Sounds.{good-is}
 use Rattle.history.specs.Log.{Said, activates, tells, tellsAll, nothing}
 use Rattle.node.specs.declared.Message.{Message}
 use Rattle.node.specs.Step.{Brought, broughtBy, takes, activated}
-use Rattle.node.specs.Told.{Fair}
+use Rattle.node.specs.Private.Told.{Fair}
 use Rattle.node.specs.Held.{Octets, HeldContext}
 use Rattle.node.proofs.Fits.{fit}
 

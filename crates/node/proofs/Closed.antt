@@ -30,7 +30,7 @@ use Rattle.node.specs.declared.Message.{Message}
 use Rattle.node.specs.declared.Message.the-variants as M
 use Rattle.node.specs.Hear.{counted, reported, reached, closing, isRelease, ended, endedAll, numberFor, recordOf, closedBy}
 use Rattle.node.specs.Sound.{latest, mostAccepted}
-use Rattle.node.specs.Told.{Fair, Apt}
+use Rattle.node.specs.Private.Told.{Fair, Apt}
 use Rattle.node.proofs.Turned.{used-length}
 use Rattle.node.proofs.Fits.{Fit, fit, apt-good, apt-roomy}
 

@@ -22,8 +22,8 @@ use Rattle.history.specs.Table.{Step}
 use Rattle.node.specs.declared.Message.{Message}
 use Rattle.node.specs.Hear.{closing, changeOf, goesOn, closedBy, afterClosing, hearWith, hear}
 use Rattle.node.specs.Step.{stood, markedOctets, octetsOf}
-use Rattle.node.specs.Told.{Apt, Slotted}
-use Rattle.node.specs.Range.{slotNext, slotOut, Counts, Turns}
+use Rattle.node.specs.Private.Told.{Apt, Slotted}
+use Rattle.node.specs.Private.Range.{slotNext, slotOut, Counts, Turns}
 
 -- ---- a record after its mark
 

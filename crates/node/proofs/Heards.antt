@@ -25,8 +25,8 @@ use Rattle.history.specs.Table.{Step, Handling, fill, free, active, slot, slots
 use Rattle.node.specs.declared.Message.{Message}
 use Rattle.node.specs.Hear.{hear}
 use Rattle.node.specs.Step.{Brought, handling, seen, stood, markedOctets, octetsOf}
-use Rattle.node.specs.Shape.{Shaped}
-use Rattle.node.specs.Range.{across, along, slotNext, slotOut}
+use Rattle.node.specs.Held.{Shaped}
+use Rattle.node.specs.Private.Range.{across, along, slotNext, slotOut}
 use Rattle.node.proofs.Found.{First, here, there}
 use Rattle.node.proofs.Ranges.{across-none, along-none}
 

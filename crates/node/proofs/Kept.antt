@@ -35,9 +35,8 @@ use Rattle.history.proofs.Lists.{none≢some}
 use Rattle.node.specs.declared.Message.{Message}
 use Rattle.node.specs.declared.Message.the-variants as M
 use Rattle.node.specs.Hear.{counted, reported, qosAfter, changeOf, reached, closing, isRelease, ended, endedAll, changed, opened, recordOf, goesOn, closedBy, afterClosing, hearWith, hear, numberFor}
-use Rattle.node.specs.Told.{Fair, Apt}
-use Rattle.node.specs.Shape.{Shaped}
-use Rattle.node.specs.Held.{HeldContext, HeldProfile}
+use Rattle.node.specs.Private.Told.{Fair, Apt}
+use Rattle.node.specs.Held.{Shaped, HeldContext, HeldProfile}
 use Rattle.node.proofs.Turned.{used-length, more}
 use Rattle.node.proofs.Fits.{fit, apt-good, apt-roomy}
 use Rattle.node.proofs.Closed.{ended-ok, closed-within}

@@ -13,8 +13,8 @@ use Rattle.context.specs.declared.Context.{Context}
 use Rattle.context.specs.Sound.{slotOk}
 use Rattle.context.proofs.Sounds.{slots-at}
 use Rattle.node.specs.declared.Message.{Message}
-use Rattle.node.specs.Told.{Slotted, Ready}
-use Rattle.node.specs.Range.{across, along, slotNext, slotOut, Counts, Turns}
+use Rattle.node.specs.Private.Told.{Slotted, Ready}
+use Rattle.node.specs.Private.Range.{across, along, slotNext, slotOut, Counts, Turns}
 
 -- ---- one place more
 

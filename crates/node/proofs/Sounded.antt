@@ -26,8 +26,8 @@ use Rattle.node.specs.declared.Node.{Node}
 use Rattle.node.specs.declared.Message.{Message}
 use Rattle.node.specs.Sound.{sound, latest, mostAccepted}
 use Rattle.node.specs.Step.{Brought, slots, activated, nodeAfter, recordsOf, output, notActive, isActive, allTaken, tableRows, laterRows, saidOf, refusals}
-use Rattle.node.specs.Told.{Due}
-use Rattle.node.specs.Range.{advanced}
+use Rattle.node.specs.Private.Told.{Due}
+use Rattle.node.specs.Private.Range.{advanced}
 use Rattle.node.specs.Held.{Octets, HeldContext, Held, Whole}
 use Rattle.node.proofs.Rules.{rules}
 use Rattle.node.proofs.Rowed.{numbered-rows, none-fits}

@@ -26,9 +26,8 @@ use Rattle.history.specs.Log.{Said, activates, tells, tellsAll, nothing}
 use Rattle.history.specs.Table.{Handling, hears, listen, slot, slotsHear, slotsWrite}
 use Rattle.node.specs.declared.Message.{Message}
 use Rattle.node.specs.Step.{Brought, handling, seen, stood}
-use Rattle.node.specs.Shape.{Shaped}
-use Rattle.node.specs.Told.{Fair, Due, Apt}
-use Rattle.node.specs.Held.{HeldContext, HeldProfile}
+use Rattle.node.specs.Private.Told.{Fair, Due, Apt}
+use Rattle.node.specs.Held.{Shaped, HeldContext, HeldProfile}
 use Rattle.node.proofs.Kept.{keeps-held, Fine, NextKeeps, Leaves, same-keeps, leaves}
 use Rattle.node.proofs.Brings.{Fairly}
 

@@ -34,9 +34,9 @@ use Rattle.node.specs.declared.task.Task.{Task}
 use Rattle.node.specs.declared.task.Task.the-variants as K
 use Rattle.node.specs.Sound.{sound, latest, mostAccepted}
 use Rattle.node.specs.Step.{Brought, broughtBy, takes, activated, tableRows, stepOf, Steps}
-use Rattle.node.specs.Shape.{Shaped}
-use Rattle.node.specs.Range.{across, along, slotNext, slotOut, Turns, advanced, triedOf, Tries, servedOf, Serves}
-use Rattle.node.specs.Task.{oneAt, namedTask, openAt, openTask, taskOf, timelyTask, taskFor, doneBy, FairEvent}
+use Rattle.node.specs.Held.{Shaped}
+use Rattle.node.specs.Private.Range.{across, along, slotNext, slotOut, Turns, advanced, triedOf, Tries, servedOf, Serves}
+use Rattle.node.specs.Private.Task.{oneAt, namedTask, openAt, openTask, taskOf, timelyTask, taskFor, doneBy, FairEvent}
 use Rattle.node.proofs.Found.{first-is, none-at, first-below}
 use Rattle.node.proofs.Ranges.{across-none, across-more, along-none, along-more}
 use Rattle.node.proofs.Served.{Sounding, Outs, outs-tell, outs-all, outs-activate, outs-8, outs-9, outs-10}

@@ -17,7 +17,7 @@ use Rattle.context.specs.Context.{used}
 use Rattle.node.specs.declared.Message.{Message}
 use Rattle.node.specs.declared.Message.the-variants as M
 use Rattle.node.specs.Hear.{reported, numberFor, ended, endedAll}
-use Rattle.node.specs.Told.{Roomy, Ample}
+use Rattle.node.specs.Private.Told.{Roomy, Ample}
 
 -- ---- one container more
 

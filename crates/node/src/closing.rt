@@ -12,7 +12,7 @@ ghost use Rattle.container.specs.Open.{volumeOf};
 ghost use Rattle.context.specs.Context.{used};
 ghost use Rattle.history.specs.Lists.{test};
 ghost use Rattle.node.specs.Hear.{counted, reported, qosAfter, changeOf, reached, closing, isRelease};
-ghost use Rattle.node.specs.Told.{toldBy, Ample};
+ghost use Rattle.node.specs.Private.Told.{toldBy, Ample};
 
 // A condition or a cause, if there is one.
 pub enum Told {

@@ -16,8 +16,8 @@ ghost use Rattle.ber.proofs.Writers.{Put};
 ghost use Rattle.scdr.specs.Rules.{within};
 ghost use Rattle.node.specs.Hear.{hear};
 ghost use Rattle.node.specs.Step.{stood, markedOctets, octetsOf};
-ghost use Rattle.node.specs.Told.{Fair, Apt, Slotted};
-ghost use Rattle.node.specs.Range.{Counts, Turns, Tries, slotNext, slotOut};
+ghost use Rattle.node.specs.Private.Told.{Fair, Apt, Slotted};
+ghost use Rattle.node.specs.Private.Range.{Counts, Turns, Tries, slotNext, slotOut};
 
 // What stands in a slot, and the place after what was written.
 pub struct Turned {

@@ -20,12 +20,12 @@ ghost use Prim.Native.Nat.{_≤_, _<_};
 ghost use lib.Dec.{eqb};
 ghost use lib.ListN.{length, set};
 ghost use Rattle.event.specs.Fields.{imsiOf, apnOf};
-ghost use Rattle.event.proofs.Theorems.{Activated};
+ghost use Rattle.event.specs.Private.Activated.{Activated};
 ghost use Rattle.scdr.specs.Layout.{fillTo};
 ghost use Rattle.node.specs.Sound.{mostAccepted};
 ghost use Rattle.node.specs.Step.{Steps, broughtBy, activated};
-ghost use Rattle.node.specs.Told.{Fair, Ready};
-ghost use Rattle.node.specs.Range.{advanced, Serves};
+ghost use Rattle.node.specs.Private.Told.{Fair, Ready};
+ghost use Rattle.node.specs.Private.Range.{advanced, Serves};
 
 // The answer, the node, and how many octets were written.
 pub struct Stepped {

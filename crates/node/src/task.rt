@@ -10,8 +10,8 @@ use event::Event;
 use event::Name;
 ghost use mathlib.Core.Path.{_≡_};
 ghost use Rattle.event.specs.Event.{decoded};
-ghost use Rattle.node.specs.Told.{Fair};
-ghost use Rattle.node.specs.Task.{namedTask, openTask, taskOf, timelyTask, taskFor, FairEvent, FairTask};
+ghost use Rattle.node.specs.Private.Told.{Fair};
+ghost use Rattle.node.specs.Private.Task.{namedTask, openTask, taskOf, timelyTask, taskFor, FairEvent, FairTask};
 
 pub enum Task {
     // the number of a refusal

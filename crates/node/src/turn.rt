@@ -12,7 +12,7 @@ use scdr::Record;
 ghost use mathlib.Core.Path.{_≡_};
 ghost use Rattle.node.specs.Hear.{ended, changed, opened, numberFor, recordOf, goesOn, closedBy, afterClosing, changeOf, isRelease};
 ghost use Rattle.node.specs.Step.{stood};
-ghost use Rattle.node.specs.Told.{Roomy, Ample};
+ghost use Rattle.node.specs.Private.Told.{Roomy, Ample};
 
 // The running container, ended now with a condition.
 fn ended(p: Profile, c: Context, t: u32, condition: u8) -> Container

@@ -7,7 +7,7 @@ use Rattle.scdr.proofs.Tails.{length-of-map}
 use Rattle.history.specs.Lists.{All}
 use Rattle.node.specs.declared.Message.the-variants as M
 use Rattle.node.specs.declared.task.Task.{Task}
-use Rattle.node.specs.Shape.{Shaped}
+use Rattle.node.specs.Held.{Shaped}
 use Rattle.node.proofs.Shapes.{all-shaped}
 use Rattle.node.proofs.Ranges.{slotted}
 use Rattle.node.proofs.Served.{ready}

@@ -24,8 +24,8 @@ use Rattle.node.specs.declared.task.Task.{Task}
 use Rattle.node.specs.declared.task.Task.the-variants.{Refuse, One, All, Open}
 use Rattle.node.specs.Sound.{latest, mostAccepted}
 use Rattle.node.specs.Step.{broughtBy, activated}
-use Rattle.node.specs.Told.{Fair}
-use Rattle.node.specs.Range.{advanced, servedOf}
+use Rattle.node.specs.Private.Told.{Fair}
+use Rattle.node.specs.Private.Range.{advanced, servedOf}
 
 -- ---- what is to be done
 
