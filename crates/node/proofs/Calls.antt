@@ -24,8 +24,8 @@ use Rattle.history.specs.Log as L
 use Rattle.node.specs.declared.Node.{Node}
 use Rattle.node.specs.declared.Message.{Message}
 use Rattle.node.specs.Sound.{sound, latest, mostAccepted}
-use Rattle.node.specs.Step.{Brought, takes, tableRows, laterRows, saidOf, refusals, outcome, stepOf, Steps}
-use Rattle.node.proofs.Rowed.{numbered-rows, fit-more, fit-first}
+use Rattle.node.specs.Step.{Brought, takes, saidOf, refusals, outcome, stepOf, Steps}
+use Rattle.node.proofs.Rowed.{tableRows, laterRows, parted, numbered-rows, fit-more, fit-first}
 use Rattle.node.proofs.Served.{Outs, outs-refused}
 
 -- ---- what was decoded
@@ -83,8 +83,8 @@ module _ (n : Node) (s b : List ℕ) where
 
   module _ (ok : sound n ≡ true) where
     past-13 : firstFit (refusals n s b) ≡ firstFit (rows s ++ laterRows n (timeOf s) (saidOf s) b)
-    unfolding refusals firstFit
-    past-13 = rw ok
+    unfolding firstFit
+    past-13 = rw (parted n s b, ok)
 
     pub steps-octets : {a k : ℕ} {r : Node} {j : ℕ} → decoded s ≡ Refused j → a ≡ j → r ≡ n → k ≡ 0 → Steps n s b b a r k
     unfolding decoded

@@ -18,10 +18,11 @@ use Rattle.history.specs.Table.{free, slotsAfter}
 use Rattle.node.specs.declared.Node.{Node}
 use Rattle.node.specs.declared.Message.{Message}
 use Rattle.node.specs.Sound.{sound, latest, mostAccepted}
-use Rattle.node.specs.Step.{Brought, handling, stood, slots, octetsOf, activated, nodeAfter, recordsOf, output, notActive, isActive, allTaken, tableRows, outcome}
+use Rattle.node.specs.Step.{Brought, handling, stood, slots, octetsOf, activated, nodeAfter, recordsOf, output, notActive, isActive, allTaken, outcome}
 use Rattle.node.specs.Held.{Shaped}
 use Rattle.node.specs.Private.Told.{Ready}
 use Rattle.node.specs.Private.Range.{across, along, slotNext, slotOut, Turns, advanced, servedOf, Serves}
+use Rattle.node.proofs.Rowed.{tableRows}
 use Rattle.node.proofs.Rules.{rules}
 use Rattle.node.proofs.Found.{First}
 use Rattle.node.proofs.Heards.{Settled, all-settled, all-after, all-outs, tells-after, tells-outs, found-active, none-active, found-free, none-free, filled}

@@ -25,12 +25,12 @@ use Rattle.history.specs.Log.{Said, activates, tells, tellsAll, nothing}
 use Rattle.node.specs.declared.Node.{Node}
 use Rattle.node.specs.declared.Message.{Message}
 use Rattle.node.specs.Sound.{sound, latest, mostAccepted}
-use Rattle.node.specs.Step.{Brought, slots, activated, nodeAfter, recordsOf, output, notActive, isActive, allTaken, tableRows, laterRows, saidOf, refusals}
+use Rattle.node.specs.Step.{Brought, slots, activated, nodeAfter, recordsOf, output, notActive, isActive, allTaken, saidOf, refusals}
 use Rattle.node.specs.Private.Told.{Due}
 use Rattle.node.specs.Private.Range.{advanced}
 use Rattle.node.specs.Held.{Octets, HeldContext, Held, Whole}
 use Rattle.node.proofs.Rules.{rules}
-use Rattle.node.proofs.Rowed.{numbered-rows, none-fits}
+use Rattle.node.proofs.Rowed.{tableRows, laterRows, parted, numbered-rows, none-fits}
 use Rattle.node.proofs.Heards.{all-settled}
 use Rattle.node.proofs.Kept.{Fine}
 use Rattle.node.proofs.Brings.{Fairly, fair-said, activated-sound, activated-held}
@@ -57,7 +57,7 @@ said-what s z = rw z
 
 module _ (n : Node) (s b : List ℕ) where
   pub accepts : firstFit (refusals n s b) ≡ 0 → Accepts n s b
-  unfolding refusals laterRows tableRows
+  unfolding laterRows tableRows
   accepts e =
       let t = timeOf s in
       let w = saidOf s in
@@ -67,7 +67,7 @@ module _ (n : Node) (s b : List ℕ) where
       let r₈ = row 8 (notActive (n .profile) w (slots n)) ∷ r₉ in
       let r₇ = row 7 (leb mostAccepted (n .accepted)) ∷ r₈ in
       let r₆ = row 6 (ltb latest t || ltb t (n .clock)) ∷ r₇ in
-      let p₁₃ = passed 13 (not (sound n)) (rows s ++ r₆) (omega arith) e in
+      let p₁₃ = passed 13 (not (sound n)) (rows s ++ r₆) (omega arith) (rw (parted n s b) at e) in
       let q = none-fits (rows s) r₆ (numbered-rows s) (p₁₃ .rest) in
       let p₆ = passed 6 (ltb latest t || ltb t (n .clock)) r₇ (omega arith) (q .1) in
       let p₇ = passed 7 (leb mostAccepted (n .accepted)) r₈ (omega arith) (p₆ .rest) in

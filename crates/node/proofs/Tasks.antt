@@ -18,7 +18,8 @@ use Rattle.event.specs.declared.Event.the-variants as E
 use Rattle.event.specs.declared.Decoded.{Decoded}
 use Rattle.event.specs.declared.Decoded.the-variants as D
 use Rattle.event.specs.Event.{decoded}
-use Rattle.event.proofs.Theorems.{Activated, activated as activate-in, qos-changed, released}
+use Rattle.event.specs.Private.Activated.{Activated}
+use Rattle.event.proofs.Theorems.{activated as activate-in, qos-changed, released}
 use Rattle.context.specs.declared.Context.{Context}
 use Rattle.context.specs.declared.slots.Slot.{Slot}
 use Rattle.context.specs.declared.slots.Found.{Found}
@@ -33,10 +34,11 @@ use Rattle.node.specs.declared.Message.the-variants as M
 use Rattle.node.specs.declared.task.Task.{Task}
 use Rattle.node.specs.declared.task.Task.the-variants as K
 use Rattle.node.specs.Sound.{sound, latest, mostAccepted}
-use Rattle.node.specs.Step.{Brought, broughtBy, takes, activated, tableRows, stepOf, Steps}
+use Rattle.node.specs.Step.{Brought, broughtBy, takes, activated, stepOf, Steps}
 use Rattle.node.specs.Held.{Shaped}
 use Rattle.node.specs.Private.Range.{across, along, slotNext, slotOut, Turns, advanced, triedOf, Tries, servedOf, Serves}
 use Rattle.node.specs.Private.Task.{oneAt, namedTask, openAt, openTask, taskOf, timelyTask, taskFor, doneBy, FairEvent}
+use Rattle.node.proofs.Rowed.{tableRows}
 use Rattle.node.proofs.Found.{first-is, none-at, first-below}
 use Rattle.node.proofs.Ranges.{across-none, across-more, along-none, along-more}
 use Rattle.node.proofs.Served.{Sounding, Outs, outs-tell, outs-all, outs-activate, outs-8, outs-9, outs-10}

@@ -15,8 +15,8 @@ use Rattle.event.specs.declared.Name.{Name}
 use Rattle.event.specs.declared.Activation.{Activation}
 use Rattle.event.specs.declared.Event.{Event}
 use Rattle.event.specs.declared.Event.the-variants as E
-use Rattle.event.specs.Fields.{kindOf, timeOf, flagsOf, imsiOf, apnOf}
-use Rattle.event.specs.Rows.{Row, row, firstFit, rows}
+use Rattle.event.specs.Fields.{kindOf, timeOf, flagsOf, imsiOf, apnOf, fieldsOk}
+use Rattle.event.specs.Rows.{Row, row, firstFit, marked, known, measured}
 use Rattle.event.specs.Event.{eventOf}
 use Rattle.context.specs.declared.Context.{Context}
 use Rattle.context.specs.Context.{noContext}
@@ -146,29 +146,39 @@ allTaken (tells m h) os = false
 allTaken (tellsAll h) os = false
 allTaken nothing os = false
 
--- 8 to 11
-unfoldable pub tableRows : Node → ℕ → Said (Unit {0}) Name Brought Message → List ℕ → List Row
-tableRows n t w b =
-    row 8 (notActive (n .profile) w (slots n))
-    ∷ row 9 (isActive (n .profile) w (slots n))
-    ∷ row 10 (allTaken w (slots n))
-    ∷ row 11 (ltb (length b) (length (output n t w)))
-    ∷ []
-
--- 6 and 7, and what follows
-unfoldable pub laterRows : Node → ℕ → Said (Unit {0}) Name Brought Message → List ℕ → List Row
-laterRows n t w b =
-    row 6 (ltb latest t || ltb t (n .clock))
-    ∷ row 7 (leb mostAccepted (n .accepted))
-    ∷ tableRows n t w b
-
 -- what the octets of an event say, as they stand
 abbrev pub saidOf : List ℕ → Said (Unit {0}) Name Brought Message
 saidOf s = takes (eventOf (kindOf s) s) s
 
--- 13, then 1 to 5 of the event's octets, then 6 to 11
+-- 01's "Refusal numbers, tried in this order", all that a call gives, each with 01's words. (12 is a fresh node's, 20 the reader's and 24 the
+-- writer's.) Each condition is true or false of any node, octets and buffer.
 unfoldable pub refusals : Node → List ℕ → List ℕ → List Row
-refusals n s b = row 13 (not (sound n)) ∷ (rows s ++ laterRows n (timeOf s) (saidOf s) b)
+refusals n s b =
+    -- "node breaks a rule under 'A sound node'"
+    row 13 (not (sound n))
+    -- "event under 7 octets, empty too"
+    ∷ row 1 (ltb (length s) 7)
+    -- "mark"
+    ∷ row 2 (not (marked s))
+    -- "kind not 1..7"
+    ∷ row 3 (not (known s))
+    -- "length not the kind's; activate under 36"
+    ∷ row 4 (not (measured s))
+    -- "a field out of range"
+    ∷ row 5 (not (fieldsOk (kindOf s) s))
+    -- "time above 3,155,759,999 or below the clock"
+    ∷ row 6 (ltb latest (timeOf s) || ltb (timeOf s) (n .clock))
+    -- "1,000,000,000,000,000 events accepted already"
+    ∷ row 7 (leb mostAccepted (n .accepted))
+    -- "kinds 2, 3, 5, 7: name not active"
+    ∷ row 8 (notActive (n .profile) (saidOf s) (slots n))
+    -- "kind 1: name active"
+    ∷ row 9 (isActive (n .profile) (saidOf s) (slots n))
+    -- "kind 1: all 16 slots taken"
+    ∷ row 10 (allTaken (saidOf s) (slots n))
+    -- "this event's output .. longer than the output buffer"
+    ∷ row 11 (ltb (length b) (length (output n (timeOf s) (saidOf s))))
+    ∷ []
 
 -- ---- the whole call: answer, node, written length, buffer
 
