@@ -11,7 +11,8 @@ use Rattle.profile.specs.declared.Limits.{Limits}
 use Rattle.context.specs.declared.Context.{Context}
 use Rattle.context.specs.declared.slots.Slot.{Slot}
 use Rattle.context.specs.declared.slots.Found.the-variants.{At, Nothing}
-use Rattle.context.specs.Slots.{slotOf, isActive, isFree, bears, firstFrom, noneBears, distinct, clash}
+use Rattle.context.specs.Slots.{slotOf, isActive, isFree, bears, firstFrom, noneBears, distinct}
+use Rattle.context.specs.Private.Clash.{clash}
 use Rattle.context.specs.Sound.{slotOk, slotsOk}
 
 -- ---- a rule of a list that looks at one element after another

@@ -1,3 +1,4 @@
 pub mod Context
 pub mod Sound
 pub mod Slots
+pub mod Private

@@ -41,7 +41,3 @@ noneBears n (s ∷ ss) = not (bears n s) && noneBears n ss
 unfoldable pub distinct : List Slot → Bool
 distinct [] = true
 distinct (s ∷ ss) = (isFree s || noneBears (s .name) ss) && distinct ss
-
--- two active slots with one name: how the code tests it, a pair at a time
-unfoldable pub clash : Slot → Slot → Bool
-clash s t = isActive s && bears (s .name) t

@@ -3,7 +3,8 @@ use crate::Context;
 use event::Name;
 ghost use mathlib.Core.Path.{_≡_};
 ghost use mathlib.Core.List.{map};
-ghost use Rattle.context.specs.Slots.{slotOf, sameName, isFree, bears, firstFrom, distinct, clash};
+ghost use Rattle.context.specs.Slots.{slotOf, sameName, isFree, bears, firstFrom, distinct};
+ghost use Rattle.context.specs.Private.Clash.{clash};
 
 // What names a slot: its first field is 1 where it is active.
 pub struct Slot {

@@ -4,9 +4,9 @@ use mathlib.Core.Bool.{false}
 use mathlib.Core.List.{[]}
 use lib.ListN.{take}
 use Rattle.ber.specs.Imsi.{imsiOk, halves, leading, allF}
+use Rattle.ber.specs.Int.{spelt, octetsFrom, numberIn}
 use Rattle.container.specs.Qos.{qosOk}
 use Rattle.scdr.specs.Rules.{allOf, apnChar, release}
-use Rattle.event.specs.Number.{be}
 use Rattle.event.specs.Fields.{wholeLength, activateOk, fieldsOk}
 use Rattle.event.specs.Rows.{firstFit, rows, marked, known, measured}
 use Rattle.event.specs.Event.{eventOf, saidBy, decoded}
@@ -28,15 +28,15 @@ pub activate-said : decoded activate ≡
       qos = record { reliability = 1; delay = 3; precedence = 2; peak = 4; mean = 0 };
       apnlen = 1;
     }))
-unfolding activate decoded saidBy eventOf firstFit rows marked known measured wholeLength fieldsOk activateOk be imsiOk halves leading allF qosOk allOf apnChar
+unfolding activate decoded saidBy eventOf firstFit rows marked known measured wholeLength fieldsOk activateOk spelt octetsFrom numberIn imsiOk halves leading allF qosOk allOf apnChar
 activate-said = refl
 
 pub traffic-said : decoded traffic ≡ Said 5 (Traffic (record { id = 1; ggsn = 0x0A000002 }) 400 599)
-unfolding traffic decoded saidBy eventOf firstFit rows marked known measured wholeLength fieldsOk be
+unfolding traffic decoded saidBy eventOf firstFit rows marked known measured wholeLength fieldsOk spelt octetsFrom numberIn
 traffic-said = refl
 
 pub release-said : decoded (released 0) ≡ Said 6 (Release (record { id = 1; ggsn = 0x0A000002 }) 0)
-unfolding released decoded saidBy eventOf firstFit rows marked known measured wholeLength fieldsOk release be
+unfolding released decoded saidBy eventOf firstFit rows marked known measured wholeLength fieldsOk release spelt octetsFrom numberIn
 release-said = refl
 
 -- ---- refused

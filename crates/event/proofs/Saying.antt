@@ -5,7 +5,7 @@ use Prim.Native.Nat.{ℕ}
 use borrow.Author.Tests.{ne-eqb}
 use Rattle.event.specs.Fields.{kindOf, timeOf, nameOf, activationOf}
 use Rattle.event.specs.Rows.{firstFit, rows}
-use Rattle.event.specs.Event.{trafficOf, profileOf, releaseOf, eventOf, saidBy, decoded}
+use Rattle.event.specs.Event.{trafficOf, qosOf, releaseOf, eventOf, saidBy, decoded}
 use Rattle.event.specs.declared.Activation.{Activation}
 use Rattle.event.specs.declared.Name.{Name}
 use Rattle.event.specs.declared.Event.{Event}
@@ -21,7 +21,7 @@ module _ (k : ℕ) (s : List ℕ) where
   unfolding eventOf
   event-2 e = rw e
 
-  pub event-3 : k ≡ 3 → profileOf s ≡ eventOf k s
+  pub event-3 : k ≡ 3 → qosOf s ≡ eventOf k s
   unfolding eventOf
   event-3 e = rw e
 

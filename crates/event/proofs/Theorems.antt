@@ -15,13 +15,15 @@ use Rattle.scdr.specs.Rules.{allOf, apnChar, release}
 use Rattle.event.specs.Fields.{kindOf, timeOf, nameOf, qosAt, flagsOf, imsiOf, countOf, apnOf, activationOf, causeOf, wholeLength, activateOk, fieldsOk}
 use Rattle.event.specs.Rows.{row, firstFit, rows, marked, known, measured}
 use Rattle.event.specs.Event.{eventOf, kindNumber, saidBy, decoded}
+use Rattle.event.specs.Private.Activated.{Activated}
 use Rattle.event.specs.declared.Activation.{Activation}
 use Rattle.event.specs.declared.Name.{Name}
 use Rattle.event.specs.declared.Event.{Event}
-use Rattle.event.specs.declared.Event.the-variants.{Activate, Profile, Release}
+use Rattle.event.specs.declared.Event.the-variants as E
+use Rattle.event.specs.declared.Event.the-variants.{Activate, Release}
 use Rattle.event.specs.declared.Decoded.the-variants.{Said, Refused}
 use Rattle.event.proofs.Firsts.{passed}
-use Rattle.event.proofs.Tried.{fields-activate, fields-profile, fields-release}
+use Rattle.event.proofs.Tried.{fields-activate, fields-qos, fields-release}
 
 -- ---- both of two tests
 
@@ -124,18 +126,6 @@ heard s {t} {e} h =
 
 -- ---- an activate
 
--- its flags, IMSI, QoS and access point name, which stand where the table of kinds has them
-pub record Activated (s : List ℕ) (a : Activation) : Type 0 where
-  pub is : a ≡ activationOf s
-  pub long : length s ≡ 36 + a .apnlen
-  pub flags : flagsOf s ≤ 3
-  pub imsi : imsiOk (imsiOf s) ≡ true
-  pub qos : qosOk (a .qos) ≡ true
-  pub least : 1 ≤ a .apnlen
-  pub most : a .apnlen ≤ 63
-  pub apn : allOf apnChar (apnOf s) ≡ true
-  pub size : length (apnOf s) ≡ a .apnlen
-
 activation-in : (s : List ℕ) → length s ≡ 36 + countOf s → activateOk s ≡ true → Activated s (activationOf s)
 unfolding activateOk
 activation-in s l h =
@@ -174,14 +164,14 @@ activated s {t} {a} h =
 -- ---- a QoS, a release
 
 -- its profile is in range
-pub profiled : (s : List ℕ) {t : ℕ} {n : Name} {q : Qos} → decoded s ≡ Said t (Profile n q) → qosOk q ≡ true
+pub qos-changed : (s : List ℕ) {t : ℕ} {n : Name} {q : Qos} → decoded s ≡ Said t (E.Qos n q) → qosOk q ≡ true
 unfolding eventOf
-profiled s {t} {n} {q} h =
+qos-changed s {t} {n} {q} h =
     let x = heard s h in
     let k : kindOf s ≡ 3 = sym (x .kind) in
-    let g : Profile n q ≡ Profile (nameOf s) (qosAt 15 s) = x .event ∙ ap (λ (m : ℕ). eventOf m s) k in
+    let g : E.Qos n q ≡ E.Qos (nameOf s) (qosAt 15 s) = x .event ∙ ap (λ (m : ℕ). eventOf m s) k in
     let i : q ≡ qosAt 15 s = cc in
-    ap qosOk i ∙ fields-profile (kindOf s) s k ∙ x .fields
+    ap qosOk i ∙ fields-qos (kindOf s) s k ∙ x .fields
 
 -- its cause is 0, 4 or 18
 pub released : (s : List ℕ) {t : ℕ} {n : Name} {c : ℕ} → decoded s ≡ Said t (Release n c) → release c ≡ true

@@ -47,9 +47,9 @@ module _ (k : ℕ) (s : List ℕ) where
   unfolding fieldsOk
   fields-activate e = rw e
 
-  pub fields-profile : k ≡ 3 → qosOk (qosAt 15 s) ≡ fieldsOk k s
+  pub fields-qos : k ≡ 3 → qosOk (qosAt 15 s) ≡ fieldsOk k s
   unfolding fieldsOk
-  fields-profile e = rw e
+  fields-qos e = rw e
 
   pub fields-release : k ≡ 5 → release (causeOf s) ≡ fieldsOk k s
   unfolding fieldsOk

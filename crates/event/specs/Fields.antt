@@ -6,10 +6,10 @@ use Prim.Native.Nat.{ℕ, _+_, _/_, _%_}
 use lib.Dec.{leb, eqb}
 use lib.ListN.{getD, take, drop}
 use Rattle.ber.specs.Imsi.{imsiOk}
+use Rattle.ber.specs.Int.{numberIn}
 use Rattle.container.specs.declared.Qos.{Qos}
 use Rattle.container.specs.Qos.{qosOk}
 use Rattle.scdr.specs.Rules.{allOf, apnChar, release}
-use Rattle.event.specs.Number.{be}
 use Rattle.event.specs.declared.Name.{Name}
 use Rattle.event.specs.declared.Activation.{Activation}
 
@@ -20,11 +20,11 @@ abbrev pub kindOf : List ℕ → ℕ
 kindOf s = getD s 2 0
 
 abbrev pub timeOf : List ℕ → ℕ
-timeOf s = be 4 3 s
+timeOf s = numberIn 4 3 s
 
 -- charging ID 4, GGSN 4
 abbrev pub nameOf : List ℕ → Name
-nameOf s = record { id = be 4 7 s; ggsn = be 4 11 s }
+nameOf s = record { id = numberIn 4 7 s; ggsn = numberIn 4 11 s }
 
 -- five octets from a place on
 abbrev pub qosAt : ℕ → List ℕ → Qos
@@ -57,8 +57,8 @@ activationOf s =
       name = nameOf s;
       network = eqb (flagsOf s % 2) 1;
       change = eqb (flagsOf s / 2 % 2) 1;
-      pdptype = be 2 24 s;
-      address = be 4 26 s;
+      pdptype = numberIn 2 24 s;
+      address = numberIn 4 26 s;
       qos = qosAt 30 s;
       apnlen = countOf s;
     }

@@ -1,6 +1,6 @@
-pub mod Number
 pub mod Fields
 pub mod Rows
 pub mod Framing
 pub mod Event
 pub mod Sample
+pub mod Private

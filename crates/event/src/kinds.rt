@@ -4,7 +4,7 @@ use crate::fields;
 use crate::number;
 ghost use mathlib.Core.Path.{_≡_};
 ghost use Rattle.event.specs.Fields.{kindOf};
-ghost use Rattle.event.specs.Event.{trafficOf, profileOf, releaseOf, eventOf};
+ghost use Rattle.event.specs.Event.{trafficOf, qosOf, releaseOf, eventOf};
 
 fn traffic_of(s: &[u8]) -> Event
     ensures { λ r. ⌜ r ≡ trafficOf (now (s .entry)) ⌝ }
@@ -15,12 +15,12 @@ fn traffic_of(s: &[u8]) -> Event
     Event::Traffic(name, up, down)
 }
 
-fn profile_of(s: &[u8]) -> Event
-    ensures { λ r. ⌜ r ≡ profileOf (now (s .entry)) ⌝ }
+fn qos_of(s: &[u8]) -> Event
+    ensures { λ r. ⌜ r ≡ qosOf (now (s .entry)) ⌝ }
 {
     let name = fields::name_of(s);
     let q = fields::qos_at(s, 15);
-    Event::Profile(name, q)
+    Event::Qos(name, q)
 }
 
 fn release_of(s: &[u8]) -> Event
@@ -44,7 +44,7 @@ pub fn event_of(s: &[u8]) -> Event
         return traffic_of(s);
     }
     if k == 3 {
-        return profile_of(s);
+        return qos_of(s);
     }
     if k == 4 {
         return Event::Tariff;

@@ -38,7 +38,8 @@ pub enum Event {
     Activate(Activation),
     // octets up and down
     Traffic(Name, u32, u32),
-    Profile(Name, container::Qos),
+    // a change of QoS: the profile from now on
+    Qos(Name, container::Qos),
     Tariff,
     // the cause
     Release(Name, u8),

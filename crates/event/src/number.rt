@@ -1,8 +1,8 @@
 // Numbers at a place of an event, big-endian. Octets past the end are 0.
 ghost use mathlib.Core.Path.{_≡_};
-ghost use Prim.Native.Nat.{_<_};
+ghost use Prim.Native.Nat.{_^_, _≤_, _<_};
 ghost use lib.ListN.{getD};
-ghost use Rattle.event.specs.Number.{be};
+ghost use Rattle.ber.specs.Int.{numberIn};
 
 pub fn octet(s: &[u8], at: usize) -> u8
     ensures { λ r. ⌜ r ≡ getD (now (s .entry)) at 0 ⌝ }
@@ -25,24 +25,30 @@ pub fn size(x: u8) -> usize
     x as usize
 }
 
-// The number in two octets.
-pub fn two(s: &[u8], at: usize) -> u16
-    requires { ⌜ at < 256 ⌝ }
-    ensures { λ r. ⌜ r ≡ be 2 at (now (s .entry)) ⌝ }
+// The number in k octets.
+fn number_in(s: &[u8], at: usize, k: usize) -> u32
+    requires { ⌜ (at < 256) × (k ≤ 4) ⌝ }
+    ensures { λ r. ⌜ (r ≡ numberIn k at (now (s .entry))) × (r < 256 ^ k) ⌝ }
 {
-    let a = wide(octet(s, at));
-    let b = wide(octet(s, at + 1));
-    (a * 256 + b) as u16
+    let mut n: u32 = 0;
+    let mut i: usize = 0;
+    while i < k {
+        n = n * 256 + wide(octet(s, at + i));
+        i += 1;
+    }
+    n
 }
 
-// The number in four octets.
+pub fn two(s: &[u8], at: usize) -> u16
+    requires { ⌜ at < 256 ⌝ }
+    ensures { λ r. ⌜ r ≡ numberIn 2 at (now (s .entry)) ⌝ }
+{
+    number_in(s, at, 2) as u16
+}
+
 pub fn four(s: &[u8], at: usize) -> u32
     requires { ⌜ at < 256 ⌝ }
-    ensures { λ r. ⌜ r ≡ be 4 at (now (s .entry)) ⌝ }
+    ensures { λ r. ⌜ r ≡ numberIn 4 at (now (s .entry)) ⌝ }
 {
-    let a = wide(octet(s, at));
-    let b = wide(octet(s, at + 1));
-    let c = wide(octet(s, at + 2));
-    let d = wide(octet(s, at + 3));
-    a * 16777216 + b * 65536 + c * 256 + d
+    number_in(s, at, 4)
 }

@@ -9,7 +9,8 @@ use lib.Dec.{eqb, ltb, leb·suc-suc}
 use lib.ListN.{length, take, drop, getD, drop-of-length-le, length-drop}
 use lib.Seq.{drop-cons, take-all, drop-length}
 use borrow.Author.Tests.{lt-ltb, eq-eqb, ne-eqb}
-use Rattle.profile.specs.Cut.{has, upTo, past, ahead, begins}
+use Rattle.profile.specs.Cut.{has, upTo, past, begins}
+use Rattle.profile.specs.Private.Ahead.{ahead}
 
 -- ---- how many octets stand before the first x
 

@@ -11,7 +11,8 @@ use Rattle.profile.specs.Address.{octetOk, octetOf, addressOk, addressOf
 use Rattle.profile.specs.Offset.{minus, westFault, offsetFault, east, west, zoneOf}
 use Rattle.profile.specs.Node.{nodeOctets}
 use Rattle.profile.specs.Line.{headFault, tailOf, valueOf, oneSpace, nodeSpace, valueFault, numberLine, addressLine, offsetLine, nodeLine}
-use Rattle.profile.specs.Text.{sgsnName, volumeName, timeName, changeName, offsetName, nodeName, badFrom3, firstBad, limitsOf, profileOf, noProfile, readBy, readOf}
+use Rattle.profile.specs.Profile.{noProfile}
+use Rattle.profile.specs.Text.{sgsnName, volumeName, timeName, changeName, offsetName, nodeName, badFrom3, firstBad, limitsOf, profileOf, readBy, readOf}
 use Rattle.profile.specs.Print.{digitsIn, addressText, offsetText, lineText, nodeText, textOf}
 use Rattle.profile.specs.Sample.{line1, line2, line3, line4, line5, line6, sessionText, session}
 use Rattle.profile.specs.declared.text.Fault.{Fault}
@@ -72,7 +73,7 @@ pub record Faults : Type 0 where
   pub octet-leading-zero : readOf ((sgsnName ++ 0x20 ∷ 0x31 ∷ 0x30 ∷ 0x2E ∷ 0x30 ∷ 0x2E ∷ 0x30 ∷ 0x2E ∷ 0x30 ∷ 0x31 ∷ 10 ∷ []) ++ line2 ++ line3 ++ line4 ++ line5 ++ line6) ≡ badly 1 Address
 
 pub faults : Faults
-unfolding readOf readBy firstBad badFrom3 orBad orElse unless addressLine numberLine offsetLine nodeLine valueFault headFault tailOf valueOf oneSpace nodeSpace has upTo past begins numberFault padded digit allOf numeral atMost addressOk octetOk minus westFault offsetFault noProfile
+unfolding readOf readBy firstBad badFrom3 orBad orElse unless addressLine numberLine offsetLine nodeLine valueFault headFault tailOf valueOf oneSpace nodeSpace has upTo past begins numberFault padded digit allOf numeral atMost addressOk octetOk minus westFault offsetFault
 faults =
     record {
       nothing = refl;

@@ -3,7 +3,8 @@ use mathlib.Core.Path.{_≡_}
 use mathlib.Core.List.{List}
 use Prim.Native.Nat.{ℕ}
 use borrow.Author.Tests.{ne-eqb}
-use Rattle.profile.specs.Text.{firstBad, profileOf, noProfile, readBy, readOf}
+use Rattle.profile.specs.Profile.{noProfile}
+use Rattle.profile.specs.Text.{firstBad, profileOf, readBy, readOf}
 use Rattle.profile.specs.declared.Profile.{Profile}
 use Rattle.profile.specs.declared.fault.Bad.{Bad}
 use Rattle.profile.specs.declared.text.Read.{Read}
@@ -16,6 +17,6 @@ module _ (s : List ℕ) (b : Bad) (e : b ≡ firstBad s) where
   unfolding readOf readBy
   read-good q z = rw (← e, z, q)
 
-  pub read-bad : (b .line ≡ 0 → ⊥) → saying (b .line) b noProfile ≡ readOf s
+  pub read-bad : {p : Profile} → p ≡ noProfile → (b .line ≡ 0 → ⊥) → saying (b .line) b p ≡ readOf s
   unfolding readOf readBy
-  read-bad z = rw (← e, ne-eqb (b .line) 0 z)
+  read-bad q z = rw (← e, ne-eqb (b .line) 0 z, q)

@@ -1,7 +1,7 @@
 -- Octets up to the first mark, and past it. Assumes nothing.
 use mathlib.Core.Bool.{Bool, true, false, cond, _&&_, _||_}
 use mathlib.Core.List.{List, [], _∷_}
-use Prim.Native.Nat.{ℕ, suc}
+use Prim.Native.Nat.{ℕ}
 use lib.Dec.{eqb}
 
 -- is there an x?
@@ -18,11 +18,6 @@ upTo x (y ∷ s) = cond (eqb y x) [] (y ∷ upTo x s)
 unfoldable pub past : ℕ → List ℕ → List ℕ
 past x [] = []
 past x (y ∷ s) = cond (eqb y x) s (past x s)
-
--- how many octets stand before the first x
-unfoldable pub ahead : ℕ → List ℕ → ℕ
-ahead x [] = 0
-ahead x (y ∷ s) = cond (eqb y x) 0 (suc (ahead x s))
 
 -- does s begin with the name?
 unfoldable pub begins : List ℕ → List ℕ → Bool

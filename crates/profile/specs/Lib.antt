@@ -9,3 +9,4 @@ pub mod Line
 pub mod Text
 pub mod Print
 pub mod Sample
+pub mod Private

@@ -2,6 +2,7 @@
 use mathlib.Core.Bool.{Bool, _&&_}
 use Prim.Native.Nat.{_^_}
 use lib.Dec.{leb}
+use lib.ListN.{replicate}
 use Rattle.scdr.specs.Rules.{nodeOk}
 use Rattle.profile.specs.declared.Limits.{Limits}
 use Rattle.profile.specs.declared.Profile.{Profile}
@@ -15,3 +16,7 @@ limitsOk l =
 -- unused octets zero
 unfoldable pub profileOk : Profile → Bool
 profileOk p = limitsOk (p .limits) && leb (p .zone) 1560 && nodeOk (p .nodeid) (p .nodelen)
+
+-- all zero, which is out of range: what stands where there is no profile
+abbrev pub noProfile : Profile
+noProfile = record { sgsn = 0; limits = record { volume = 0; seconds = 0; changes = 0 }; zone = 0; nodeid = replicate 20 0; nodelen = 0 }

@@ -3,7 +3,8 @@ use mathlib.Core.Bool.{cond}
 use mathlib.Core.List.{List, [], _∷_}
 use Prim.Native.Nat.{ℕ, _-_, _^_}
 use lib.Dec.{eqb}
-use lib.ListN.{length, replicate}
+use lib.ListN.{length}
+use Rattle.profile.specs.Profile.{noProfile}
 use Rattle.profile.specs.Cut.{past}
 use Rattle.profile.specs.Fault.{unless, orBad}
 use Rattle.profile.specs.Number.{numeral, atMost}
@@ -86,10 +87,6 @@ profileOf s =
       nodeid = nodeOctets (valueOf (length nodeName) (after (after (after (after (after s))))));
       nodelen = length (valueOf (length nodeName) (after (after (after (after (after s))))));
     }
-
--- all zero
-unfoldable pub noProfile : Profile
-noProfile = record { sgsn = 0; limits = record { volume = 0; seconds = 0; changes = 0 }; zone = 0; nodeid = replicate 20 0; nodelen = 0 }
 
 -- ---- what the text says: a profile, or the first bad line and what is wrong there
 

@@ -1,7 +1,8 @@
 // Octets up to a mark, and past it.
 ghost use mathlib.Core.Path.{_≡_};
 ghost use lib.ListN.{getD, drop};
-ghost use Rattle.profile.specs.Cut.{ahead, upTo, past, begins};
+ghost use Rattle.profile.specs.Cut.{upTo, past, begins};
+ghost use Rattle.profile.specs.Private.Ahead.{ahead};
 
 // The octet at a place, and 0 past the end.
 pub fn octet(s: &[u8], at: usize) -> u8

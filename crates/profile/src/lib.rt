@@ -14,7 +14,7 @@ pub mod text;
 
 use scdr::names;
 ghost use mathlib.Core.Path.{_≡_};
-ghost use Rattle.profile.specs.Profile.{limitsOk, profileOk};
+ghost use Rattle.profile.specs.Profile.{limitsOk, profileOk, noProfile};
 
 // When a record closes by itself: octets counted, seconds open, changes of QoS and tariff.
 #[repr(C)]
@@ -55,4 +55,23 @@ pub fn profile_ok(p: Profile) -> bool
     let a = limits_ok(l);
     let b = names::node_ok(nodeid, p.nodelen);
     a & (p.zone <= 1560) & b
+}
+
+// A profile that is all zero, which is out of range: what stands where there is none.
+pub fn no_profile() -> Profile
+    ensures { λ r. ⌜ r ≡ noProfile ⌝ }
+{
+    let limits = Limits {
+        volume: 0,
+        seconds: 0,
+        changes: 0,
+    };
+    let nodeid = [0u8; 20];
+    Profile {
+        sgsn: 0,
+        limits,
+        zone: 0,
+        nodeid,
+        nodelen: 0,
+    }
 }

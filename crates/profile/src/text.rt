@@ -136,19 +136,10 @@ pub fn read_profile(s: &[u8]) -> Read
             profile,
         };
     }
+    let profile = crate::no_profile();
     Read {
         line: b.line,
         fault: f,
-        profile: Profile {
-            sgsn: 0,
-            limits: Limits {
-                volume: 0,
-                seconds: 0,
-                changes: 0,
-            },
-            zone: 0,
-            nodeid: [0u8; 20],
-            nodelen: 0,
-        },
+        profile,
     }
 }

@@ -1,6 +1,7 @@
 -- `context::slots::clash` meets its contract: the code is the test. Assumes nothing.
 use borrow.Author.Needs.{needs}
-use Rattle.context.specs.Slots.{isActive, clash}
+use Rattle.context.specs.Slots.{isActive}
+use Rattle.context.specs.Private.Clash.{clash}
 use Rattle.context.proofs.slots.clash.Statement.{statement}
 use Rattle.context.proofs.slots.clash.Tie as tie
 

@@ -28,14 +28,14 @@ returns-2 c =
     let o = c .before .before .before .octet in
     c .traffic-of .ensures ∙ event-2 (o .result) s (c .before .if2 .taken) ∙ ap (λ (k : ℕ). eventOf k s) (o .ensures)
 
-profile-of-requires : tie.Need-profile-of-requires
-profile-of-requires c κs = search needs
+qos-of-requires : tie.Need-qos-of-requires
+qos-of-requires c κs = search needs
 
 returns-3 : tie.Need-returns-3
 returns-3 c =
     let s = c .before .before .before .before .before .before .args .s .now in
     let o = c .before .before .before .before .octet in
-    c .profile-of .ensures ∙ event-3 (o .result) s (c .before .if3 .taken) ∙ ap (λ (k : ℕ). eventOf k s) (o .ensures)
+    c .qos-of .ensures ∙ event-3 (o .result) s (c .before .if3 .taken) ∙ ap (λ (k : ℕ). eventOf k s) (o .ensures)
 
 returns-4 : tie.Need-returns-4
 returns-4 c =
@@ -77,7 +77,7 @@ event-of-spec =
     returns
     traffic-of-requires
     returns-2
-    profile-of-requires
+    qos-of-requires
     returns-3
     returns-4
     release-of-requires

@@ -5,7 +5,7 @@ use borrow.Author.Needs.{needs}
 use Rattle.container.specs.Qos.{qosOk}
 use Rattle.scdr.specs.Rules.{release}
 use Rattle.event.specs.Fields.{fieldsOk}
-use Rattle.event.proofs.Tried.{fields-activate, fields-profile, fields-release, fields-none}
+use Rattle.event.proofs.Tried.{fields-activate, fields-qos, fields-release, fields-none}
 use Rattle.event.proofs.rows.fields_ok.Statement.{statement}
 use Rattle.event.proofs.rows.fields_ok.Tie as tie
 
@@ -31,7 +31,7 @@ returns-2 : tie.Need-returns-2
 returns-2 c =
     let s = c .before .before .before .before .before .before .args .s .now in
     let o = c .before .before .before .before .octet in
-    c .qos-ok .ensures ∙ ap qosOk (c .before .qos-at .ensures) ∙ fields-profile (o .result) s (c .before .before .if2 .taken) ∙ ap (λ (k : ℕ). fieldsOk k s) (o .ensures)
+    c .qos-ok .ensures ∙ ap qosOk (c .before .qos-at .ensures) ∙ fields-qos (o .result) s (c .before .before .if2 .taken) ∙ ap (λ (k : ℕ). fieldsOk k s) (o .ensures)
 
 octet-requires-2 : tie.Need-octet-requires-2
 octet-requires-2 c κs = search needs

@@ -1,6 +1,5 @@
 -- `profile::text::read_profile` meets its contract. Assumes nothing.
 use borrow.Author.Needs.{needs}
-use Rattle.profile.specs.Text.{noProfile}
 use Rattle.profile.proofs.Readings.{read-good, read-bad}
 use Rattle.profile.proofs.text.read_profile.Statement.{statement}
 use Rattle.profile.proofs.text.read_profile.Tie as tie
@@ -14,9 +13,13 @@ profile-of-requires c κs = search needs
 returns : tie.Need-returns
 returns c = read-good (c .before .before .before .before .before .args .s .now) (c .before .before .before .first-bad .result) (c .before .before .before .first-bad .ensures) (c .profile-of .ensures) (c .before .if1 .taken)
 
+no-profile-requires : tie.Need-no-profile-requires
+no-profile-requires c κs = search needs
+
 returns-2 : tie.Need-returns-2
-unfolding noProfile
-returns-2 c = read-bad (c .before .before .before .before .args .s .now) (c .before .before .first-bad .result) (c .before .before .first-bad .ensures) (c .if1 .left)
+returns-2 c =
+    let b = c .before .before .before .first-bad in
+    read-bad (c .before .before .before .before .before .args .s .now) (b .result) (b .ensures) (c .no-profile .ensures) (c .before .if1 .left)
 
 pub read-profile-spec : {M : Type 1} → statement M
-read-profile-spec = tie.close (tie.spec first-bad-requires profile-of-requires returns returns-2)
+read-profile-spec = tie.close (tie.spec first-bad-requires profile-of-requires returns no-profile-requires returns-2)

@@ -1,0 +1,2 @@
+-- What private functions of this crate and of those above it count on: no part of what a reader must believe.
+pub mod Activated
