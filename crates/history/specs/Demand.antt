@@ -7,8 +7,8 @@ use mathlib.Core.Bool.{Bool, true, false, cond}
 use mathlib.Core.List.{List, [], _∷_, _++_, map}
 use mathlib.Core.Option.{Option, none, some}
 use lib.ListN.{length}
-use Rattle.history.specs.Lists.{each, sumOf, All, Earlier}
-use Rattle.history.specs.History.{History, _▸_∶_, events, began, beganWith, total, InOrder}
+use Rattle.history.specs.Lists.{each, sumOf, All, Earlier, NotFalling}
+use Rattle.history.specs.History.{History, _▸_∶_, events, began, beganWith, latest, total, InOrder}
 use Rattle.history.specs.Records.{Rules, Record, Open, whole, entire, inForce, changes, sinceOpening, closes, running, stretches, closings, records, ended, leaves}
 use Rattle.history.specs.Log.{tellsAll, Meaning, histories, reported}
 use Rattle.history.specs.Run.{Machine, run, written, log}
@@ -40,6 +40,10 @@ pub record OnceEach {S E : Type 0} (R : Rules S E) (h : History S E) : Type 0 wh
   pub all : each (λ x. events (whole x)) (stretches R h) ++ events (running R h) ≡ events h
   -- Whatever is counted: with the running stretch they make up all that was reported.
   pub every : (counts : E → ℕ) → sumOf (λ x. total counts (whole x)) (stretches R h) + total counts (running R h) ≡ total counts h
+  -- The records' pasts, each with the event that closed it, and then the open record's past are the whole history, event by event.
+  pub partition : each (λ r. events (entire r)) (records R h) ++ events (sinceOpening R h) ≡ events h
+  -- Each record's stretches are its own past with the event that closed it, event by event.
+  pub listed : All (λ r. each (λ x. events (whole x)) (r .stretches) ≡ events (entire r)) (records R h)
   -- The closed records have the numbers 1, 2, 3, and a sole record none.
   pub numbered : map (λ r. r .number) (records R h) ≡ numbers (ended R h) (closings R h)
   -- Each record opens when the one before it closes, with what is then in force; the first with the history.
@@ -50,6 +54,23 @@ pub record OnceEach {S E : Type 0} (R : Rules S E) (h : History S E) : Type 0 wh
   pub changed : changes R (sinceOpening R h) ≡ length (stretches R (sinceOpening R h))
   -- Whatever is heard next closes a record exactly when a closing condition holds, read since the last opening.
   pub exactly : (t : ℕ) (e : E) (cause : ℕ) → ClosesNow R h t e cause ↔ (closes R h t e ≡ some cause)
+
+-- Times in a history that is in order: those of its stretches, and so of its containers, do not fall.
+pub record InTime {S E : Type 0} (R : Rules S E) (h : History S E) : Type 0 where
+  -- from its start to the last thing heard, through all its records;
+  pub throughout : NotFalling (began h) (map (λ x. x .time) (stretches R h)) (latest h)
+  -- within each record, from its opening to its closing;
+  pub in-records : All (λ r. NotFalling (began (r .past)) (map (λ x. x .time) (r .stretches)) (r .time)) (records R h)
+  -- and within the open one, from its opening on.
+  pub in-open : NotFalling (began (sinceOpening R h)) (map (λ x. x .time) (stretches R (sinceOpening R h))) (latest h)
+
+-- A part of what is in force that no event changes: wherever it is looked at, it is what it was at the start.
+pub record Unchanged {S E A : Type 0} (R : Rules S E) (part : S → A) (h : History S E) : Type 0 where
+  pub now : part (inForce R h) ≡ part (beganWith h)
+  pub in-stretches : All (λ x. part (inForce R (x .ran)) ≡ part (beganWith h)) (stretches R h)
+  pub in-records : All (λ r. part (inForce R (r .past)) ≡ part (beganWith h)) (records R h)
+  pub in-open : part (inForce R (sinceOpening R h)) ≡ part (beganWith h)
+  pub in-running : part (inForce R (running R h)) ≡ part (beganWith h)
 
 -- ---- what a node must do
 
@@ -97,7 +118,8 @@ module _ {G N S E W C B M I O : Type 0} (R : Rules S E) (D : Meaning G N S E W) 
     -- all that the accepted events reported of it by name is in them, whatever is counted, save in what every subject hears;
     pub all-reported : (counts : E → ℕ) → ((v : W) (e : E) → D .says v ≡ tellsAll e → counts e ≡ 0)
         → sumOf (λ h. total counts h) (historiesOf calls n) ≡ reported R D n counts (log X fresh calls)
-    -- time does not go back in any of them;
+    -- time does not go back in any of them, so container times do not fall;
     pub in-order : All InOrder (historiesOf calls n)
+    pub in-time : All (InTime R) (historiesOf calls n)
     -- and each of them is charged once in every part.
     pub once : All (OnceEach R) (historiesOf calls n)
