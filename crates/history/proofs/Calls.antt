@@ -7,10 +7,10 @@ use mathlib.Core.Option.{Option, none, some}
 use Rattle.history.specs.Lists.{each, Earlier}
 use Rattle.history.specs.History.{History, start}
 use Rattle.history.specs.Records.{Rules, Record, records, ended}
-use Rattle.history.specs.Log.{Accepted, Said, activates, tells, tellsAll, nothing, Meaning, grown, heard, grow, follow, activation, histories}
+use Rattle.history.specs.Log.{Accepted, Said, activates, tells, tellsAll, nothing, Meaning, grown, heard, grow, follow, startsBy, histories}
 use Rattle.history.specs.Table.{Handling}
-use Rattle.history.specs.Run.{Machine, applied, run, written, log}
-use Rattle.history.specs.Demand.{Forms, Sight, under, stored, historiesOf, Demand3}
+use Rattle.history.specs.Run.{Machine, applied, run, allWritten, log}
+use Rattle.history.specs.Demand.{Forms, Sight, under, held, historiesOf, Demand3}
 use Rattle.history.specs.Calls.{openOne, closesIn, closedAt, closedBy, settingsAfter, appliedThen, writesUnder, startedThen, OneCall}
 use Rattle.history.proofs.Lists.{each-append, map-append, append-cancel}
 use Rattle.history.proofs.Tables.{under-append, Sound}
@@ -50,7 +50,7 @@ module _ {G N S E W : Type 0} (R : Rules S E) (D : Meaning G N S E W) (n : N) wh
   histories-append (c ∷ cs) ds g = rw (
     map-follow cs ds,
     histories-append cs ds (D .settles g (c .event)),
-    map-append (follow R D n ds) (map (follow R D n cs) (activation R D n g (c .time) (D .says (c .event)))) (histories R D n (D .settles g (c .event)) cs),
+    map-append (follow R D n ds) (map (follow R D n cs) (startsBy R D n g (c .time) (D .says (c .event)))) (histories R D n (D .settles g (c .event)) cs),
     append-assoc,
   )
 
@@ -91,7 +91,7 @@ module _ {G N S E W : Type 0} (R : Rules S E) (D : Meaning G N S E W) (n : N) wh
         rw (z, f) (ap (λ (y : List B). made h ++ y) i ∙ sym (append-assoc (made h) (each made (x ∷ hs)) (each (makes cs) (x ∷ hs))))
 
     -- what starts with an event has made nothing yet
-    started-none : (g : G) (t : ℕ) (w : Said G N S E) → each made (map (follow R D n []) (activation R D n g t w) ++ []) ≡ []
+    started-none : (g : G) (t : ℕ) (w : Said G N S E) → each made (map (follow R D n []) (startsBy R D n g t w) ++ []) ≡ []
     started-none g t (activates m s) = go (D .same n m)
       where
         go : (b : Bool) → each made (map (follow R D n []) (cond b (start t (s g) ∷ []) []) ++ []) ≡ []
@@ -115,7 +115,7 @@ module _ {G N S E W : Type 0} (R : Rules S E) (D : Meaning G N S E W) (n : N) wh
 -- ---- one more call
 
 module _ {M I W O : Type 0} (X : Machine M I W O) where
-  written-then : (calls : List I) (a : M) (i : I) → written X a (calls ++ (i ∷ [])) ≡ written X a calls ++ X .writes (run X a calls) i
+  written-then : (calls : List I) (a : M) (i : I) → allWritten X a (calls ++ (i ∷ [])) ≡ allWritten X a calls ++ X .writes (run X a calls) i
   written-then [] a i = append-nil _
   written-then (j ∷ calls) a i = rw (written-then calls (X .after a j) i, append-assoc)
 
@@ -137,16 +137,16 @@ module _ {G N S E W C B M I O : Type 0} (R : Rules S E) (D : Meaning G N S E W) 
 
     -- the records that all calls write of the kind, under n
     abbrev all : List I → List B
-    all is = under (D .same) (L .nameOf) n (each (L .kindred) (written X fresh is))
+    all is = under (D .same) (L .nameOf) n (each (L .kindred) (allWritten X fresh is))
 
     abbrev out : List B
     out = writesUnder R D F L X fresh settings calls i n
 
     abbrev made-by : List (History S E) → List B
-    made-by hs = each (λ h. map (F .written n) (records R h)) hs
+    made-by hs = each (λ h. map (F .asWritten n) (records R h)) hs
 
     abbrev closed-then : List B
-    closed-then = each (λ h. map (F .written n) (closedBy R D n cs h)) before
+    closed-then = each (λ h. map (F .asWritten n) (closedBy R D n cs h)) before
 
     grows : historiesOf R D F L X fresh settings (calls ++ (i ∷ [])) n ≡ map (follow R D n cs) before ++ started
     grows = ap (λ (x : List (Accepted W)). histories R D n settings x) (log-then X calls fresh i) ∙ histories-append R D n (log X fresh calls) cs settings
@@ -155,13 +155,13 @@ module _ {G N S E W C B M I O : Type 0} (R : Rules S E) (D : Meaning G N S E W) 
     all-then : all (calls ++ (i ∷ [])) ≡ all calls ++ out
     all-then =
         let w : List O = X .writes (run X fresh calls) i in
-        rw (written-then X calls fresh i, each-append (L .kindred) (written X fresh calls) w)
-        (under-append (D .same) (L .nameOf) n (each (L .kindred) (written X fresh calls)) (each (L .kindred) w))
+        rw (written-then X calls fresh i, each-append (L .kindred) (allWritten X fresh calls) w)
+        (under-append (D .same) (L .nameOf) n (each (L .kindred) (allWritten X fresh calls)) (each (L .kindred) w))
 
     made-all : made-by (map (follow R D n cs) before ++ started) ≡ (made-by before ++ closed-then) ++ made-by started
     made-all =
-        each-append (λ h. map (F .written n) (records R h)) (map (follow R D n cs) before) started
-        ∙ rw (made-then R D n (F .written n) cs before (met calls .released))
+        each-append (λ h. map (F .asWritten n) (records R h)) (map (follow R D n cs) before) started
+        ∙ rw (made-then R D n (F .asWritten n) cs before (met calls .released))
 
     wrote : out ≡ closed-then ++ made-by started
     wrote = append-cancel (made-by before) out (closed-then ++ made-by started) (
@@ -174,17 +174,17 @@ module _ {G N S E W C B M I O : Type 0} (R : Rules S E) (D : Meaning G N S E W) 
   one-call calls i = record {
     grows = grows calls i;
     wrote = wrote calls i;
-    silent = λ p. wrote calls i ∙ rw (p, append-nil) (makes-none R D n (F .written n) (before calls i));
+    silent = λ p. wrote calls i ∙ rw (p, append-nil) (makes-none R D n (F .asWritten n) (before calls i));
     one = λ c p.
         wrote calls i
-        ∙ rw (p, started-none R D n (F .written n) (settingsAfter D settings (log X fresh calls)) (c .time) (D .says (c .event)), append-nil)
-        (makes-one R D n (F .written n) c (before calls i) (met calls .released));
+        ∙ rw (p, started-none R D n (F .asWritten n) (settingsAfter D settings (log X fresh calls)) (c .time) (D .says (c .event)), append-nil)
+        (makes-one R D n (F .asWritten n) c (before calls i) (met calls .released));
   }
 
 -- Of every node that handles a kind as its histories say, as in `demand3`.
 pub each-call : {G N S E W C B M I O : Type 0} (R : Rules S E) (D : Meaning G N S E W) (F : Forms N S E C B) (K : Handling G N S E W C B)
     (L : Sight N C B M O) (X : Machine M I W O) (known : S → G) → Sound R D F K (L .nameOf) known → (settings : M → G) (clock : M → ℕ)
     → Serves K L X settings clock
-    → (fresh : M) → stored (L .slots fresh) ≡ [] → (calls : List I) (i : I) (n : N) → OneCall R D F L X fresh (settings fresh) calls i n
+    → (fresh : M) → held (L .slots fresh) ≡ [] → (calls : List I) (i : I) (n : N) → OneCall R D F L X fresh (settings fresh) calls i n
 each-call R D F K L X known Z settings clock Y fresh empty calls i n =
     one-call R D F L X fresh (settings fresh) n (λ cs. demand3 R D F K L X known Z settings clock Y fresh empty cs n) calls i

@@ -9,7 +9,7 @@ use native.Mathlib.Omega.{arith}
 use Rattle.history.specs.Lists.{All, NotFalling}
 use Rattle.history.specs.History.{History, start, latest, InOrder}
 use Rattle.history.specs.Records.{Rules, ended}
-use Rattle.history.specs.Log.{Accepted, Said, activates, tells, tellsAll, nothing, Meaning, grown, heard, grow, follow, activation, histories}
+use Rattle.history.specs.Log.{Accepted, Said, activates, tells, tellsAll, nothing, Meaning, grown, heard, grow, follow, startsBy, histories}
 use Rattle.history.proofs.Lists.{map-append, notFalling-append}
 use Rattle.history.proofs.Records.{Proper}
 
@@ -24,7 +24,7 @@ module _ {G N S E W : Type 0} (R : Rules S E) (D : Meaning G N S E W) (n : N) wh
   -- What holds of each start, followed through the events after it, holds of each history.
   module _ (P : History S E → Type 0) where
     each-activation : (cs : List (Accepted W)) (g : G) (t : ℕ) (w : Said G N S E) (rest : List (History S E))
-        → ((s : S) → P (follow R D n cs (start t s))) → All P rest → All P (map (follow R D n cs) (activation R D n g t w) ++ rest)
+        → ((s : S) → P (follow R D n cs (start t s))) → All P rest → All P (map (follow R D n cs) (startsBy R D n g t w) ++ rest)
     each-activation cs g t (activates m s) rest f r = go (D .same n m)
       where
         go : (x : Bool) → All P (map (follow R D n cs) (cond x (start t (s g) ∷ []) []) ++ rest)

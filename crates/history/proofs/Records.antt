@@ -182,7 +182,7 @@ module _ {S E : Type 0} (R : Rules S E) where
   pub exactly : (h : History S E) (t : ℕ) (e : E) (cause : ℕ) → ClosesNow R h t e cause ↔ (closes R h t e ≡ some cause)
   exactly h t e cause = (
     (λ c. exactly-at (closes R h t e) (number (closings R h) (isSome (R .release e))) (sinceOpening R h) t e (stretches R (sinceOpening R h ▸ t ∶ e)) cause (c .closed)
-        (append-cancel (records R h) (recordsAt R h t e) (c .closed ∷ []) (c .written)) (c .for)),
+        (append-cancel (records R h) (recordsAt R h t e) (c .closed ∷ []) (c .added)) (c .for)),
     (λ p. record {
       closed = record {
         number = number (closings R h) (isSome (R .release e));
@@ -192,7 +192,7 @@ module _ {S E : Type 0} (R : Rules S E) where
         event = e;
         stretches = stretches R (sinceOpening R h ▸ t ∶ e);
       };
-      written = rw p;
+      added = rw p;
       for = refl;
     }),
   )

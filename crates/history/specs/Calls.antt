@@ -60,10 +60,10 @@ module _ {G N S E W C B M I O : Type 0} (R : Rules S E) (D : Meaning G N S E W) 
         ≡ map (follow R D n (appliedThen calls i)) (historiesOf R D F L X fresh settings calls n) ++ startedThen calls i n
     -- what it writes under the name is exactly the records that those events close in them;
     pub wrote : writesUnder calls i n
-        ≡ each (λ h. map (F .written n) (closedBy R D n (appliedThen calls i) h)) (historiesOf R D F L X fresh settings calls n)
-        ++ each (λ h. map (F .written n) (records R h)) (startedThen calls i n)
+        ≡ each (λ h. map (F .asWritten n) (closedBy R D n (appliedThen calls i) h)) (historiesOf R D F L X fresh settings calls n)
+        ++ each (λ h. map (F .asWritten n) (records R h)) (startedThen calls i n)
     -- a call that applies nothing writes nothing;
     pub silent : appliedThen calls i ≡ [] → writesUnder calls i n ≡ []
     -- and one that applies one event writes exactly what this event closes in the open history.
     pub one : (c : Accepted W) → appliedThen calls i ≡ c ∷ [] → writesUnder calls i n
-        ≡ map (F .written n) (closesIn R (openOne R (historiesOf R D F L X fresh settings calls n)) (c .time) (heard R D n (D .says (c .event))))
+        ≡ map (F .asWritten n) (closesIn R (openOne R (historiesOf R D F L X fresh settings calls n)) (c .time) (heard R D n (D .says (c .event))))

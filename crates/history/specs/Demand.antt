@@ -11,7 +11,7 @@ use Rattle.history.specs.Lists.{each, sumOf, All, Earlier, NotFalling}
 use Rattle.history.specs.History.{History, _▸_∶_, events, began, beganWith, latest, total, InOrder}
 use Rattle.history.specs.Records.{Rules, Record, Open, whole, entire, inForce, changes, sinceOpening, closes, running, stretches, closings, records, ended, leaves}
 use Rattle.history.specs.Log.{tellsAll, Meaning, histories, reported}
-use Rattle.history.specs.Run.{Machine, run, written, log}
+use Rattle.history.specs.Run.{Machine, run, allWritten, log}
 
 -- ---- what one history must be
 
@@ -30,7 +30,7 @@ numbers true (suc (suc k)) = upTo (suc (suc k))
 -- Hearing e at t right after h closes a record, with this cause.
 pub record ClosesNow {S E : Type 0} (R : Rules S E) (h : History S E) (t : ℕ) (e : E) (cause : ℕ) : Type 0 where
   pub closed : Record S E
-  pub written : records R (h ▸ t ∶ e) ≡ records R h ++ (closed ∷ [])
+  pub added : records R (h ▸ t ∶ e) ≡ records R h ++ (closed ∷ [])
   pub for : closed .cause ≡ cause
 
 pub record OnceEach {S E : Type 0} (R : Rules S E) (h : History S E) : Type 0 where
@@ -76,8 +76,8 @@ pub record Unchanged {S E A : Type 0} (R : Rules S E) (part : S → A) (h : Hist
 
 -- How a kind's records are written and its subjects stored, by what the history says. C is what is stored, B what is written.
 pub record Forms (N S E C B : Type 0) : Type 0 where
-  pub written : N → Record S E → B
-  pub stored : N → Open S E → C
+  pub asWritten : N → Record S E → B
+  pub asStored : N → Open S E → C
 
 -- Where a node M has the slots of a kind, and which of the records that it writes are of the kind.
 pub record Sight (N C B M O : Type 0) : Type 0 where
@@ -86,15 +86,15 @@ pub record Sight (N C B M O : Type 0) : Type 0 where
   pub kindred : O → List B
   pub nameOf : B → N
 
--- What stands under a name: among records, and among slots.
+-- What stands under a name, among records or among contexts, and what slots hold.
 abbrev pub under : {N B : Type 0} → (N → N → Bool) → (B → N) → N → List B → List B
 under same nameOf n [] = []
 under same nameOf n (r ∷ rs) = cond (same n (nameOf r)) (r ∷ under same nameOf n rs) (under same nameOf n rs)
 
-abbrev pub stored : {C : Type 0} → List (Option C) → List C
-stored [] = []
-stored (none ∷ os) = stored os
-stored (some c ∷ os) = c ∷ stored os
+abbrev pub held : {C : Type 0} → List (Option C) → List C
+held [] = []
+held (none ∷ os) = held os
+held (some c ∷ os) = c ∷ held os
 
 module _ {G N S E W C B M I O : Type 0} (R : Rules S E) (D : Meaning G N S E W) (F : Forms N S E C B) (L : Sight N C B M O)
     (X : Machine M I W O) (fresh : M) (settings : G) where
@@ -104,15 +104,15 @@ module _ {G N S E W C B M I O : Type 0} (R : Rules S E) (D : Meaning G N S E W) 
 
   -- what a history leaves stored: nothing once a release has ended it
   abbrev pub left : N → History S E → List C
-  left n h = cond (ended R h) [] (F .stored n (leaves R h) ∷ [])
+  left n h = cond (ended R h) [] (F .asStored n (leaves R h) ∷ [])
 
   -- After any calls from a fresh node, refused ones among them, and for every name:
   pub record Demand3 (calls : List I) (n : N) : Type 0 where
     -- the records written under it are exactly those that its histories make, one activation after another, in order;
-    pub closed : under (D .same) (L .nameOf) n (each (L .kindred) (written X fresh calls))
-        ≡ each (λ h. map (F .written n) (records R h)) (historiesOf calls n)
+    pub closed : under (D .same) (L .nameOf) n (each (L .kindred) (allWritten X fresh calls))
+        ≡ each (λ h. map (F .asWritten n) (records R h)) (historiesOf calls n)
     -- what is stored under it is what its histories leave,
-    pub open-now : under (D .same) (L .name) n (stored (L .slots (run X fresh calls))) ≡ each (left n) (historiesOf calls n)
+    pub open-now : under (D .same) (L .name) n (held (L .slots (run X fresh calls))) ≡ each (left n) (historiesOf calls n)
     -- and that is what the last one leaves, since a release has ended each before it;
     pub released : Earlier (λ h. ended R h ≡ true) (historiesOf calls n)
     -- all that the accepted events reported of it by name is in them, whatever is counted, save in what every subject hears;
