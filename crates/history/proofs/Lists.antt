@@ -73,6 +73,14 @@ pub all-map : {A : Type 0} (P Q : A → Type 0) → ((a : A) → P a → Q a) �
 all-map P Q f [] p = tt
 all-map P Q f (x ∷ xs) p = (f x (p .0), all-map P Q f xs (p .1))
 
+pub all-of-map : {A B : Type 0} (P : A → Type 0) (Q : B → Type 0) (f : A → B) → ((a : A) → P a → Q (f a)) → (xs : List A) → All P xs → All Q (map f xs)
+all-of-map P Q f g [] p = tt
+all-of-map P Q f g (x ∷ xs) p = (g x (p .0), all-of-map P Q f g xs (p .1))
+
+pub each-of-map : {A B C : Type 0} (f : B → List C) (g : A → B) (a : List A) → each f (map g a) ≡ each (λ x. f (g x)) a
+each-of-map f g [] = refl
+each-of-map f g (x ∷ xs) = rw (each-of-map f g xs)
+
 pub notFalling-append : (k m l : ℕ) (a b : List ℕ) → NotFalling k a m → NotFalling m b l → NotFalling k (a ++ b) l
 notFalling-append k m l [] [] p q = omega arith
 notFalling-append k m l [] (y ∷ b) p q = ((omega arith), q .1)

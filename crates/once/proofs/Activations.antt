@@ -1,0 +1,89 @@
+-- Demand 3, activation by activation, over the octets: the theorem.
+use mathlib.Core.Path.{_≡_, refl, sym, ap, _∙_}
+use mathlib.Core.Bool.{Bool, true, false, cond}
+use mathlib.Core.Option.{some}
+use mathlib.Core.List.{List, [], _∷_, _++_, map}
+use Prim.Native.Nat.{ℕ, _+_}
+use native.Mathlib.Nat.{add-zero}
+use native.Mathlib.Omega.{arith}
+use Rattle.scdr.specs.declared.Record as scdr
+use Rattle.profile.specs.declared.Profile.{Profile}
+use Rattle.profile.specs.Profile.{profileOk}
+use Rattle.event.specs.declared.Name.{Name}
+use Rattle.context.specs.declared.Context.{Context}
+use Rattle.context.specs.Context.{used}
+use Rattle.history.specs.Lists.{each, sumOf, All}
+use Rattle.history.specs.History.{History}
+use Rattle.history.specs.Records.{Rules, Stretch, stretches, records, ended, leaves}
+use Rattle.history.specs.Run.{allWritten}
+use Rattle.history.specs.Demand.{InTime, Demand3, under, held}
+use Rattle.history.proofs.Lists.{each-one, each-map, map-map, map-id, each-of-map, all-of-map}
+use Rattle.history.proofs.Everything.{read-one, count-one}
+use Rattle.node.specs.declared.Node.{Node}
+use Rattle.node.specs.Sound.{freshNode}
+use Rattle.node.specs.Run.{Call}
+use Rattle.node.specs.Held.{Octets, HeldProfile}
+use Rattle.once.specs.Charging.{Force, Heard, same, meaning, up, down, rules, container, recordFrom, contextFrom, forms}
+use Rattle.once.specs.Once.{machine, sight, outputs, nodeAfter, activations, Once}
+use Rattle.once.specs.Activations.{containersOf, Activation, containersRead, ChargedOnce, PerActivation}
+use Rattle.once.proofs.EachCall.{run-same, log-same}
+use Rattle.once.proofs.Billed.{carried, carries}
+use Rattle.once.proofs.Once.{every-octet-once}
+
+-- ---- one activation
+
+module _ (p : Profile) (name : Name) where
+  abbrev R : Rules Force Heard
+  R = rules (p .limits)
+
+  abbrev activation : History Force Heard → Activation
+  activation h = record {
+    history = h;
+    closed = map (recordFrom p name) (records R h);
+    still-open = cond (ended R h) [] (contextFrom p name (leaves R h) ∷ []);
+  }
+
+  containers-are : (h : History Force Heard) → containersRead (activation h) ≡ map (container p) (stretches R h)
+  containers-are h =
+      read-one R (forms p) name (λ x. container p x ∷ []) containersOf used (carried p name) (carries p name) h (ended R h) refl
+      ∙ each-map (container p) (stretches R h)
+
+  charged-once : (h : History Force Heard) → InTime R h → ChargedOnce p name (activation h)
+  charged-once h z =
+      let read = read-one R (forms p) name (λ x. container p x ∷ []) containersOf used (carried p name) (carries p name) h (ended R h) refl in
+      record {
+        made = refl;
+        left = refl;
+        containers = containers-are h;
+        times = rw (containers-are h, map-map (λ c. c .time .seconds) (container p) (stretches R h)) (z .throughout);
+        uplink = rw read (count-one R (forms p) name (λ x. container p x ∷ []) containersOf used (carried p name) (carries p name) up
+            (λ c. c .uplink) (λ c. c .uplink) (λ x. add-zero _) (λ o. refl) h (ended R h) refl);
+        downlink = rw read (count-one R (forms p) name (λ x. container p x ∷ []) containersOf used (carried p name) (carries p name) down
+            (λ c. c .downlink) (λ c. c .downlink) (λ x. add-zero _) (λ o. refl) h (ended R h) refl);
+      }
+
+-- ---- all of a name's
+
+-- For every profile in range that the code can hold, all calls with octets for events, and every name.
+pub each-activation-once : (p : Profile) → profileOk p ≡ true → HeldProfile p → (calls : List Call) → All (λ c. Octets (c .event)) calls
+    → (name : Name) → PerActivation p calls name
+each-activation-once p ok h calls octets name =
+    let o = every-octet-once p ok in
+    let d = o .demand calls name in
+    let hs = activations p calls name in
+    let same-log = log-same (o .recordsBy) (λ n c. []) calls (freshNode p) in
+    let all = allWritten (machine (o .recordsBy)) (freshNode p) calls in
+    record {
+      output = all;
+      read = o .reads h calls octets;
+      one-each = map (activation p name) hs;
+      histories = map-map (λ a. a .history) (activation p name) hs ∙ map-id hs;
+      closed-under =
+          sym (ap (λ (rs : List scdr.Record). under same (sight .nameOf) name rs) (each-one all))
+          ∙ rw same-log at (d .closed)
+          ∙ sym (each-of-map (λ a. a .closed) (activation p name) hs);
+      open-under =
+          rw (run-same (o .recordsBy) (λ n c. []) calls (freshNode p), same-log) at (d .open-now)
+          ∙ sym (each-of-map (λ a. a .still-open) (activation p name) hs);
+      charged = all-of-map (InTime (rules (p .limits))) (ChargedOnce p name) (activation p name) (charged-once p name) hs (rw same-log at (d .in-time));
+    }
