@@ -1,34 +1,36 @@
 -- Demand 3, activation by activation, over the octets: the theorem.
 use mathlib.Core.Path.{_≡_, refl, sym, ap, _∙_}
-use mathlib.Core.Bool.{Bool, true, false, cond}
-use mathlib.Core.Option.{some}
-use mathlib.Core.List.{List, [], _∷_, _++_, map}
-use Prim.Native.Nat.{ℕ, _+_}
+use mathlib.Core.Bool.{true, cond}
+use mathlib.Core.List.{List, [], _∷_, map}
+use Prim.Native.Nat.{ℕ, _+_, _-_, _≤_}
 use native.Mathlib.Nat.{add-zero}
 use native.Mathlib.Omega.{arith}
 use Rattle.scdr.specs.declared.Record as scdr
+use Rattle.scdr.specs.Rules.{duration}
+use Rattle.scdr.proofs.Tails.{take-padded}
 use Rattle.profile.specs.declared.Profile.{Profile}
 use Rattle.profile.specs.Profile.{profileOk}
 use Rattle.event.specs.declared.Name.{Name}
-use Rattle.context.specs.declared.Context.{Context}
 use Rattle.context.specs.Context.{used}
-use Rattle.history.specs.Lists.{each, sumOf, All}
-use Rattle.history.specs.History.{History}
-use Rattle.history.specs.Records.{Rules, Stretch, stretches, records, ended, leaves}
+use Rattle.history.specs.Lists.{each, sumOf, All, NotFalling}
+use Rattle.history.specs.History.{History, began}
+use Rattle.history.specs.Records.{Rules, Record, stretches, records, ended, leaves}
 use Rattle.history.specs.Run.{allWritten}
-use Rattle.history.specs.Demand.{InTime, Demand3, under, held}
-use Rattle.history.proofs.Lists.{each-one, each-map, map-map, map-id, each-of-map, all-of-map}
+use Rattle.history.specs.Demand.{InTime, under}
+use Rattle.history.proofs.Lists.{each-one, each-map, map-map, map-id, each-of-map, all-of-map, all-both, notFalling-whole}
 use Rattle.history.proofs.Everything.{read-one, count-one}
-use Rattle.node.specs.declared.Node.{Node}
 use Rattle.node.specs.Sound.{freshNode}
 use Rattle.node.specs.Run.{Call}
 use Rattle.node.specs.Held.{Octets, HeldProfile}
-use Rattle.once.specs.Charging.{Force, Heard, same, meaning, up, down, rules, container, recordFrom, contextFrom, forms}
-use Rattle.once.specs.Once.{machine, sight, outputs, nodeAfter, activations, Once}
+use Rattle.once.specs.Charging.{Force, Heard, same, up, down, rules, container, recordFrom, contextFrom, forms}
+use Rattle.once.specs.Once.{machine, sight, activations}
 use Rattle.once.specs.Activations.{containersOf, Activation, containersRead, ChargedOnce, PerActivation}
 use Rattle.once.proofs.EachCall.{run-same, log-same}
-use Rattle.once.proofs.Billed.{carried, carries}
+use Rattle.once.proofs.Billed.{carried, carries, Lasts, durations}
 use Rattle.once.proofs.Once.{every-octet-once}
+
+back : (a b : ℕ) → a ≤ b → a + (b - a) ≡ b
+back a b h = omega arith
 
 -- ---- one activation
 
@@ -48,6 +50,19 @@ module _ (p : Profile) (name : Name) where
       read-one R (forms p) name (λ x. container p x ∷ []) containersOf used (carried p name) (carries p name) h (ended R h) refl
       ∙ each-map (container p) (stretches R h)
 
+  -- within a record
+  abbrev Timed : Record Force Heard → Type 0
+  Timed r = NotFalling (began (r .past)) (map (λ x. x .time) (r .stretches)) (r .time)
+
+  abbrev Timely : scdr.Record → Type 0
+  Timely r = NotFalling (r .opening .seconds) (map (λ c. c .time .seconds) (containersOf r)) (r .opening .seconds + duration r)
+
+  timely : (r : Record Force Heard) → Timed r × Lasts p name r → Timely (recordFrom p name r)
+  timely r z =
+      let e : began (r .past) + (r .time - began (r .past)) ≡ r .time
+      = back (began (r .past)) (r .time) (notFalling-whole (began (r .past)) (r .time) (map (λ x. x .time) (r .stretches)) (z .0)) in
+      rw (take-padded (map (container p) (r .stretches)), map-map (λ c. c .time .seconds) (container p) (r .stretches), z .1, e) (z .0)
+
   charged-once : (h : History Force Heard) → InTime R h → ChargedOnce p name (activation h)
   charged-once h z =
       let read = read-one R (forms p) name (λ x. container p x ∷ []) containersOf used (carried p name) (carries p name) h (ended R h) refl in
@@ -56,6 +71,8 @@ module _ (p : Profile) (name : Name) where
         left = refl;
         containers = containers-are h;
         times = rw (containers-are h, map-map (λ c. c .time .seconds) (container p) (stretches R h)) (z .throughout);
+        times-within = all-of-map (λ r. Timed r × Lasts p name r) Timely (recordFrom p name) timely (records R h)
+            (all-both Timed (Lasts p name) (records R h) (z .in-records) (durations p name h));
         uplink = rw read (count-one R (forms p) name (λ x. container p x ∷ []) containersOf used (carried p name) (carries p name) up
             (λ c. c .uplink) (λ c. c .uplink) (λ x. add-zero _) (λ o. refl) h (ended R h) refl);
         downlink = rw read (count-one R (forms p) name (λ x. container p x ∷ []) containersOf used (carried p name) (carries p name) down

@@ -8,6 +8,7 @@ use Prim.Native.Nat.{ℕ, _+_}
 use lib.ListN.{take}
 use Rattle.container.specs.declared.Container.{Container}
 use Rattle.scdr.specs.declared.Record as scdr
+use Rattle.scdr.specs.Rules.{duration}
 use Rattle.scdr.specs.List.{recordList}
 use Rattle.profile.specs.declared.Profile.{Profile}
 use Rattle.event.specs.declared.Name.{Name}
@@ -43,8 +44,10 @@ pub record ChargedOnce (p : Profile) (name : Name) (a : Activation) : Type 0 whe
       ≡ cond (ended (rules (p .limits)) (a .history)) [] (contextFrom p name (leaves (rules (p .limits)) (a .history)) ∷ [])
   -- Its containers are those of its stretches, once each, in order.
   pub containers : containersRead a ≡ map (container p) (stretches (rules (p .limits)) (a .history))
-  -- Their times do not fall, from its start on.
+  -- Their times do not fall: from its start on, through all its records, and within each record from its opening to its end.
   pub times : NotFalling (began (a .history)) (map (λ c. c .time .seconds) (containersRead a)) (latest (a .history))
+  pub times-within : All (λ r. NotFalling (r .opening .seconds) (map (λ c. c .time .seconds) (containersOf r)) (r .opening .seconds + duration r))
+      (a .closed)
   -- What they count, and what still runs, is all that was reported of it, up and down.
   pub uplink : sumOf (λ c. c .uplink) (containersRead a) + sumOf (λ c. c .uplink) (a .still-open) ≡ total up (a .history)
   pub downlink : sumOf (λ c. c .downlink) (containersRead a) + sumOf (λ c. c .downlink) (a .still-open) ≡ total down (a .history)
