@@ -34,8 +34,12 @@ demand3 R D F K L X known Z settings clock Y fresh empty calls n =
     let o = every-ordered R D n (clock fresh) (clock (run X fresh calls)) (settings fresh) (log X fresh calls) (r .timely) in
     let c = charged R D F K (L .nameOf) known Z n (settings fresh) (L .slots fresh) (log X fresh calls) (rw empty) (r .admitted) in
     record {
-      closed = sym (under-alike (K .same) (D .same) (L .nameOf) (L .nameOf) (Z .same-meant) (λ b. refl) n (each (L .kindred) (allWritten X fresh calls))) ∙ rw (r .wrote) (c .closed);
-      open-now = sym (under-alike (K .same) (D .same) (K .name) (L .name) (Z .same-meant) (Y .names) n (held (L .slots (run X fresh calls)))) ∙ rw (r .slots) (c .open-now);
+      closed =
+          sym (under-alike (K .same) (D .same) (L .nameOf) (L .nameOf) (Z .same-meant) (λ b. refl) n (each (L .kindred) (allWritten X fresh calls)))
+          ∙ rw (r .wrote) (c .closed);
+      open-now =
+          sym (under-alike (K .same) (D .same) (K .name) (L .name) (Z .same-meant) (Y .names) n (held (L .slots (run X fresh calls))))
+          ∙ rw (r .slots) (c .open-now);
       released = c .released;
       all-reported = c .all-reported;
       in-order = o;

@@ -8,7 +8,8 @@ use mathlib.Core.Option.{Option, none, some}
 use native.Mathlib.Omega.{arith}
 use Rattle.history.specs.Lists.{each, All, ifAny, isSome, NotFalling}
 use Rattle.history.specs.History.{History, start, _▸_∶_, collect, events, began, beganWith, latest, InOrder}
-use Rattle.history.specs.Records.{Rules, Stretch, Record, whole, entire, orAnew, number, inForce, sinceOpening, closes, cuts, running, stretchesAt, stretches, closings, recordsAt, records}
+use Rattle.history.specs.Records.{Rules, Stretch, Record, whole, entire, orAnew, number, inForce, sinceOpening, closes, cuts, running}
+use Rattle.history.specs.Records.{stretchesAt, stretches, closings, recordsAt, records}
 use Rattle.history.specs.Demand.{OnceEach, InTime, Unchanged}
 use Rattle.history.proofs.Lists.{each-append, map-append, all-append, notFalling-append}
 use Rattle.history.proofs.Records.{inForce-open, inForce-running, open-open, read, all, every, Proper, numbered, opened, opened-with, changed, exactly}

@@ -26,7 +26,7 @@ use Rattle.once.specs.Charging.{Force, Heard, same, up, down, rules, con
 use Rattle.once.specs.Once.{machine, sight, activations}
 use Rattle.once.specs.Activations.{containersOf, Activation, containersRead, ChargedOnce, PerActivation}
 use Rattle.once.proofs.EachCall.{run-same, log-same}
-use Rattle.once.proofs.Billed.{carried, carries, Lasts, durations}
+use Rattle.once.proofs.Billed.{entry, carried, carries, Lasts, durations}
 use Rattle.once.proofs.Once.{every-octet-once}
 
 back : (a b : ℕ) → a ≤ b → a + (b - a) ≡ b
@@ -45,10 +45,11 @@ module _ (p : Profile) (name : Name) where
     still-open = cond (ended R h) [] (contextFrom p name (leaves R h) ∷ []);
   }
 
+  read : (h : History Force Heard) → containersRead (activation h) ≡ each (entry p) (stretches R h)
+  read h = read-one R (forms p) name (entry p) containersOf used (carried p name) (carries p name) h (ended R h) refl
+
   containers-are : (h : History Force Heard) → containersRead (activation h) ≡ map (container p) (stretches R h)
-  containers-are h =
-      read-one R (forms p) name (λ x. container p x ∷ []) containersOf used (carried p name) (carries p name) h (ended R h) refl
-      ∙ each-map (container p) (stretches R h)
+  containers-are h = read h ∙ each-map (container p) (stretches R h)
 
   -- within a record
   abbrev Timed : Record Force Heard → Type 0
@@ -64,20 +65,18 @@ module _ (p : Profile) (name : Name) where
       rw (take-padded (map (container p) (r .stretches)), map-map (λ c. c .time .seconds) (container p) (r .stretches), z .1, e) (z .0)
 
   charged-once : (h : History Force Heard) → InTime R h → ChargedOnce p name (activation h)
-  charged-once h z =
-      let read = read-one R (forms p) name (λ x. container p x ∷ []) containersOf used (carried p name) (carries p name) h (ended R h) refl in
-      record {
-        made = refl;
-        left = refl;
-        containers = containers-are h;
-        times = rw (containers-are h, map-map (λ c. c .time .seconds) (container p) (stretches R h)) (z .throughout);
-        times-within = all-of-map (λ r. Timed r × Lasts p name r) Timely (recordFrom p name) timely (records R h)
-            (all-both Timed (Lasts p name) (records R h) (z .in-records) (durations p name h));
-        uplink = rw read (count-one R (forms p) name (λ x. container p x ∷ []) containersOf used (carried p name) (carries p name) up
-            (λ c. c .uplink) (λ c. c .uplink) (λ x. add-zero _) (λ o. refl) h (ended R h) refl);
-        downlink = rw read (count-one R (forms p) name (λ x. container p x ∷ []) containersOf used (carried p name) (carries p name) down
-            (λ c. c .downlink) (λ c. c .downlink) (λ x. add-zero _) (λ o. refl) h (ended R h) refl);
-      }
+  charged-once h z = record {
+    made = refl;
+    left = refl;
+    containers = containers-are h;
+    times = rw (containers-are h, map-map (λ c. c .time .seconds) (container p) (stretches R h)) (z .throughout);
+    times-within = all-of-map (λ r. Timed r × Lasts p name r) Timely (recordFrom p name) timely (records R h)
+        (all-both Timed (Lasts p name) (records R h) (z .in-records) (durations p name h));
+    uplink = rw (read h) (count-one R (forms p) name (entry p) containersOf used (carried p name) (carries p name) up
+        (λ c. c .uplink) (λ c. c .uplink) (λ x. add-zero _) (λ o. refl) h (ended R h) refl);
+    downlink = rw (read h) (count-one R (forms p) name (entry p) containersOf used (carried p name) (carries p name) down
+        (λ c. c .downlink) (λ c. c .downlink) (λ x. add-zero _) (λ o. refl) h (ended R h) refl);
+  }
 
 -- ---- all of a name's
 
@@ -88,7 +87,7 @@ each-activation-once p ok h calls octets name =
     let o = every-octet-once p ok in
     let d = o .demand calls name in
     let hs = activations p calls name in
-    let same-log = log-same (o .recordsBy) (λ n c. []) calls (freshNode p) in
+    let same-log = log-same (o .recordsBy) calls (freshNode p) in
     let all = allWritten (machine (o .recordsBy)) (freshNode p) calls in
     record {
       output = all;
@@ -100,7 +99,7 @@ each-activation-once p ok h calls octets name =
           ∙ rw same-log at (d .closed)
           ∙ sym (each-of-map (λ a. a .closed) (activation p name) hs);
       open-under =
-          rw (run-same (o .recordsBy) (λ n c. []) calls (freshNode p), same-log) at (d .open-now)
+          rw (run-same (o .recordsBy) calls (freshNode p), same-log) at (d .open-now)
           ∙ sym (each-of-map (λ a. a .still-open) (activation p name) hs);
       charged = all-of-map (InTime (rules (p .limits))) (ChargedOnce p name) (activation p name) (charged-once p name) hs (rw same-log at (d .in-time));
     }

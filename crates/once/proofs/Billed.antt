@@ -53,12 +53,15 @@ module _ (counts : Heard → ℕ) (tariff : counts Heard.tariff ≡ 0) (tick : c
 
 -- ---- of any calls
 
--- An S-CDR, and a context, has the containers of its stretches.
+-- A stretch becomes one container; an S-CDR, and a context, has those of its stretches.
+abbrev pub entry : Profile → Stretch Force Heard → List Container
+entry p x = container p x ∷ []
+
 module _ (p : Profile) (n : Name) where
-  pub carried : (r : Record Force Heard) → containersOf (recordFrom p n r) ≡ each (λ x. container p x ∷ []) (r .stretches)
+  pub carried : (r : Record Force Heard) → containersOf (recordFrom p n r) ≡ each (entry p) (r .stretches)
   carried r = take-padded (map (container p) (r .stretches)) ∙ sym (each-map (container p) (r .stretches))
 
-  pub carries : (s : Open Force Heard) → used (contextFrom p n s) ≡ each (λ x. container p x ∷ []) (s .stretches)
+  pub carries : (s : Open Force Heard) → used (contextFrom p n s) ≡ each (entry p) (s .stretches)
   carries s = take-padded (map (container p) (s .stretches)) ∙ sym (each-map (container p) (s .stretches))
 
 module _ (p : Profile) (o : Once p) (cs : List Call) (n : Name) where
@@ -77,11 +80,12 @@ module _ (p : Profile) (o : Once p) (cs : List Call) (n : Name) where
 
   pub containers-once : each containersOf billed ++ each used kept ≡ each (λ h. map (container p) (stretches (rules (p .limits)) h)) histories
   containers-once =
-      everything.containers-once (rules (p .limits)) (forms p) n (λ x. container p x ∷ []) containersOf used (carried p n) (carries p n) meaning sight X (freshNode p) tt cs (o .demand cs n)
+      everything.containers-once (rules (p .limits)) (forms p) n (entry p) containersOf used (carried p n) (carries p n)
+      meaning sight X (freshNode p) tt cs (o .demand cs n)
       ∙ go histories
     where
       go : (hs : List (History Force Heard))
-          → each (λ h. each (λ x. container p x ∷ []) (stretches (rules (p .limits)) h)) hs ≡ each (λ h. map (container p) (stretches (rules (p .limits)) h)) hs
+          → each (λ h. each (entry p) (stretches (rules (p .limits)) h)) hs ≡ each (λ h. map (container p) (stretches (rules (p .limits)) h)) hs
       go [] = refl
       go (h ∷ hs) = rw (each-map (container p) (stretches (rules (p .limits)) h), go hs)
 
@@ -89,13 +93,15 @@ module _ (p : Profile) (o : Once p) (cs : List Call) (n : Name) where
   pub uplink-once : sumOf (λ c. c .uplink) (each containersOf billed ++ each used kept) + sumOf (λ c. c .uplink) kept
       ≡ reported (rules (p .limits)) meaning n up (log X (freshNode p) cs)
   uplink-once =
-      everything.octets-once (rules (p .limits)) (forms p) n (λ x. container p x ∷ []) containersOf used (carried p n) (carries p n) meaning sight X (freshNode p) tt cs (o .demand cs n) up
+      everything.octets-once (rules (p .limits)) (forms p) n (entry p) containersOf used (carried p n) (carries p n)
+      meaning sight X (freshNode p) tt cs (o .demand cs n) up
       (uncounted up refl refl) (λ c. c .uplink) (λ c. c .uplink) (λ x. add-zero _) (λ s. refl)
 
   pub downlink-once : sumOf (λ c. c .downlink) (each containersOf billed ++ each used kept) + sumOf (λ c. c .downlink) kept
       ≡ reported (rules (p .limits)) meaning n down (log X (freshNode p) cs)
   downlink-once =
-      everything.octets-once (rules (p .limits)) (forms p) n (λ x. container p x ∷ []) containersOf used (carried p n) (carries p n) meaning sight X (freshNode p) tt cs (o .demand cs n) down
+      everything.octets-once (rules (p .limits)) (forms p) n (entry p) containersOf used (carried p n) (carries p n)
+      meaning sight X (freshNode p) tt cs (o .demand cs n) down
       (uncounted down refl refl) (λ c. c .downlink) (λ c. c .downlink) (λ x. add-zero _) (λ s. refl)
 
 -- ---- durations: from a record's opening to the event that closed it
@@ -120,4 +126,5 @@ module _ (p : Profile) (n : Name) where
 
   pub durations : (h : History Force Heard) → All Lasts (records R h)
   durations = all-records R Lasts (λ h t e c q. rw (stretchesAt-open R h, q)
-      (lasts (number (closings R h) (isSome (releases e))) c (sinceOpening R h) (stretches R (sinceOpening R h)) (record { ran = running R h; time = t; event = e; condition = 2 })))
+      (lasts (number (closings R h) (isSome (releases e))) c (sinceOpening R h) (stretches R (sinceOpening R h))
+      (record { ran = running R h; time = t; event = e; condition = 2 })))

@@ -22,20 +22,21 @@ use Rattle.history.proofs.Lists.{each-one}
 use Rattle.history.proofs.Whole as whole
 use Rattle.node.specs.declared.Node.{Node}
 use Rattle.node.specs.Sound.{freshNode}
-use Rattle.node.specs.Run.{Call}
+use Rattle.node.specs.Run.{Call, after}
 use Rattle.once.specs.Charging.{Force, Heard, says, same, meaning, Closes, rules, recordFrom, forms}
-use Rattle.once.specs.Once.{answer, nodeNow, octetsNow, marked, machine, sight, nodeAfter, activations, OneFor, recordsUnder, ClosesUnder, EachCall}
+use Rattle.once.specs.Once.{answer, nodeNow, octetsNow, marked, machine, sight, nodeThen, activations, OneFor, recordsUnder, ClosesUnder, EachCall}
 use Rattle.once.proofs.Five.{says-so, holds-so}
 use Rattle.once.proofs.Steps.{wrote, octets-are}
 
 -- ---- the node after calls and their log are the same, whichever records they are said to write
 
-module _ (f g : Node → Call → List scdr.Record) where
-  pub run-same : (cs : List Call) (n : Node) → run (machine f) n cs ≡ run (machine g) n cs
+module _ (records : Node → Call → List scdr.Record) where
+  pub run-same : (cs : List Call) (n : Node) → run (machine records) n cs ≡ after n cs
+  unfolding after
   run-same [] n = refl
   run-same (c ∷ cs) n = run-same cs (nodeNow n c)
 
-  pub log-same : (cs : List Call) (n : Node) → log (machine f) n cs ≡ log (machine g) n cs
+  pub log-same : (cs : List Call) (n : Node) → log (machine records) n cs ≡ log (machine (λ n c. [])) n cs
   log-same [] n = refl
   log-same (c ∷ cs) n = rw (log-same cs (nodeNow n c))
 
@@ -47,7 +48,7 @@ module _ (p : Profile) (calls : List Call) (c : Call)
   R = rules (p .limits)
 
   abbrev n : Node
-  n = nodeAfter p calls
+  n = nodeThen p calls
 
   abbrev t : ℕ
   t = timeOf (c .event)
@@ -67,8 +68,8 @@ module _ (p : Profile) (calls : List Call) (c : Call)
 
     accepted : answer n c ≡ 0 → out ≡ map (recordFrom p name) closed
     accepted z =
-        let same-run = run-same wrote (λ n c. []) calls (freshNode p) in
-        let same-log = log-same wrote (λ n c. []) calls (freshNode p) in
+        let same-run = run-same wrote calls (freshNode p) in
+        let same-log = log-same wrote calls (freshNode p) in
         let o = rw (same-run, same-log) at (one-call name .one applied-one) in
         rw (each-one (wrote n c)) at (o (rw z))
 

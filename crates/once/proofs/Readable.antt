@@ -52,7 +52,8 @@ wrote-right n c w o =
 all-right : (cs : List Call) (n : Node) → Whole n → All (λ c. Octets (c .event)) cs → AllRight (allWritten (machine wrote) n cs)
 all-right [] n w o = tt
 all-right (c ∷ cs) n w o =
-    right-append (wrote n c) (allWritten (machine wrote) (nodeNow n c) cs) (wrote-right n c w (o .0)) (all-right cs (nodeNow n c) (step-kept n (c .event) (c .buffer) w (o .0)) (o .1))
+    right-append (wrote n c) (allWritten (machine wrote) (nodeNow n c) cs) (wrote-right n c w (o .0))
+    (all-right cs (nodeNow n c) (step-kept n (c .event) (c .buffer) w (o .0)) (o .1))
 
 pub output-reads : (p : Profile) (cs : List Call) → profileOk p ≡ true → outputs (freshNode p) cs ≡ marked (allWritten (machine wrote) (freshNode p) cs)
     → HeldProfile p → All (λ c. Octets (c .event)) cs → recordList (outputs (freshNode p) cs) ≡ some (allWritten (machine wrote) (freshNode p) cs)

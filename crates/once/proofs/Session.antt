@@ -79,7 +79,8 @@ short-octets = ap marked short-records ∙ ap (λ (x : List ℕ). 0xC3 ∷ 0x5A 
 -- ---- instead at 6 the report that meets the limit; a tariff, a tick too early, a tick, the release
 
 abbrev long : History Force Heard
-long = start 0 (inForceBy activate) ▸ 5 ∶ Heard.traffic 400 599 ▸ 6 ∶ Heard.traffic 0 1 ▸ 10 ∶ Heard.tariff ▸ 65 ∶ Heard.tick ▸ 66 ∶ Heard.tick ▸ 66 ∶ Heard.release 0
+long = start 0 (inForceBy activate) ▸ 5 ∶ Heard.traffic 400 599 ▸ 6 ∶ Heard.traffic 0 1 ▸ 10 ∶ Heard.tariff ▸ 65 ∶ Heard.tick
+    ▸ 66 ∶ Heard.tick ▸ 66 ∶ Heard.release 0
 
 -- an S-CDR's number, cause, opening, duration and containers
 record Brief : Type 0 where

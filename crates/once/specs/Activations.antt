@@ -21,7 +21,7 @@ use Rattle.history.specs.Demand.{under, held}
 use Rattle.node.specs.Sound.{freshNode}
 use Rattle.node.specs.Run.{Call}
 use Rattle.once.specs.Charging.{Force, Heard, same, up, down, rules, container, recordFrom, contextFrom}
-use Rattle.once.specs.Once.{sight, outputs, nodeAfter, activations}
+use Rattle.once.specs.Once.{sight, outputs, nodeThen, activations}
 
 -- the containers of an S-CDR: as many of its places as it counts
 abbrev pub containersOf : scdr.Record → List Container
@@ -62,6 +62,6 @@ pub record PerActivation (p : Profile) (calls : List Call) (name : Name) : Type 
   pub histories : map (λ a. a .history) one-each ≡ activations p calls name
   -- The records under the name are theirs, one run for each, in order; and so is what is stored under it.
   pub closed-under : under same (sight .nameOf) name output ≡ each (λ a. a .closed) one-each
-  pub open-under : under same (sight .name) name (held (sight .slots (nodeAfter p calls))) ≡ each (λ a. a .still-open) one-each
+  pub open-under : under same (sight .name) name (held (sight .slots (nodeThen p calls))) ≡ each (λ a. a .still-open) one-each
   -- Each of them is charged once.
   pub charged : All (ChargedOnce p name) one-each

@@ -14,7 +14,7 @@ use Rattle.event.specs.declared.Name.{Name}
 use Rattle.event.specs.Fields.{timeOf}
 use Rattle.context.specs.declared.Context.{Context}
 use Rattle.history.specs.Lists.{each, All}
-use Rattle.history.specs.Run.{Machine, ifZero, run, allWritten, log}
+use Rattle.history.specs.Run.{Machine, ifZero, allWritten, log}
 use Rattle.history.specs.History.{History}
 use Rattle.history.specs.Records.{sinceOpening}
 use Rattle.history.specs.Log.{heard, histories}
@@ -23,7 +23,7 @@ use Rattle.history.specs.Calls.{openOne, closesIn, OneCall}
 use Rattle.node.specs.declared.Node.{Node}
 use Rattle.node.specs.Sound.{freshNode, freshOf}
 use Rattle.node.specs.Step.{stepOf, slots}
-use Rattle.node.specs.Run.{Call}
+use Rattle.node.specs.Run.{Call, after}
 use Rattle.node.specs.Held.{Octets, HeldProfile}
 use Rattle.once.specs.Charging.{Force, Heard, says, same, meaning, Closes, which, rules, recordFrom, forms}
 
@@ -76,11 +76,11 @@ abbrev pub outputs : Node → List Call → List ℕ
 outputs n [] = []
 outputs n (c ∷ cs) = octetsNow n c ++ outputs (nodeNow n c) cs
 
--- The node after calls from a fresh one, and the activations of a name among the accepted events: its histories, first to last.
--- Neither asks which records the calls write.
+-- The node after calls from a fresh one, and the activations of a name: its histories in the accepted events, first to last. What
+-- the calls write is no part of either.
 module _ (p : Profile) (calls : List Call) where
-  abbrev pub nodeAfter : Node
-  nodeAfter = run (machine (λ n c. [])) (freshNode p) calls
+  abbrev pub nodeThen : Node
+  nodeThen = after (freshNode p) calls
 
   abbrev pub activations : Name → List (History Force Heard)
   activations name = histories (rules (p .limits)) meaning name tt (log (machine (λ n c. [])) (freshNode p) calls)
@@ -95,13 +95,14 @@ pub record OneFor (rs : List scdr.Record) (cause : ℕ) : Type 0 where
 
 -- A call c after any calls from a fresh node with this profile.
 module _ (p : Profile) (recordsBy : Node → Call → List scdr.Record) (calls : List Call) (c : Call) where
+  -- the records that it writes under a name
   abbrev pub recordsUnder : Name → List scdr.Record
-  recordsUnder name = under same (sight .nameOf) name (recordsBy (nodeAfter p calls) c)
+  recordsUnder name = under same (sight .nameOf) name (recordsBy (nodeThen p calls) c)
 
   -- It closes the open record of a name, with this cause: it is accepted, a history of the name is open, this hears the event, and
   -- one of the five closing conditions holds there, read over the open record's past alone.
   pub record ClosesUnder (name : Name) (cause : ℕ) : Type 0 where
-    pub accepted : answer (nodeAfter p calls) c ≡ 0
+    pub accepted : answer (nodeThen p calls) c ≡ 0
     pub history : History Force Heard
     pub is-open : openOne (rules (p .limits)) (activations p calls name) ≡ some history
     pub event : Heard
@@ -110,10 +111,10 @@ module _ (p : Profile) (recordsBy : Node → Call → List scdr.Record) (calls :
 
   pub record EachCall : Type 0 where
     -- Refused, it writes nothing.
-    pub refused : (answer (nodeAfter p calls) c ≡ 0 → ⊥) → octetsNow (nodeAfter p calls) c ≡ []
+    pub refused : (answer (nodeThen p calls) c ≡ 0 → ⊥) → octetsNow (nodeThen p calls) c ≡ []
     -- Accepted, it writes under every name exactly the records that its event closes in the name's open history: nothing where none
     -- is open, and nothing where the name does not hear the event.
-    pub accepted : answer (nodeAfter p calls) c ≡ 0 → (name : Name) → recordsUnder name
+    pub accepted : answer (nodeThen p calls) c ≡ 0 → (name : Name) → recordsUnder name
         ≡ map (recordFrom p name) (closesIn (rules (p .limits)) (openOne (rules (p .limits)) (activations p calls name)) (timeOf (c .event))
         (heard (rules (p .limits)) meaning name (says (c .event))))
     -- It writes a record with a cause, and no other under the name, exactly when a closing condition holds there with that cause.
@@ -140,7 +141,8 @@ pub record Once (p : Profile) : Type 0 where
   -- Under every name these records, and the context that is stored, are exactly what its histories make and leave.
   pub demand : (calls : List Call) (name : Name)
       → Demand3 (rules (p .limits)) meaning (forms p) sight (machine recordsBy) (freshNode p) tt calls name
-  -- Each call writes what its event closes, and nothing else; and so it is said for calls of any kind of node.
+  -- Each call writes what its event closes, and nothing else: said of the node, and as the theory says it of calls that may apply
+  -- any number of events.
   pub each-call : (calls : List Call) (c : Call) → EachCall p recordsBy calls c
   pub one-call : (calls : List Call) (c : Call) (name : Name)
       → OneCall (rules (p .limits)) meaning (forms p) sight (machine recordsBy) (freshNode p) tt calls c name
