@@ -12,7 +12,7 @@ use Rattle.profile.specs.declared.Profile.{Profile}
 use Rattle.profile.specs.Profile.{profileOk}
 use Rattle.event.specs.declared.Name.{Name}
 use Rattle.context.specs.Context.{used}
-use Rattle.history.specs.Lists.{each, sumOf, All, NotFalling}
+use Rattle.history.specs.Lists.{each, All, NotFalling}
 use Rattle.history.specs.History.{History, began}
 use Rattle.history.specs.Records.{Rules, Record, stretches, records, ended, leaves}
 use Rattle.history.specs.Run.{allWritten}

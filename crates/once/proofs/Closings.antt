@@ -4,9 +4,8 @@ use mathlib.Core.Option.{some}
 use Prim.Native.Nat.{ℕ}
 use Rattle.profile.specs.declared.Limits.{Limits}
 use Rattle.history.specs.History.{History, standing}
-use Rattle.history.specs.Records.{causeFor}
 use Rattle.history.proofs.Lists.{none≢some}
-use Rattle.once.specs.Charging.{Force, Heard, after, change, Closes, by-volume, by-time, by-changes, by-management, by-release, which, rules}
+use Rattle.once.specs.Charging.{Force, Heard, after, change, Closes, by-volume, by-time, by-changes, by-management, by-release, which}
 use Rattle.once.proofs.Five.{holds-so}
 
 abbrev candidate : Heard → ℕ

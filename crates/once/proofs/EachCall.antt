@@ -1,7 +1,5 @@
 -- Demand 3 of one call of the node, from the same for calls of any kind.
 use mathlib.Core.Path.{_≡_, refl, sym, ap, _∙_}
-use mathlib.Core.Logic.{_↔_}
-use mathlib.Core.Bool.{true, false}
 use mathlib.Core.Option.{Option, none, some}
 use mathlib.Core.List.{List, [], _∷_, map, cons≢nil}
 use Prim.Native.Nat.{ℕ}
@@ -14,7 +12,7 @@ use Rattle.event.specs.declared.Name.{Name}
 use Rattle.event.specs.Fields.{timeOf}
 use Rattle.history.specs.History.{History}
 use Rattle.history.specs.Records.{Rules, Record, recordsAt, sinceOpening, closes}
-use Rattle.history.specs.Log.{Accepted, heard, histories}
+use Rattle.history.specs.Log.{Accepted, heard}
 use Rattle.history.specs.Run.{run, log}
 use Rattle.history.specs.Demand.{under}
 use Rattle.history.specs.Calls.{openOne, closesIn, OneCall}
@@ -23,8 +21,8 @@ use Rattle.history.proofs.Whole as whole
 use Rattle.node.specs.declared.Node.{Node}
 use Rattle.node.specs.Sound.{freshNode}
 use Rattle.node.specs.Run.{Call, after}
-use Rattle.once.specs.Charging.{Force, Heard, says, same, meaning, Closes, rules, recordFrom, forms}
-use Rattle.once.specs.Once.{answer, nodeNow, octetsNow, marked, machine, sight, nodeThen, activations, OneFor, recordsUnder, ClosesUnder, EachCall}
+use Rattle.once.specs.Charging.{Force, Heard, says, same, meaning, rules, recordFrom, forms}
+use Rattle.once.specs.Once.{answer, nodeNow, marked, machine, sight, nodeThen, activations, OneFor, recordsUnder, ClosesUnder, EachCall}
 use Rattle.once.proofs.Five.{says-so, holds-so}
 use Rattle.once.proofs.Steps.{wrote, octets-are}
 
