@@ -11,26 +11,26 @@ use Rattle.history.specs.Lists.{each, sumOf, Earlier}
 use Rattle.history.specs.History.{History, total}
 use Rattle.history.specs.Records.{Rules, Stretch, Record, Open, whole, running, stretches, records, ended, leaves}
 use Rattle.history.specs.Log.{tellsAll, Meaning, reported}
-use Rattle.history.specs.Run.{Machine, run, written, log}
-use Rattle.history.specs.Demand.{Forms, Sight, under, stored, historiesOf, Demand3}
+use Rattle.history.specs.Run.{Machine, run, allWritten, log}
+use Rattle.history.specs.Demand.{Forms, Sight, under, held, historiesOf, Demand3}
 use Rattle.history.proofs.Lists.{each-append, sumOf-append}
 use Rattle.history.proofs.Records.{read, every, ended-open, ended-running}
 
 module _ {N S E C B A : Type 0} (R : Rules S E) (F : Forms N S E C B) (n : N) (entries : Stretch S E → List A) (ofRecord : B → List A) (ofStored : C → List A)
-    (records-carry : (r : Record S E) → ofRecord (F .written n r) ≡ each entries (r .stretches))
-    (stored-carry : (o : Open S E) → ofStored (F .stored n o) ≡ each entries (o .stretches)) where
-  abbrev made : History S E → List B
-  made h = map (F .written n) (records R h)
+    (records-carry : (r : Record S E) → ofRecord (F .asWritten n r) ≡ each entries (r .stretches))
+    (stored-carry : (o : Open S E) → ofStored (F .asStored n o) ≡ each entries (o .stretches)) where
+  abbrev pub made : History S E → List B
+  made h = map (F .asWritten n) (records R h)
 
-  abbrev leaving : Bool → History S E → List C
-  leaving b h = cond b [] (F .stored n (leaves R h) ∷ [])
+  abbrev pub leaving : Bool → History S E → List C
+  leaving b h = cond b [] (F .asStored n (leaves R h) ∷ [])
 
-  each-made : (rs : List (Record S E)) → each ofRecord (map (F .written n) rs) ≡ each entries (each (λ r. r .stretches) rs)
+  each-made : (rs : List (Record S E)) → each ofRecord (map (F .asWritten n) rs) ≡ each entries (each (λ r. r .stretches) rs)
   each-made [] = refl
   each-made (r ∷ rs) = rw (records-carry r, each-made rs, each-append)
 
-  -- one history
-  read-one : (h : History S E) (b : Bool) → ended R h ≡ b
+  -- one history: through its records, and then through what it leaves
+  pub read-one : (h : History S E) (b : Bool) → ended R h ≡ b
       → each ofRecord (made h) ++ each ofStored (leaving b h) ≡ each entries (stretches R h)
   read-one h true p =
       let q : each (λ r. r .stretches) (records R h) ≡ stretches R h = sym (append-nil _) ∙ rw (ended-open R h p) at (read R h) in
@@ -49,12 +49,12 @@ module _ {N S E C B A : Type 0} (R : Rules S E) (F : Forms N S E C B) (n : N) (e
 
   -- Whatever is counted: `octets` reads it from a container, `runs` the running count from what is stored.
   module _ (counts : E → ℕ) (octets : A → ℕ) (runs : C → ℕ) (carry : (x : Stretch S E) → sumOf octets (entries x) ≡ total counts (whole x))
-      (run-carry : (o : Open S E) → runs (F .stored n o) ≡ total counts (o .running)) where
+      (run-carry : (o : Open S E) → runs (F .asStored n o) ≡ total counts (o .running)) where
     octets-of : (xs : List (Stretch S E)) → sumOf octets (each entries xs) ≡ sumOf (λ x. total counts (whole x)) xs
     octets-of [] = refl
     octets-of (x ∷ xs) = omega (arith, carry x, octets-of xs, sumOf-append octets (entries x) (each entries xs))
 
-    count-one : (h : History S E) (b : Bool) → ended R h ≡ b
+    pub count-one : (h : History S E) (b : Bool) → ended R h ≡ b
         → sumOf octets (each entries (stretches R h)) + sumOf runs (leaving b h) ≡ total counts h
     count-one h true p = omega (arith, octets-of (stretches R h), every R counts h, ended-running R counts h p)
     count-one h false p = omega (arith, octets-of (stretches R h), every R counts h, run-carry (leaves R h))
@@ -76,17 +76,17 @@ module _ {N S E C B A : Type 0} (R : Rules S E) (F : Forms N S E C B) (n : N) (e
       (d : Demand3 R D F L X fresh settings calls n) where
     -- what was written under n, and what is stored under it
     abbrev pub writtenUnder : List B
-    writtenUnder = under (D .same) (L .nameOf) n (each (L .kindred) (written X fresh calls))
+    writtenUnder = under (D .same) (L .nameOf) n (each (L .kindred) (allWritten X fresh calls))
 
     abbrev pub storedUnder : List C
-    storedUnder = under (D .same) (L .name) n (stored (L .slots (run X fresh calls)))
+    storedUnder = under (D .same) (L .name) n (held (L .slots (run X fresh calls)))
 
     pub containers-once : each ofRecord writtenUnder ++ each ofStored storedUnder ≡ each (λ h. each entries (stretches R h)) (historiesOf R D F L X fresh settings calls n)
     containers-once = rw (d .closed, d .open-now) (read-all (historiesOf R D F L X fresh settings calls n) (d .released))
 
     pub octets-once : (counts : E → ℕ) → ((v : W) (e : E) → D .says v ≡ tellsAll e → counts e ≡ 0) → (octets : A → ℕ) (runs : C → ℕ)
         → ((x : Stretch S E) → sumOf octets (entries x) ≡ total counts (whole x))
-        → ((o : Open S E) → runs (F .stored n o) ≡ total counts (o .running))
+        → ((o : Open S E) → runs (F .asStored n o) ≡ total counts (o .running))
         → sumOf octets (each ofRecord writtenUnder ++ each ofStored storedUnder) + sumOf runs storedUnder ≡ reported R D n counts (log X fresh calls)
     octets-once counts z octets runs p q =
         rw (containers-once, d .open-now) (count-all counts octets runs p q (historiesOf R D F L X fresh settings calls n)) ∙ d .all-reported counts z

@@ -6,27 +6,25 @@ use mathlib.Core.Bool.{Bool, true, false, cond}
 use mathlib.Core.List.{List, [], _∷_, _++_, map}
 use mathlib.Core.Option.{Option, none, some}
 use native.Mathlib.Omega.{arith}
-use Rattle.history.specs.Lists.{All}
+use Rattle.history.specs.Lists.{All, NotFalling}
 use Rattle.history.specs.History.{History, start, latest, InOrder}
 use Rattle.history.specs.Records.{Rules, ended}
-use Rattle.history.specs.Log.{Accepted, Said, activates, tells, tellsAll, nothing, Meaning, grown, heard, grow, follow, activation, histories}
+use Rattle.history.specs.Log.{Accepted, Said, activates, tells, tellsAll, nothing, Meaning, grown, heard, grow, follow, startsBy, histories}
+use Rattle.history.proofs.Lists.{map-append, notFalling-append}
 use Rattle.history.proofs.Records.{Proper}
 
 -- The events of a log are in time order: none before k, none after l.
 abbrev pub Ordered : {W : Type 0} → ℕ → List (Accepted W) → ℕ → Type 0
-Ordered k [] l = k ≤ l
-Ordered k (c ∷ cs) l = (k ≤ c .time) × Ordered (c .time) cs l
+Ordered k cs l = NotFalling k (map (λ c. c .time) cs) l
 
 pub ordered-append : {W : Type 0} (k m l : ℕ) (cs ds : List (Accepted W)) → Ordered k cs m → Ordered m ds l → Ordered k (cs ++ ds) l
-ordered-append k m l [] [] p q = omega arith
-ordered-append k m l [] (d ∷ ds) p q = ((omega arith), q .1)
-ordered-append k m l (c ∷ cs) ds p q = (p .0, ordered-append (c .time) m l cs ds (p .1) q)
+ordered-append k m l cs ds p q = rw map-append (notFalling-append k m l (map (λ c. c .time) cs) (map (λ c. c .time) ds) p q)
 
 module _ {G N S E W : Type 0} (R : Rules S E) (D : Meaning G N S E W) (n : N) where
   -- What holds of each start, followed through the events after it, holds of each history.
   module _ (P : History S E → Type 0) where
     each-activation : (cs : List (Accepted W)) (g : G) (t : ℕ) (w : Said G N S E) (rest : List (History S E))
-        → ((s : S) → P (follow R D n cs (start t s))) → All P rest → All P (map (follow R D n cs) (activation R D n g t w) ++ rest)
+        → ((s : S) → P (follow R D n cs (start t s))) → All P rest → All P (map (follow R D n cs) (startsBy R D n g t w) ++ rest)
     each-activation cs g t (activates m s) rest f r = go (D .same n m)
       where
         go : (x : Bool) → All P (map (follow R D n cs) (cond x (start t (s g) ∷ []) []) ++ rest)

@@ -1,9 +1,11 @@
 pub mod Lists
 pub mod Records
+pub mod Whole
 pub mod Tables
 pub mod Told
 pub mod Histories
 pub mod Runs
 pub mod Demand
+pub mod Calls
 pub mod Everything
 pub mod Sample

@@ -1,13 +1,13 @@
 -- Laws of lists and of what may be missing.
 -- Assumes nothing.
-use Prim.Native.Nat.{ℕ, _+_}
+use Prim.Native.Nat.{ℕ, _+_, _≤_}
 use mathlib.Core.Path.{_≡_, refl, ap}
 use mathlib.Core.Bool.{Bool, true, false, not, cond, _&&_, false≢true}
 use mathlib.Core.List.{List, [], _∷_, _++_, map, append-assoc, append-nil}
 use mathlib.Core.Option.{Option, none, some}
 use native.Mathlib.Omega.{arith}
 use lib.ListN.{length, length-append}
-use Rattle.history.specs.Lists.{each, sumOf, ifAny, count}
+use Rattle.history.specs.Lists.{each, sumOf, All, ifAny, count, NotFalling}
 
 pub each-append : {A B : Type 0} (f : A → List B) (a b : List A) → each f (a ++ b) ≡ each f a ++ each f b
 each-append f [] b = refl
@@ -64,3 +64,32 @@ each-cond f false a rest = refl
 
 pub none≢some : {A : Type 0} {k : A} → none ≡ some k → ⊥
 none≢some {k = k} p = let z : _≡_ {A = ℕ} 0 1 = cc in omega arith
+
+pub all-append : {A : Type 0} (P : A → Type 0) (a b : List A) → All P a → All P b → All P (a ++ b)
+all-append P [] b p q = q
+all-append P (x ∷ xs) b p q = (p .0, all-append P xs b (p .1) q)
+
+pub all-map : {A : Type 0} (P Q : A → Type 0) → ((a : A) → P a → Q a) → (xs : List A) → All P xs → All Q xs
+all-map P Q f [] p = tt
+all-map P Q f (x ∷ xs) p = (f x (p .0), all-map P Q f xs (p .1))
+
+pub all-of-map : {A B : Type 0} (P : A → Type 0) (Q : B → Type 0) (f : A → B) → ((a : A) → P a → Q (f a)) → (xs : List A) → All P xs → All Q (map f xs)
+all-of-map P Q f g [] p = tt
+all-of-map P Q f g (x ∷ xs) p = (g x (p .0), all-of-map P Q f g xs (p .1))
+
+pub all-both : {A : Type 0} (P Q : A → Type 0) (xs : List A) → All P xs → All Q xs → All (λ a. P a × Q a) xs
+all-both P Q [] p q = tt
+all-both P Q (x ∷ xs) p q = ((p .0, q .0), all-both P Q xs (p .1) (q .1))
+
+pub each-of-map : {A B C : Type 0} (f : B → List C) (g : A → B) (a : List A) → each f (map g a) ≡ each (λ x. f (g x)) a
+each-of-map f g [] = refl
+each-of-map f g (x ∷ xs) = rw (each-of-map f g xs)
+
+pub notFalling-append : (k m l : ℕ) (a b : List ℕ) → NotFalling k a m → NotFalling m b l → NotFalling k (a ++ b) l
+notFalling-append k m l [] [] p q = omega arith
+notFalling-append k m l [] (y ∷ b) p q = ((omega arith), q .1)
+notFalling-append k m l (x ∷ a) b p q = (p .0, notFalling-append x m l a b (p .1) q)
+
+pub notFalling-whole : (k l : ℕ) (xs : List ℕ) → NotFalling k xs l → k ≤ l
+notFalling-whole k l [] p = p
+notFalling-whole k l (x ∷ xs) p = omega (arith, p .0, notFalling-whole x l xs (p .1))

@@ -11,7 +11,7 @@ use lib.ListN.{length}
 use Rattle.history.specs.Lists.{each, sumOf, ifAny, isSome, orElse, count}
 use Rattle.history.specs.History.{History, start, _▸_∶_, events, began, beganWith, total}
 use Rattle.history.specs.Records.{Rules, Stretch, Record, whole, entire, orAnew, number, inForce, changes, causeFor, sinceOpening, closes, condition, cuts, running, stretchesAt, stretches, closings, recordsAt, records, ended, leaves}
-use Rattle.history.specs.Demand.{upTo, numbers, ClosesNow, OnceEach}
+use Rattle.history.specs.Demand.{upTo, numbers, ClosesNow}
 use Rattle.history.proofs.Lists.{each-append, map-append, sumOf-append, length-ifAny, append-cancel}
 
 module _ {S E : Type 0} (R : Rules S E) where
@@ -182,7 +182,7 @@ module _ {S E : Type 0} (R : Rules S E) where
   pub exactly : (h : History S E) (t : ℕ) (e : E) (cause : ℕ) → ClosesNow R h t e cause ↔ (closes R h t e ≡ some cause)
   exactly h t e cause = (
     (λ c. exactly-at (closes R h t e) (number (closings R h) (isSome (R .release e))) (sinceOpening R h) t e (stretches R (sinceOpening R h ▸ t ∶ e)) cause (c .closed)
-        (append-cancel (records R h) (recordsAt R h t e) (c .closed ∷ []) (c .written)) (c .for)),
+        (append-cancel (records R h) (recordsAt R h t e) (c .closed ∷ []) (c .added)) (c .for)),
     (λ p. record {
       closed = record {
         number = number (closings R h) (isSome (R .release e));
@@ -192,7 +192,7 @@ module _ {S E : Type 0} (R : Rules S E) where
         event = e;
         stretches = stretches R (sinceOpening R h ▸ t ∶ e);
       };
-      written = rw p;
+      added = rw p;
       for = refl;
     }),
   )
@@ -222,18 +222,6 @@ module _ {S E : Type 0} (R : Rules S E) where
       go : (o : Option ℕ) → R .release e ≡ o → isSome o ≡ true → total counts (running R (h ▸ t ∶ e)) ≡ 0
       go none q i = absurd (false≢true i)
       go (some c) q i = rw q
-
-  pub once : (h : History S E) → Proper h → OnceEach R h
-  once h p = record {
-    read = read h;
-    all = all h;
-    every = λ counts. every counts h;
-    numbered = numbered h p;
-    opened = opened h;
-    opened-with = opened-with h;
-    changed = changed h;
-    exactly = exactly h;
-  }
 
   -- ---- what one more event does, by cases: for the proof that a stored subject hears as its history says
 

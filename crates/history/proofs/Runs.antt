@@ -9,7 +9,7 @@ use native.Mathlib.Omega.{arith}
 use Rattle.history.specs.Lists.{each}
 use Rattle.history.specs.Log.{Accepted}
 use Rattle.history.specs.Table.{Handling, slotsAfter, writes, settled, table, output}
-use Rattle.history.specs.Run.{Machine, applied, run, written, log}
+use Rattle.history.specs.Run.{Machine, applied, run, allWritten, log}
 use Rattle.history.specs.Demand.{Sight}
 use Rattle.history.proofs.Lists.{each-append}
 use Rattle.history.proofs.Tables.{admits}
@@ -51,7 +51,7 @@ module _ {G N S E W C B M I O : Type 0} (K : Handling G N S E W C B) (L : Sight 
   pub record Runs (a : M) (is : List I) : Type 0 where
     pub settings-now : settings (run X a is) ≡ settled K (settings a) (log X a is)
     pub slots : L .slots (run X a is) ≡ table K (settings a) (L .slots a) (log X a is)
-    pub wrote : each (L .kindred) (written X a is) ≡ output K (settings a) (L .slots a) (log X a is)
+    pub wrote : each (L .kindred) (allWritten X a is) ≡ output K (settings a) (L .slots a) (log X a is)
     pub admitted : Admitted K (settings a) (L .slots a) (log X a is)
     pub timely : Ordered (clock a) (log X a is) (clock (run X a is))
 
@@ -75,7 +75,7 @@ module _ {G N S E W C B M I J O : Type 0} (K : Handling G N S E W C B) (L : Sigh
     pub calls : List J
     pub events : applied X a i ≡ log Z a calls
     pub node : X .after a i ≡ run Z a calls
-    pub wrote : X .writes a i ≡ written Z a calls
+    pub wrote : X .writes a i ≡ allWritten Z a calls
 
   pub serves-too : Serves K L Z settings clock → ((a : M) (i : I) → OneByOne a i) → Serves K L X settings clock
   serves-too Y f = record {

@@ -14,14 +14,16 @@ use Rattle.history.specs.History.{History, beganWith, total}
 use Rattle.history.specs.Records.{Stretch, whole, number, inForce, sinceOpening, running, stretches, closings, leaves}
 use Rattle.history.specs.Log.{Accepted, activates, tellsAll, heard, reported}
 use Rattle.history.specs.Table.{free, active}
-use Rattle.history.specs.Run.{run, written, log}
-use Rattle.history.specs.Demand.{Demand3, under, stored}
+use Rattle.history.specs.Run.{run, allWritten, log}
+use Rattle.history.specs.Demand.{Demand3, under, held}
+use Rattle.history.specs.Calls.{OneCall}
 use Rattle.history.specs.Sample.{Event, Force, Heard, after, octets, rules, says, settles, meaning, Part, Line, part, forms, keep, counted, turned, full, soleOr, hear, takes, handling, Node, fresh, refusal, answer, machine, sight}
 use Rattle.history.proofs.Lists.{each-one, each-map, map-append}
 use Rattle.history.proofs.Records.{inForce-running, every-open}
 use Rattle.history.proofs.Tables.{Bears, bears-cond, admits, told, told-closing, told-change, told-plain, Sound}
 use Rattle.history.proofs.Runs.{Outcome, did, refused, serves}
 use Rattle.history.proofs.Demand.{demand3}
+use Rattle.history.proofs.Calls.{one-call}
 use Rattle.history.proofs.Everything.{octets-once}
 
 T-true : (b : Bool) → T b → b ≡ true
@@ -43,7 +45,7 @@ module _ (n : ℕ) (h : History Force Heard) (t : ℕ) where
   past = sinceOpening rules h
 
   abbrev line : Line
-  line = forms .stored n (leaves rules h)
+  line = forms .asStored n (leaves rules h)
 
   abbrev g : ℕ
   g = (inForce rules h) .limit
@@ -189,6 +191,11 @@ pub met : (limit : ℕ) (calls : List (Accepted Event)) (n : ℕ) → Demand3 ru
 met limit calls n = demand3 rules meaning forms handling sight machine (λ s. s .limit) sound (λ a. a .limit) (λ a. a .clock)
     (serves handling sight machine (λ a. a .limit) (λ a. a .clock) (λ c. refl) (λ a c. outcome a c (answer a c) refl)) (fresh limit) refl calls n
 
+-- And each call, under any name.
+pub met-by-each : (limit : ℕ) (calls : List (Accepted Event)) (c : Accepted Event) (n : ℕ)
+    → OneCall rules meaning forms sight machine (fresh limit) limit calls c n
+met-by-each limit calls c n = one-call rules meaning forms sight machine (fresh limit) limit n (λ cs. met limit cs n) calls c
+
 -- ---- a session, whole: limit 1,000; a refused report; a sole record; then the name again, closed by volume, and released
 
 abbrev at-time : ℕ → Event → Accepted Event
@@ -202,7 +209,7 @@ session = at-time 0 (Event.report 7 1) ∷ at-time 0 (Event.activate 7 3) ∷ at
 abbrev one-part : ℕ → ℕ → ℕ → ℕ → Part
 one-part grade octets condition t = record { grade = grade; octets = octets; condition = condition; time = t }
 
-session-billed : written machine (fresh 1000) session ≡
+session-billed : allWritten machine (fresh 1000) session ≡
     record { name = 7; number = none; cause = 4; opened = 0; duration = 6; parts = one-part 3 999 2 6 ∷ [] }
     ∷ record { name = 7; number = some 1; cause = 16; opened = 8; duration = 4; parts = one-part 3 999 1 11 ∷ one-part 3 1 2 12 ∷ [] }
     ∷ record { name = 7; number = some 2; cause = 0; opened = 12; duration = 2; parts = one-part 3 0 0 13 ∷ one-part 2 4 2 14 ∷ [] }
@@ -220,9 +227,9 @@ uncounted Event.tariff e p = let i : Heard.tariff ≡ e = cc in rw (← i)
 uncounted (Event.limit l) e p = let i : Heard.limit l ≡ e = cc in rw (← i)
 
 pub octets-billed : (limit : ℕ) (calls : List (Accepted Event)) (n : ℕ)
-    → sumOf (λ p. p .octets) (each (λ b. b .parts) (under eqb (λ b. b .name) n (each (λ b. b ∷ []) (written machine (fresh limit) calls)))
-    ++ each (λ c. c .parts) (under eqb (λ c. c .name) n (stored ((run machine (fresh limit) calls) .slots))))
-    + sumOf (λ c. c .octets) (under eqb (λ c. c .name) n (stored ((run machine (fresh limit) calls) .slots)))
+    → sumOf (λ p. p .octets) (each (λ b. b .parts) (under eqb (λ b. b .name) n (each (λ b. b ∷ []) (allWritten machine (fresh limit) calls)))
+    ++ each (λ c. c .parts) (under eqb (λ c. c .name) n (held ((run machine (fresh limit) calls) .slots))))
+    + sumOf (λ c. c .octets) (under eqb (λ c. c .name) n (held ((run machine (fresh limit) calls) .slots)))
     ≡ reported rules meaning n octets (log machine (fresh limit) calls)
 octets-billed limit calls n = octets-once rules forms n (λ x. part x ∷ []) (λ b. b .parts) (λ c. c .parts) (λ r. sym (each-map part (r .stretches))) (λ o. sym (each-map part (o .stretches)))
     meaning sight machine (fresh limit) limit calls (met limit calls n) octets uncounted (λ p. p .octets) (λ c. c .octets) (λ x. add-zero _) (λ o. refl)

@@ -11,7 +11,7 @@ use Rattle.history.specs.History.{History, start, _▸_∶_}
 use Rattle.history.specs.Records.{Rules, Stretch, Record, Open, number, inForce, sinceOpening, closes, running, stretches, closings, recordsAt, leaves}
 use Rattle.history.specs.Log.{Said, activates, tells, tellsAll, nothing, Meaning, heard}
 use Rattle.history.specs.Table.{Step, Handling, fill, free, active, hears, listen, slotsHear, slotsWrite}
-use Rattle.history.specs.Demand.{Forms, under, stored}
+use Rattle.history.specs.Demand.{Forms, under, held}
 use Rattle.history.proofs.Lists.{each-cond}
 use Rattle.history.proofs.Records.{leaves-closing, records-closing, records-none, leaves-change, leaves-plain}
 
@@ -43,7 +43,7 @@ module _ {G N S E W C B : Type 0} (K : Handling G N S E W C B) where
 
 module _ {G N S E W C B : Type 0} (K : Handling G N S E W C B) (nameOf : B → N) where
   abbrev pub named : N → List (Option C) → List C
-  named n os = under (K .same) (K .name) n (stored os)
+  named n os = under (K .same) (K .name) n (held os)
 
   abbrev pub ofName : N → List B → List B
   ofName n rs = under (K .same) nameOf n rs
@@ -157,13 +157,13 @@ module _ {G N S E W C B : Type 0} (K : Handling G N S E W C B) (nameOf : B → N
 module _ {N S E C B : Type 0} (R : Rules S E) (F : Forms N S E C B) (n : N) (h : History S E) (t : ℕ) (e : E) where
   abbrev pub told : Step C B
   told = record {
-    next = cond (isSome (R .release e)) none (some (F .stored n (leaves R (h ▸ t ∶ e))));
-    out = map (F .written n) (recordsAt R h t e);
+    next = cond (isSome (R .release e)) none (some (F .asStored n (leaves R (h ▸ t ∶ e))));
+    out = map (F .asWritten n) (recordsAt R h t e);
   }
 
   told-by : (o : Open S E) (rs : List (Record S E)) → leaves R (h ▸ t ∶ e) ≡ o → recordsAt R h t e ≡ rs
-      → told ≡ record { next = cond (isSome (R .release e)) none (some (F .stored n o)); out = map (F .written n) rs }
-  told-by o rs p q = λ i. record { next = cond (isSome (R .release e)) none (some (F .stored n (p i))); out = map (F .written n) (q i) }
+      → told ≡ record { next = cond (isSome (R .release e)) none (some (F .asStored n o)); out = map (F .asWritten n) rs }
+  told-by o rs p q = λ i. record { next = cond (isSome (R .release e)) none (some (F .asStored n (p i))); out = map (F .asWritten n) (q i) }
 
   abbrev next-force : S
   next-force = R .after (inForce R h) e
@@ -173,9 +173,9 @@ module _ {N S E C B : Type 0} (R : Rules S E) (F : Forms N S E C B) (n : N) (h :
 
   -- it closes
   pub told-closing : (c : ℕ) → closes R h t e ≡ some c → told ≡ record {
-    next = cond (isSome (R .release e)) none (some (F .stored n (record
+    next = cond (isSome (R .release e)) none (some (F .asStored n (record
         { closed = suc (closings R h); past = start t next-force; stretches = []; running = start t next-force })));
-    out = F .written n (record {
+    out = F .asWritten n (record {
       number = number (closings R h) (isSome (R .release e));
       cause = c;
       past = sinceOpening R h;
@@ -188,7 +188,7 @@ module _ {N S E C B : Type 0} (R : Rules S E) (F : Forms N S E C B) (n : N) (h :
 
   -- it is a change, and does not close
   pub told-change : (k : ℕ) → closes R h t e ≡ none → R .change (inForce R h) e ≡ some k → told ≡ record {
-    next = cond (isSome (R .release e)) none (some (F .stored n (record
+    next = cond (isSome (R .release e)) none (some (F .asStored n (record
         { closed = closings R h; past = sinceOpening R h ▸ t ∶ e; stretches = stretches R (sinceOpening R h) ++ (cut k ∷ []); running = start t next-force })));
     out = [];
   }
@@ -196,7 +196,7 @@ module _ {N S E C B : Type 0} (R : Rules S E) (F : Forms N S E C B) (n : N) (h :
 
   -- it does neither
   pub told-plain : closes R h t e ≡ none → R .change (inForce R h) e ≡ none → told ≡ record {
-    next = cond (isSome (R .release e)) none (some (F .stored n (record
+    next = cond (isSome (R .release e)) none (some (F .asStored n (record
         { closed = closings R h; past = sinceOpening R h ▸ t ∶ e; stretches = stretches R (sinceOpening R h); running = running R h ▸ t ∶ e })));
     out = [];
   }
@@ -211,12 +211,12 @@ pub record Sound {G N S E W C B : Type 0} (R : Rules S E) (D : Meaning G N S E W
   pub says-meant : (v : W) → K .says v ≡ D .says v
   pub settles-meant : (g : G) (v : W) → K .settles g v ≡ D .settles g v
   -- what is stored bears its name, and so does what hearing leaves and writes
-  pub stored-name : (n : N) (o : Open S E) → K .name (F .stored n o) ≡ n
+  pub stored-name : (n : N) (o : Open S E) → K .name (F .asStored n o) ≡ n
   pub bears : (g : G) (c : C) (t : ℕ) (e : E) → Bears K nameOf (K .name c) (K .hear g c t e)
   -- an activation stores, and hearing does, what the history says
-  pub opens : (n : N) (t : ℕ) (s : S) → K .opening t n s ≡ F .stored n (leaves R (start t s))
+  pub opens : (n : N) (t : ℕ) (s : S) → K .opening t n s ≡ F .asStored n (leaves R (start t s))
   pub hears-told : (n : N) (h : History S E) (t : ℕ) (e : E)
-      → K .hear (known (inForce R h)) (F .stored n (leaves R h)) t e ≡ told R F n h t e
+      → K .hear (known (inForce R h)) (F .asStored n (leaves R h)) t e ≡ told R F n h t e
   -- an event that changes the settings is in every history
   pub settings-activated : (g : G) (v : W) (m : N) (s : G → S) → D .says v ≡ activates m s → known (s g) ≡ D .settles g v
   pub settings-heard : (n : N) (s : S) (v : W) (e : E) → heard R D n (D .says v) ≡ some e

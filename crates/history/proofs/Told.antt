@@ -11,9 +11,9 @@ use native.Mathlib.Omega.{arith}
 use Rattle.history.specs.Lists.{each, sumOf, All, Earlier}
 use Rattle.history.specs.History.{History, start, _▸_∶_, total}
 use Rattle.history.specs.Records.{Rules, inForce, records, ended, leaves}
-use Rattle.history.specs.Log.{Accepted, Said, activates, tells, tellsAll, nothing, Meaning, heard, grow, follow, activation, histories, reports, reported}
+use Rattle.history.specs.Log.{Accepted, Said, activates, tells, tellsAll, nothing, Meaning, heard, grow, follow, startsBy, histories, reports, reported}
 use Rattle.history.specs.Table.{Handling, fill, free, active, hears, listen, slotsHear, slotsWrite, slotsAfter, writes, table, output}
-use Rattle.history.specs.Demand.{Forms, stored}
+use Rattle.history.specs.Demand.{Forms, held}
 use Rattle.history.proofs.Lists.{each-append, map-append, map-map, map-id, sumOf-append, cond-same, both, not-true}
 use Rattle.history.proofs.Tables.{content, content-cond, under-append, named, ofName, named-hear, ofName-hear, unheard-slots, unheard-out, inactive, named-active, named-fill-other, named-fill, admits, Sound}
 
@@ -31,8 +31,8 @@ module _ {G N S E W C B : Type 0} (R : Rules S E) (D : Meaning G N S E W) (F : F
   abbrev grow′ : Accepted W → H → H
   grow′ c h = grow R D n c h
 
-  abbrev activation′ : G → ℕ → Said G N S E → List H
-  activation′ g t w = activation R D n g t w
+  abbrev startsBy′ : G → ℕ → Said G N S E → List H
+  startsBy′ g t w = startsBy R D n g t w
 
   abbrev follow′ : List (Accepted W) → H → H
   follow′ cs h = follow R D n cs h
@@ -42,10 +42,10 @@ module _ {G N S E W C B : Type 0} (R : Rules S E) (D : Meaning G N S E W) (F : F
 
   -- what a history makes and leaves
   abbrev pub made : H → List B
-  made h = map (F .written n) (records R h)
+  made h = map (F .asWritten n) (records R h)
 
   abbrev pub left : H → List C
-  left h = cond (ended R h) [] (F .stored n (leaves R h) ∷ [])
+  left h = cond (ended R h) [] (F .asStored n (leaves R h) ∷ [])
 
   -- what the node hears is what is in the history
   hears-heard : (w : Said G N S E) → hears K n w ≡ heard R D n w
@@ -58,12 +58,12 @@ module _ {G N S E W C B : Type 0} (R : Rules S E) (D : Meaning G N S E W) (F : F
 
   abbrev gathered : G → List H → List (Accepted W) → List H
   gathered g hs [] = hs
-  gathered g hs (c ∷ cs) = gathered (K .settles g (c .event)) (map (grow′ c) hs ++ activation′ g (c .time) (K .says (c .event))) cs
+  gathered g hs (c ∷ cs) = gathered (K .settles g (c .event)) (map (grow′ c) hs ++ startsBy′ g (c .time) (K .says (c .event))) cs
 
   gathered-all : (cs : List (Accepted W)) (g : G) (hs : List H) → gathered g hs cs ≡ map (follow′ cs) hs ++ histories R D n g cs
   gathered-all [] g hs = sym (append-nil _ ∙ map-id hs)
   gathered-all (c ∷ cs) g hs =
-      gathered-all cs (K .settles g (c .event)) (map (grow′ c) hs ++ activation′ g (c .time) (K .says (c .event)))
+      gathered-all cs (K .settles g (c .event)) (map (grow′ c) hs ++ startsBy′ g (c .time) (K .says (c .event)))
       ∙ rw (map-append, map-map, append-assoc, X .settles-meant g (c .event), X .says-meant (c .event))
 
   -- ---- histories that have ended stay as they are
@@ -118,7 +118,7 @@ module _ {G N S E W C B : Type 0} (R : Rules S E) (D : Meaning G N S E W) (F : F
     hear-out = ofName-hear K nameOf (X .bears) g (c .time) w n os
 
     grows-hearing : (h : H) (o : Option E) → ended R h ≡ false → heard R D n w ≡ o → known (inForce R h) ≡ g
-        → named′ os ≡ F .stored n (leaves R h) ∷ [] → Grows g c w (some h) os
+        → named′ os ≡ F .asStored n (leaves R h) ∷ [] → Grows g c w (some h) os
     grows-hearing h none f i s p = record {
       now = hear-slots ∙ rw (p, X .stored-name n (leaves R h), hears-heard w, f, meant, i, f);
       wrote = rw (hear-out, p, X .stored-name n (leaves R h), hears-heard w, f, meant, i) (simp append-nil);
@@ -224,7 +224,7 @@ module _ {G N S E W C B : Type 0} (R : Rules S E) (D : Meaning G N S E W) (F : F
 
   next : (g : G) (c : Accepted W) (w : Said G N S E) (os : List (Option C)) (hs : List H) → D .says (c .event) ≡ w
       → admits K w os ≡ true → Tracks g os hs
-      → Next g (K .settles g (c .event)) os (slotsAfter K g (c .time) w os) hs (map (grow′ c) hs ++ activation′ g (c .time) w) (writes K g (c .time) w os)
+      → Next g (K .settles g (c .event)) os (slotsAfter K g (c .time) w os) hs (map (grow′ c) hs ++ startsBy′ g (c .time) w) (writes K g (c .time) w os)
   next g c (activates m s) os hs z a k = next-activation g c m s os hs (D .same n m) refl z a k
   next g c (tells m e) os hs z a k = next-heard g c (tells m e) os hs z k
   next g c (tellsAll e) os hs z a k = next-heard g c (tellsAll e) os hs z k
@@ -289,7 +289,7 @@ module _ {G N S E W C B : Type 0} (R : Rules S E) (D : Meaning G N S E W) (F : F
 
     sum-next : (g : G) (c : Accepted W) (w : Said G N S E) (os : List (Option C)) (hs : List H) → D .says (c .event) ≡ w
         → admits K w os ≡ true → Tracks g os hs
-        → sum (map (grow′ c) hs ++ activation′ g (c .time) w) ≡ sum hs + reports R D n counts w
+        → sum (map (grow′ c) hs ++ startsBy′ g (c .time) w) ≡ sum hs + reports R D n counts w
     sum-next g c (activates m s) os hs z a k = sum-activation c (c .time) (s g) hs (D .same n m) (rw z)
     sum-next g c (tells m e) os hs z a k = rw append-nil (sum-tells g c m e os hs (D .same n m) refl z a k)
     sum-next g c (tellsAll e) os hs z a k = rw append-nil (omega (arith, sum-all c e hs z))
@@ -300,7 +300,7 @@ module _ {G N S E W C B : Type 0} (R : Rules S E) (D : Meaning G N S E W) (F : F
     sum-gathered [] g os hs a k = omega arith
     sum-gathered (c ∷ cs) g os hs a k =
         let x = next g c (K .says (c .event)) os hs (sym (X .says-meant (c .event))) (a .0) k in
-        let y : sum (map (grow′ c) hs ++ activation′ g (c .time) (K .says (c .event))) ≡ sum hs + reports R D n counts (K .says (c .event))
+        let y : sum (map (grow′ c) hs ++ startsBy′ g (c .time) (K .says (c .event))) ≡ sum hs + reports R D n counts (K .says (c .event))
         = sum-next g c (K .says (c .event)) os hs (sym (X .says-meant (c .event))) (a .0) k in
         let z : reports R D n counts (K .says (c .event)) ≡ reports R D n counts (D .says (c .event)) = rw (X .says-meant (c .event)) in
         omega (arith, y, z, sum-gathered cs (K .settles g (c .event)) _ _ (a .1) (x .tracks))

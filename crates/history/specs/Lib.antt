@@ -4,5 +4,6 @@ pub mod Records
 pub mod Log
 pub mod Run
 pub mod Demand
+pub mod Calls
 pub mod Table
 pub mod Sample

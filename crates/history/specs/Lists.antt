@@ -1,6 +1,6 @@
 -- Short words for lists and for what may be missing.
 -- Assumes nothing.
-use Prim.Native.Nat.{ℕ, suc, _+_}
+use Prim.Native.Nat.{ℕ, suc, _+_, _≤_}
 use mathlib.Core.Bool.{Bool, true, false}
 use mathlib.Core.List.{List, [], _∷_, _++_}
 use mathlib.Core.Option.{Option, none, some}
@@ -47,3 +47,8 @@ count (some o) k = suc k
 abbrev pub test : Bool → ℕ → Option ℕ
 test true k = some k
 test false k = none
+
+-- Numbers that do not fall, none of them below k or above l: times, from an opening to a closing.
+abbrev pub NotFalling : ℕ → List ℕ → ℕ → Type 0
+NotFalling k [] l = k ≤ l
+NotFalling k (x ∷ xs) l = (k ≤ x) × NotFalling x xs l

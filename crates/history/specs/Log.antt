@@ -51,17 +51,18 @@ module _ {G N S E W : Type 0} (R : Rules S E) (D : Meaning G N S E W) (n : N) wh
   follow [] h = h
   follow (c ∷ cs) h = follow cs (grow c h)
 
-  abbrev pub activation : G → ℕ → Said G N S E → List (History S E)
-  activation g t (activates m s) = cond (D .same n m) (start t (s g) ∷ []) []
-  activation g t (tells m e) = []
-  activation g t (tellsAll e) = []
-  activation g t nothing = []
+  -- the history of n that starts by what an event says, if one does
+  abbrev pub startsBy : G → ℕ → Said G N S E → List (History S E)
+  startsBy g t (activates m s) = cond (D .same n m) (start t (s g) ∷ []) []
+  startsBy g t (tells m e) = []
+  startsBy g t (tellsAll e) = []
+  startsBy g t nothing = []
 
   -- The histories of n, first to last. Each starts where an accepted event activates n, by the settings that the events before
   -- it made, and goes on through the events after it, up to its release.
   abbrev pub histories : G → List (Accepted W) → List (History S E)
   histories g [] = []
-  histories g (c ∷ cs) = map (follow cs) (activation g (c .time) (D .says (c .event))) ++ histories (D .settles g (c .event)) cs
+  histories g (c ∷ cs) = map (follow cs) (startsBy g (c .time) (D .says (c .event))) ++ histories (D .settles g (c .event)) cs
 
   -- What the events of a log report of n by name: the sum of what each of them counts.
   abbrev pub reports : (E → ℕ) → Said G N S E → ℕ

@@ -28,9 +28,9 @@ module _ {M I W O : Type 0} (X : Machine M I W O) where
   run a [] = a
   run a (i ∷ is) = run (X .after a i) is
 
-  abbrev pub written : M → List I → List O
-  written a [] = []
-  written a (i ∷ is) = X .writes a i ++ written (X .after a i) is
+  abbrev pub allWritten : M → List I → List O
+  allWritten a [] = []
+  allWritten a (i ∷ is) = X .writes a i ++ allWritten (X .after a i) is
 
   -- the accepted events
   abbrev pub log : M → List I → List (Accepted W)

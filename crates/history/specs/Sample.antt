@@ -1,6 +1,7 @@
--- A sample, and no part of any product: a small node that has every part of the theory, so that the demand is seen to be met
--- and wrong nodes to be refused. Its subjects are lines that count octets. Its one setting is the volume limit, which an event
--- replaces; a record keeps the limit that it opened with.
+-- A sample, and no part of any product: a small node, so that the demand is seen to be met and wrong nodes to be refused. Its
+-- subjects are lines that count octets. They are activated and released, and hear reports, grades, tariffs, and the volume limit,
+-- which is the node's one setting: an event replaces it, and a record keeps the limit that it opened with. Records close by volume
+-- and by release; closings by time, by changes and by management are not in it.
 -- Assumes nothing.
 use Prim.Native.Nat.{ℕ, zero, suc, _+_, _-_}
 use mathlib.Core.Bool.{cond}
@@ -124,7 +125,7 @@ part x = record { grade = (inForce rules (x .ran)) .grade; octets = total octets
 
 abbrev pub forms : Forms ℕ Force Heard Line Bill
 forms = record {
-  written = λ n r. record {
+  asWritten = λ n r. record {
     name = n;
     number = r .number;
     cause = r .cause;
@@ -132,7 +133,7 @@ forms = record {
     duration = r .time - began (r .past);
     parts = map part (r .stretches);
   };
-  stored = λ n o. record {
+  asStored = λ n o. record {
     name = n;
     grade = (inForce rules (o .running)) .grade;
     limit = (beganWith (o .past)) .limit;

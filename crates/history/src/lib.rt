@@ -6,9 +6,11 @@
 //   Log       the accepted events, and the histories of a name among them
 //   Run       calls, their answers, and so the log of a run
 //   Demand    what one history must be, and demand 3 of a node with slots
+//   Calls     demand 3 of one call
 //   Table     how a node of slots hears events: for the step of such a node, and no part of demand 3
-//   Sample    a small node that has every part
+//   Sample    a small node that meets the demand
 // Lists has the short words that these use.
 //
-// proofs/ has the theorem for every kind and every such node (Demand), what it says of all that is written and stored under a
-// name (Everything), and the laws that an instance uses (Records, Tables, Runs). Sample shows how a node takes all this.
+// proofs/ has the theorem for every kind and every such node (Demand), the same of each call (Calls), what it says of all that is
+// written and stored under a name (Everything), the laws of one history (Records, Whole), and what an instance uses (Tables, Runs).
+// Sample shows how a node takes all this.

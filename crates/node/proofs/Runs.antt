@@ -92,12 +92,12 @@ not-13 n s b ok e = never-fits 13 (rows s ++ laterRows n (timeOf s) (saidOf s) b
 
 -- ---- calls one after another
 
-pub after-kept : (n : Node) (cs : List Call) → Whole n → All (λ c. Octets (c .0)) cs → Whole (after n cs)
+pub after-kept : (n : Node) (cs : List Call) → Whole n → All (λ c. Octets (c .event)) cs → Whole (after n cs)
 unfolding after
 after-kept n [] w o = w
-after-kept n (c ∷ cs) w o = after-kept (stepOf n (c .0) (c .1) .1 .0) cs (step-kept n (c .0) (c .1) w (o .0)) (o .1)
+after-kept n (c ∷ cs) w o = after-kept (stepOf n (c .event) (c .buffer) .1 .0) cs (step-kept n (c .event) (c .buffer) w (o .0)) (o .1)
 
-module _ (p : Profile) (ok : profileOk p ≡ true) (h : HeldProfile p) (cs : List Call) (o : All (λ c. Octets (c .0)) cs) where
+module _ (p : Profile) (ok : profileOk p ≡ true) (h : HeldProfile p) (cs : List Call) (o : All (λ c. Octets (c .event)) cs) where
   -- from a fresh node, after any calls
   pub run-kept : Whole (after (freshNode p) cs)
   run-kept = after-kept (freshNode p) cs (fresh-whole p ok h) o

@@ -2,13 +2,12 @@
 -- records and then in the stored context are the finished stretches of its histories, once each, in order; with what runs they make
 -- up all that was reported of it by name, up and down. And a record's duration is what the history says. Assumes nothing.
 use mathlib.Core.Path.{_≡_, refl, sym, _∙_}
-use mathlib.Core.Option.{Option, none, some}
+use mathlib.Core.Option.{Option}
 use mathlib.Core.List.{List, [], _∷_, _++_, map}
 use Prim.Native.Nat.{ℕ, _+_, _-_}
 use native.Mathlib.Nat.{add-zero}
 use native.Mathlib.Omega.{arith}
 use lib.Dec.{eqb}
-use lib.ListN.{take}
 use Rattle.format.proofs.Tests.{by}
 use Rattle.container.specs.declared.Container.{Container}
 use Rattle.scdr.specs.declared.Record as scdr
@@ -20,20 +19,21 @@ use Rattle.event.specs.Fields.{kindOf}
 use Rattle.context.specs.declared.Context.{Context}
 use Rattle.context.specs.Context.{used}
 use Rattle.history.specs.Lists.{each, sumOf, All, isSome}
-use Rattle.history.specs.History.{History, start, _▸_∶_, began}
-use Rattle.history.specs.Records.{Rules, Stretch, Record, Open, number, sinceOpening, running, stretches, closings, closes, recordsAt, records}
+use Rattle.history.specs.History.{History, began}
+use Rattle.history.specs.Records.{Rules, Stretch, Record, Open, number, sinceOpening, running, stretches, closings, records}
 use Rattle.history.specs.Log.{tellsAll, reported}
-use Rattle.history.specs.Run.{Machine, run, log}
-use Rattle.history.specs.Run as run
+use Rattle.history.specs.Run.{Machine, run, allWritten, log}
 use Rattle.history.specs.Demand as demand
 use Rattle.history.proofs.Lists.{each-map, map-append}
-use Rattle.history.proofs.Records.{records-closing, records-none}
+use Rattle.history.proofs.Records.{stretchesAt-open}
+use Rattle.history.proofs.Whole.{all-records}
 use Rattle.history.proofs.Everything as everything
 use Rattle.node.specs.declared.Node.{Node}
 use Rattle.node.specs.Sound.{freshNode}
-use Rattle.once.specs.Charging.{Force, Heard, says, same, meaning, up, down, rules, container, forms}
-use Rattle.once.specs.Charging as charging
-use Rattle.once.specs.Once.{Call, machine, sight, Once}
+use Rattle.node.specs.Run.{Call}
+use Rattle.once.specs.Charging.{Force, Heard, says, same, meaning, up, down, releases, rules, container, recordFrom, contextFrom, forms}
+use Rattle.once.specs.Once.{machine, sight, Once}
+use Rattle.once.specs.Activations.{containersOf}
 
 -- ---- what every context hears reports nothing
 
@@ -53,51 +53,55 @@ module _ (counts : Heard → ℕ) (tariff : counts Heard.tariff ≡ 0) (tick : c
 
 -- ---- of any calls
 
--- the containers of an S-CDR
-abbrev pub listed : scdr.Record → List Container
-listed r = take (r .count) (r .containers)
+-- A stretch becomes one container; an S-CDR, and a context, has those of its stretches.
+abbrev pub entry : Profile → Stretch Force Heard → List Container
+entry p x = container p x ∷ []
 
-module _ (p : Profile) (cs : List Call) (o : Once p cs) (n : Name) where
+module _ (p : Profile) (n : Name) where
+  pub carried : (r : Record Force Heard) → containersOf (recordFrom p n r) ≡ each (entry p) (r .stretches)
+  carried r = take-padded (map (container p) (r .stretches)) ∙ sym (each-map (container p) (r .stretches))
+
+  pub carries : (s : Open Force Heard) → used (contextFrom p n s) ≡ each (entry p) (s .stretches)
+  carries s = take-padded (map (container p) (s .stretches)) ∙ sym (each-map (container p) (s .stretches))
+
+module _ (p : Profile) (o : Once p) (cs : List Call) (n : Name) where
   abbrev X : Machine Node Call (List ℕ) scdr.Record
-  X = machine (o .records)
+  X = machine (o .recordsBy)
 
   -- the records billed under the name, and the context stored under it, if there is one
   abbrev pub billed : List scdr.Record
-  billed = demand.under same (sight .nameOf) n (each (sight .kindred) (run.written X (freshNode p) cs))
+  billed = demand.under same (sight .nameOf) n (each (sight .kindred) (allWritten X (freshNode p) cs))
 
   abbrev pub kept : List Context
-  kept = demand.under same (sight .name) n (demand.stored (sight .slots (run X (freshNode p) cs)))
+  kept = demand.under same (sight .name) n (demand.held (sight .slots (run X (freshNode p) cs)))
 
   abbrev pub histories : List (History Force Heard)
   histories = demand.historiesOf (rules (p .limits)) meaning (forms p) sight X (freshNode p) tt cs n
 
-  carried : (r : Record Force Heard) → listed (charging.written p n r) ≡ each (λ x. container p x ∷ []) (r .stretches)
-  carried r = take-padded (map (container p) (r .stretches)) ∙ sym (each-map (container p) (r .stretches))
-
-  carries : (s : Open Force Heard) → used (charging.stored p n s) ≡ each (λ x. container p x ∷ []) (s .stretches)
-  carries s = take-padded (map (container p) (s .stretches)) ∙ sym (each-map (container p) (s .stretches))
-
-  pub containers-once : each listed billed ++ each used kept ≡ each (λ h. map (container p) (stretches (rules (p .limits)) h)) histories
+  pub containers-once : each containersOf billed ++ each used kept ≡ each (λ h. map (container p) (stretches (rules (p .limits)) h)) histories
   containers-once =
-      everything.containers-once (rules (p .limits)) (forms p) n (λ x. container p x ∷ []) listed used carried carries meaning sight X (freshNode p) tt cs (o .demand n)
+      everything.containers-once (rules (p .limits)) (forms p) n (entry p) containersOf used (carried p n) (carries p n)
+      meaning sight X (freshNode p) tt cs (o .demand cs n)
       ∙ go histories
     where
       go : (hs : List (History Force Heard))
-          → each (λ h. each (λ x. container p x ∷ []) (stretches (rules (p .limits)) h)) hs ≡ each (λ h. map (container p) (stretches (rules (p .limits)) h)) hs
+          → each (λ h. each (entry p) (stretches (rules (p .limits)) h)) hs ≡ each (λ h. map (container p) (stretches (rules (p .limits)) h)) hs
       go [] = refl
       go (h ∷ hs) = rw (each-map (container p) (stretches (rules (p .limits)) h), go hs)
 
   -- octets up, and octets down
-  pub uplink-once : sumOf (λ c. c .uplink) (each listed billed ++ each used kept) + sumOf (λ c. c .uplink) kept
+  pub uplink-once : sumOf (λ c. c .uplink) (each containersOf billed ++ each used kept) + sumOf (λ c. c .uplink) kept
       ≡ reported (rules (p .limits)) meaning n up (log X (freshNode p) cs)
   uplink-once =
-      everything.octets-once (rules (p .limits)) (forms p) n (λ x. container p x ∷ []) listed used carried carries meaning sight X (freshNode p) tt cs (o .demand n) up
+      everything.octets-once (rules (p .limits)) (forms p) n (entry p) containersOf used (carried p n) (carries p n)
+      meaning sight X (freshNode p) tt cs (o .demand cs n) up
       (uncounted up refl refl) (λ c. c .uplink) (λ c. c .uplink) (λ x. add-zero _) (λ s. refl)
 
-  pub downlink-once : sumOf (λ c. c .downlink) (each listed billed ++ each used kept) + sumOf (λ c. c .downlink) kept
+  pub downlink-once : sumOf (λ c. c .downlink) (each containersOf billed ++ each used kept) + sumOf (λ c. c .downlink) kept
       ≡ reported (rules (p .limits)) meaning n down (log X (freshNode p) cs)
   downlink-once =
-      everything.octets-once (rules (p .limits)) (forms p) n (λ x. container p x ∷ []) listed used carried carries meaning sight X (freshNode p) tt cs (o .demand n) down
+      everything.octets-once (rules (p .limits)) (forms p) n (entry p) containersOf used (carried p n) (carries p n)
+      meaning sight X (freshNode p) tt cs (o .demand cs n) down
       (uncounted down refl refl) (λ c. c .downlink) (λ c. c .downlink) (λ x. add-zero _) (λ s. refl)
 
 -- ---- durations: from a record's opening to the event that closed it
@@ -107,16 +111,12 @@ unfolding lastTime
 last-time [] x t = refl
 last-time (y ∷ xs) x t = last-time xs x (y .time .seconds)
 
-all-append : {A : Type 0} (P : A → Type 0) (xs ys : List A) → All P xs → All P ys → All P (xs ++ ys)
-all-append P [] ys a b = b
-all-append P (x ∷ xs) ys a b = (a .0, all-append P xs ys (a .1) b)
-
 module _ (p : Profile) (n : Name) where
   abbrev R : Rules Force Heard
   R = rules (p .limits)
 
   abbrev pub Lasts : Record Force Heard → Type 0
-  Lasts r = duration (charging.written p n r) ≡ r .time - began (r .past)
+  Lasts r = duration (recordFrom p n r) ≡ r .time - began (r .past)
 
   lasts : (k : Option ℕ) (c : ℕ) (r : History Force Heard) (xs : List (Stretch Force Heard)) (x : Stretch Force Heard)
       → Lasts (record { number = k; cause = c; past = r; time = x .time; event = x .event; stretches = xs ++ (x ∷ []) })
@@ -125,9 +125,6 @@ module _ (p : Profile) (n : Name) where
       rw (take-padded (map (container p) (xs ++ (x ∷ []))), map-append (container p) xs (x ∷ []), last-time (map (container p) xs) (container p x) (began r))
 
   pub durations : (h : History Force Heard) → All Lasts (records R h)
-  durations (start t s) = tt
-  durations (h ▸ t ∶ e) = all-append Lasts (records R h) (recordsAt R h t e) (durations h) (go (closes R h t e) refl)
-    where
-      go : (o : Option ℕ) → closes R h t e ≡ o → All Lasts (recordsAt R h t e)
-      go none q = rw (records-none R h t e q) tt
-      go (some c) q = rw (records-closing R h t e c q) (lasts (number (closings R h) (isSome (R .release e))) c (sinceOpening R h) (stretches R (sinceOpening R h)) (record { ran = running R h; time = t; event = e; condition = 2 }), tt)
+  durations = all-records R Lasts (λ h t e c q. rw (stretchesAt-open R h, q)
+      (lasts (number (closings R h) (isSome (releases e))) c (sinceOpening R h) (stretches R (sinceOpening R h))
+      (record { ran = running R h; time = t; event = e; condition = 2 })))

@@ -26,7 +26,7 @@ module _ (l : Limits) (r : History Force Heard) (t : ℕ) where
   reached e none q c i = absurd (none≢some i)
   reached e (some k) q c i = tested e (leb (l .changes) (changesOf (r ▸ t ∶ e))) 19 c i (λ b. by-changes q (leb-true (l .changes) (changesOf (r ▸ t ∶ e)) b))
 
-  says-so : (e : Heard) (c : ℕ) → causeFor (rules l) r t e ≡ some c → Closes l r t e c
+  pub says-so : (e : Heard) (c : ℕ) → causeFor (rules l) r t e ≡ some c → Closes l r t e c
   says-so (Heard.traffic u d) c i =
       tested (Heard.traffic u d) (leb (l .volume) (volume (r ▸ t ∶ Heard.traffic u d))) 16 c i (λ b. by-volume (leb-true (l .volume) (volume (r ▸ t ∶ Heard.traffic u d)) b))
   says-so (Heard.qos q) c i = reached (Heard.qos q) _ refl c i
@@ -43,7 +43,7 @@ module _ (l : Limits) (r : History Force Heard) (t : ℕ) where
   by-change Heard.tick k q b = absurd (none≢some q)
   by-change Heard.management k q b = absurd (none≢some q)
 
-  holds-so : (e : Heard) (c : ℕ) → Closes l r t e c → causeFor (rules l) r t e ≡ some c
+  pub holds-so : (e : Heard) (c : ℕ) → Closes l r t e c → causeFor (rules l) r t e ≡ some c
   holds-so e c (by-volume {u} {d} b) = rw (le-leb (l .volume) (volume (r ▸ t ∶ Heard.traffic u d)) b)
   holds-so e c (by-time b) = rw (le-leb (l .seconds) (t - began r) b)
   holds-so e c (by-changes {k = k} q b) = by-change e k q b

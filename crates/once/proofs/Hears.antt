@@ -199,7 +199,7 @@ module _ (p : Profile) (n : Name) (h : History Force Heard) (t : ℕ) where
   stands s = context p n t s (total up (running R h)) (total down (running R h)) (began past) (changesOf past) held (closings R h)
 
   -- by what is in force
-  is-stored : forms p .stored n (leaves R h) ≡ stands (inForce R h)
+  is-stored : forms p .asStored n (leaves R h) ≡ stands (inForce R h)
   is-stored = ap stands (inForce-running R h)
 
   counted : (u d : ℕ) → volumeOf (take (length held) (padded held)) + (total up (running R h) + u) + (total down (running R h) + d) ≡ volume (past ▸ t ∶ Heard.traffic u d)
@@ -256,5 +256,5 @@ module _ (p : Profile) (n : Name) (h : History Force Heard) (t : ℕ) where
     hears-by none (some condition) i q = hear-change p n t now _ _ _ _ held (closings R h) e condition (closes-alike e ∙ i) q ∙ sym (told-changed condition i q)
     hears-by none none i q = hear-plain p n t now _ _ _ _ held (closings R h) e (closes-alike e ∙ i) q ∙ sym (told-plainly i q)
 
-    pub hears-told : hear p (forms p .stored n (leaves R h)) t (nodes e) ≡ told R (forms p) n h t e
+    pub hears-told : hear p (forms p .asStored n (leaves R h)) t (nodes e) ≡ told R (forms p) n h t e
     hears-told = ap (λ (c : Context). hear p c t (nodes e)) is-stored ∙ hears-by _ _ refl refl

@@ -4,6 +4,9 @@ pub mod Steps
 pub mod Readable
 pub mod Serving
 pub mod Five
+pub mod Closings
+pub mod EachCall
 pub mod Once
 pub mod Billed
+pub mod Activations
 pub mod Session

@@ -15,16 +15,17 @@ use Rattle.profile.specs.declared.Profile.{Profile}
 use Rattle.profile.specs.Profile.{profileOk}
 use Rattle.event.specs.Fields.{timeOf}
 use Rattle.history.specs.Lists.{All}
-use Rattle.history.specs.Run.{written}
+use Rattle.history.specs.Run.{allWritten}
 use Rattle.node.specs.declared.Node.{Node}
 use Rattle.node.specs.Sound.{freshNode}
 use Rattle.node.specs.Step.{recordsOf, saidOf}
+use Rattle.node.specs.Run.{Call}
 use Rattle.node.specs.Held.{Octets, HeldProfile, Whole}
 use Rattle.node.proofs.Kept.{Fine}
 use Rattle.node.proofs.Sounded.{records-good}
 use Rattle.node.proofs.Demands.{answered}
 use Rattle.node.proofs.Runs.{fresh-whole, step-kept}
-use Rattle.once.specs.Once.{Call, nodeNow, marked, machine, outputs}
+use Rattle.once.specs.Once.{nodeNow, marked, machine, outputs}
 use Rattle.once.proofs.Steps.{wrote, called, wrote-some, wrote-none}
 
 -- marked records are the octets of their list
@@ -48,13 +49,14 @@ wrote-right n c w o =
     (λ z. rw (wrote-some n c z) (right (recordsOf n (timeOf (c .event)) (saidOf (c .event))) (records-good n (c .event) (c .buffer) (w .held) o (sym (answered n (c .event) (c .buffer)) ∙ z .answers))))
     (λ z. rw (wrote-none n c z) tt)
 
-all-right : (cs : List Call) (n : Node) → Whole n → All (λ c. Octets (c .event)) cs → AllRight (written (machine wrote) n cs)
+all-right : (cs : List Call) (n : Node) → Whole n → All (λ c. Octets (c .event)) cs → AllRight (allWritten (machine wrote) n cs)
 all-right [] n w o = tt
 all-right (c ∷ cs) n w o =
-    right-append (wrote n c) (written (machine wrote) (nodeNow n c) cs) (wrote-right n c w (o .0)) (all-right cs (nodeNow n c) (step-kept n (c .event) (c .buffer) w (o .0)) (o .1))
+    right-append (wrote n c) (allWritten (machine wrote) (nodeNow n c) cs) (wrote-right n c w (o .0))
+    (all-right cs (nodeNow n c) (step-kept n (c .event) (c .buffer) w (o .0)) (o .1))
 
-pub output-reads : (p : Profile) (cs : List Call) → profileOk p ≡ true → outputs (freshNode p) cs ≡ marked (written (machine wrote) (freshNode p) cs)
-    → HeldProfile p → All (λ c. Octets (c .event)) cs → recordList (outputs (freshNode p) cs) ≡ some (written (machine wrote) (freshNode p) cs)
+pub output-reads : (p : Profile) (cs : List Call) → profileOk p ≡ true → outputs (freshNode p) cs ≡ marked (allWritten (machine wrote) (freshNode p) cs)
+    → HeldProfile p → All (λ c. Octets (c .event)) cs → recordList (outputs (freshNode p) cs) ≡ some (allWritten (machine wrote) (freshNode p) cs)
 output-reads p cs ok e h o =
-    let rs = written (machine wrote) (freshNode p) cs in
+    let rs = allWritten (machine wrote) (freshNode p) cs in
     ap recordList (e ∙ marked-list rs) ∙ list-reads rs (all-right cs (freshNode p) (fresh-whole p ok h) o)

@@ -16,15 +16,16 @@ use Rattle.event.specs.Fields.{timeOf}
 use Rattle.context.specs.declared.Context.{Context}
 use Rattle.history.specs.Log.{Said}
 use Rattle.history.specs.Table as table
-use Rattle.history.specs.Run.{Machine, ifZero, run, written, log}
+use Rattle.history.specs.Run.{Machine, ifZero, run, allWritten, log}
 use Rattle.history.specs.Demand.{Sight}
 use Rattle.history.proofs.Lists.{each-one}
 use Rattle.history.proofs.Tables.{admits}
 use Rattle.history.proofs.Runs.{Outcome, did, refused, Serves, serves}
 use Rattle.node.specs.declared.Node.{Node}
 use Rattle.node.specs.Step as step
+use Rattle.node.specs.Run.{Call}
 use Rattle.once.specs.Charging.{Force, Heard, says}
-use Rattle.once.specs.Once.{Call, answer, nodeNow, machine, sight}
+use Rattle.once.specs.Once.{answer, nodeNow, machine, sight}
 use Rattle.once.proofs.Handles.{said, handling, after-alike, writes-alike, after-taken, slots-taken, seen-stood}
 use Rattle.once.proofs.Steps.{says-alike, admitted, wrote, Takes, called, wrote-some, wrote-none, profile-kept}
 
@@ -127,7 +128,7 @@ module _ (p : Profile) where
   run-is [] a = refl
   run-is (c ∷ cs) a = rw (node-after a c) (run-is cs (calls .after a c))
 
-  pub written-is : (cs : List Call) (a : State) → written (machine wrote) (node a) cs ≡ written calls a cs
+  pub written-is : (cs : List Call) (a : State) → allWritten (machine wrote) (node a) cs ≡ allWritten calls a cs
   written-is [] a = refl
   written-is (c ∷ cs) a = rw (node-after a c, written-is cs (calls .after a c))
 

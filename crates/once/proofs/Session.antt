@@ -42,8 +42,9 @@ use Rattle.history.specs.Run.{log}
 use Rattle.node.specs.Hear.{reported, qosAfter, changeOf, closing, opened, numberFor, recordOf, goesOn, closedBy, afterClosing, hearWith, hear}
 use Rattle.node.specs.Step as step
 use Rattle.node.specs.Sound.{freshNode, sound}
-use Rattle.once.specs.Charging.{Force, Heard, says, meaning, activation, rules, written}
-use Rattle.once.specs.Once.{Call, marked, machine, outputs}
+use Rattle.node.specs.Run.{Call}
+use Rattle.once.specs.Charging.{Force, Heard, says, meaning, inForceBy, rules, recordFrom}
+use Rattle.once.specs.Once.{marked, machine, outputs}
 use Rattle.once.proofs.Steps.{wrote}
 
 abbrev R : Rules Force Heard
@@ -61,23 +62,24 @@ at t s = record { time = t; event = s }
 abbrev short : List (Accepted (List ℕ))
 short = at 0 activate ∷ at 5 traffic ∷ at 6 (released 0) ∷ []
 
-short-history : histories R meaning name tt short ≡ (start 0 (activation activate) ▸ 5 ∶ Heard.traffic 400 599 ▸ 6 ∶ Heard.release 0) ∷ []
+short-history : histories R meaning name tt short ≡ (start 0 (inForceBy activate) ▸ 5 ∶ Heard.traffic 400 599 ▸ 6 ∶ Heard.release 0) ∷ []
 unfolding activate traffic released says spelt octetsFrom numberIn
 short-history = refl
 
-short-records : map (written session name) (records R (start 0 (activation activate) ▸ 5 ∶ Heard.traffic 400 599 ▸ 6 ∶ Heard.release 0)) ≡ sample ∷ []
+short-records : map (recordFrom session name) (records R (start 0 (inForceBy activate) ▸ 5 ∶ Heard.traffic 400 599 ▸ 6 ∶ Heard.release 0)) ≡ sample ∷ []
 unfolding activate sample only spelt octetsFrom numberIn fillTo noContainers
 short-records = refl
 
 -- the 113 octets that 01 prints
-pub short-octets : marked (map (written session name) (records R (start 0 (activation activate) ▸ 5 ∶ Heard.traffic 400 599 ▸ 6 ∶ Heard.release 0)))
+pub short-octets : marked (map (recordFrom session name) (records R (start 0 (inForceBy activate) ▸ 5 ∶ Heard.traffic 400 599 ▸ 6 ∶ Heard.release 0)))
     ≡ 0xC3 ∷ 0x5A ∷ printed ++ []
 short-octets = ap marked short-records ∙ ap (λ (x : List ℕ). 0xC3 ∷ 0x5A ∷ x ++ []) sample-octets
 
 -- ---- instead at 6 the report that meets the limit; a tariff, a tick too early, a tick, the release
 
 abbrev long : History Force Heard
-long = start 0 (activation activate) ▸ 5 ∶ Heard.traffic 400 599 ▸ 6 ∶ Heard.traffic 0 1 ▸ 10 ∶ Heard.tariff ▸ 65 ∶ Heard.tick ▸ 66 ∶ Heard.tick ▸ 66 ∶ Heard.release 0
+long = start 0 (inForceBy activate) ▸ 5 ∶ Heard.traffic 400 599 ▸ 6 ∶ Heard.traffic 0 1 ▸ 10 ∶ Heard.tariff ▸ 65 ∶ Heard.tick
+    ▸ 66 ∶ Heard.tick ▸ 66 ∶ Heard.release 0
 
 -- an S-CDR's number, cause, opening, duration and containers
 record Brief : Type 0 where
@@ -99,7 +101,7 @@ part u d condition t = record {
   time = record { seconds = t; zone = 720 };
 }
 
-long-records : map (λ r. brief (written session name r)) (records R long) ≡
+long-records : map (λ r. brief (recordFrom session name r)) (records R long) ≡
     record { number = 1; cause = 16; opening = 0; lasts = 6; parts = part 400 600 2 6 ∷ [] }
     ∷ record { number = 2; cause = 17; opening = 6; lasts = 60; parts = part 0 0 1 10 ∷ part 0 0 2 66 ∷ [] }
     ∷ record { number = 3; cause = 0; opening = 66; lasts = 0; parts = part 0 0 2 66 ∷ [] }

@@ -23,8 +23,9 @@ use Rattle.history.proofs.Tables.{admits}
 use Rattle.node.specs.declared.Node.{Node}
 use Rattle.node.specs.Sound.{latest}
 use Rattle.node.specs.Step as step
+use Rattle.node.specs.Run.{Call}
 use Rattle.once.specs.Charging.{Force, Heard, says}
-use Rattle.once.specs.Once.{Call, answer, nodeNow, lengthNow, bufferNow, octetsNow, marked}
+use Rattle.once.specs.Once.{answer, nodeNow, lengthNow, bufferNow, octetsNow, marked}
 use Rattle.once.proofs.Handles.{said, handling, active-alike}
 
 -- ---- what an event says

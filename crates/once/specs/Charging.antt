@@ -52,9 +52,9 @@ pub data Heard : Type 0 where
   tick : Heard
   management : Heard
 
--- "flags 1, IMSI 8, PDP type 2, PDP address 4, QoS 5, n 1, APN n"
-abbrev pub activation : List ℕ → Force
-activation s = record {
+-- What an activation's octets put in force: "flags 1, IMSI 8, PDP type 2, PDP address 4, QoS 5, n 1, APN n"
+abbrev pub inForceBy : List ℕ → Force
+inForceBy s = record {
   brought = record { flags = flagsOf s; imsi = imsiOf s; apn = apnOf s; pdptype = numberIn 2 24 s; address = numberIn 4 26 s };
   qos = qosAt 30 s;
 }
@@ -62,7 +62,7 @@ activation s = record {
 -- The table of kinds: an activation, four kinds that name a context, and a tariff and a tick, which every context hears.
 unfoldable pub says : List ℕ → Said (Unit {0}) Name Force Heard
 says s =
-    cond (eqb (kindOf s) 1) (activates (nameOf s) (λ g. activation s))
+    cond (eqb (kindOf s) 1) (activates (nameOf s) (λ g. inForceBy s))
     (cond (eqb (kindOf s) 2) (tells (nameOf s) (Heard.traffic (numberIn 4 15 s) (numberIn 4 19 s)))
     (cond (eqb (kindOf s) 3) (tells (nameOf s) (Heard.qos (qosAt 15 s)))
     (cond (eqb (kindOf s) 4) (tellsAll Heard.tariff)
@@ -160,6 +160,14 @@ pub data Closes (l : Limits) (r : History Force Heard) (t : ℕ) : Heard → ℕ
   by-management : Closes l r t Heard.management 20
   by-release : {cause : ℕ} → Closes l r t (Heard.release cause) cause
 
+-- which of the five it is, by its place in 01's list
+abbrev pub which : {l : Limits} {r : History Force Heard} {t : ℕ} {e : Heard} {cause : ℕ} → Closes l r t e cause → ℕ
+which (by-volume reached) = 1
+which (by-time reached) = 2
+which (by-changes changed reached) = 3
+which by-management = 4
+which by-release = 5
+
 -- ---- 01, "The record's octets": what a history is written and stored as
 
 -- a time of this node: local seconds, and the profile's offset
@@ -191,8 +199,8 @@ bit1 flags = eqb (flags / 2 % 2) 1
 
 -- The S-CDR of a closed record of the name n; its duration, last container time minus opening, is worked out from these in its
 -- octets. A number 0 says that it has none. "unused octets and container places zero"
-abbrev pub written : Profile → Name → Record Force Heard → scdr.Record
-written p n r =
+abbrev pub recordFrom : Profile → Name → Record Force Heard → scdr.Record
+recordFrom p n r =
     let b = (standing after (r .past)) .brought in
     let cs = map (container p) (r .stretches) in
     record {
@@ -216,8 +224,8 @@ written p n r =
     }
 
 -- The context that is stored of the name n for what its history leaves open.
-abbrev pub stored : Profile → Name → Open Force Heard → Context
-stored p n o =
+abbrev pub contextFrom : Profile → Name → Open Force Heard → Context
+contextFrom p n o =
     let s = standing after (o .running) in
     let cs = map (container p) (o .stretches) in
     record {
@@ -240,4 +248,4 @@ stored p n o =
     }
 
 abbrev pub forms : Profile → Forms Name Force Heard Context scdr.Record
-forms p = record { written = written p; stored = stored p }
+forms p = record { asWritten = recordFrom p; asStored = contextFrom p }

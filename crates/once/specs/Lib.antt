@@ -1,2 +1,3 @@
 pub mod Charging
 pub mod Once
+pub mod Activations

@@ -3,7 +3,7 @@
 use mathlib.Core.Path.{_≡_}
 use mathlib.Core.Logic.{_↔_}
 use mathlib.Core.Option.{some}
-use mathlib.Core.List.{List, [], _∷_, _++_}
+use mathlib.Core.List.{List, [], _∷_, _++_, map}
 use Prim.Native.Nat.{ℕ, _≤_}
 use lib.ListN.{length, take, drop}
 use Rattle.scdr.specs.declared.Record as scdr
@@ -14,22 +14,20 @@ use Rattle.event.specs.declared.Name.{Name}
 use Rattle.event.specs.Fields.{timeOf}
 use Rattle.context.specs.declared.Context.{Context}
 use Rattle.history.specs.Lists.{each, All}
-use Rattle.history.specs.Run.{Machine, ifZero, written}
+use Rattle.history.specs.Run.{Machine, ifZero, allWritten, log}
 use Rattle.history.specs.History.{History}
 use Rattle.history.specs.Records.{sinceOpening}
-use Rattle.history.specs.Demand.{ClosesNow, Sight, Demand3}
+use Rattle.history.specs.Log.{heard, histories}
+use Rattle.history.specs.Demand.{ClosesNow, Unchanged, Sight, under, Demand3}
+use Rattle.history.specs.Calls.{openOne, closesIn, OneCall}
 use Rattle.node.specs.declared.Node.{Node}
 use Rattle.node.specs.Sound.{freshNode, freshOf}
 use Rattle.node.specs.Step.{stepOf, slots}
+use Rattle.node.specs.Run.{Call, after}
 use Rattle.node.specs.Held.{Octets, HeldProfile}
-use Rattle.once.specs.Charging.{Force, Heard, Closes, rules, meaning, forms}
+use Rattle.once.specs.Charging.{Force, Heard, says, same, meaning, Closes, which, rules, recordFrom, forms}
 
 -- ---- calls
-
--- A call is given an event's octets, whatever they are, and the octets that stand in the lent buffer, however many.
-pub record Call : Type 0 where
-  pub event : List ℕ
-  pub buffer : List ℕ
 
 -- What the step answers to a call on a node: the number 0 or that of a refusal, the node, the written length, the buffer.
 module _ (n : Node) (c : Call) where
@@ -55,13 +53,13 @@ marked rs = each (λ r. 0xC3 ∷ 0x5A ∷ layout.scdr .enc r) rs
 
 -- ---- the node as history's specs/Run.antt and specs/Demand.antt see it
 
--- The event of a call is accepted exactly when the answer is 0. `records` are the records that calls write.
+-- The event of a call is accepted exactly when the answer is 0. `recordsBy` says which records a call writes.
 abbrev pub machine : (Node → Call → List scdr.Record) → Machine Node Call (List ℕ) scdr.Record
-machine records = record {
+machine recordsBy = record {
   holds = λ c. record { time = timeOf (c .event); event = c .event } ∷ [];
   applies = λ n c. ifZero (answer n c);
   after = nodeNow;
-  writes = records;
+  writes = recordsBy;
 }
 
 -- The slots of a node, and the names of contexts and of records.
@@ -78,25 +76,82 @@ abbrev pub outputs : Node → List Call → List ℕ
 outputs n [] = []
 outputs n (c ∷ cs) = octetsNow n c ++ outputs (nodeNow n c) cs
 
+-- The node after calls from a fresh one, and the activations of a name: its histories in the accepted events, first to last. What
+-- the calls write is no part of either.
+module _ (p : Profile) (calls : List Call) where
+  abbrev pub nodeThen : Node
+  nodeThen = after (freshNode p) calls
+
+  abbrev pub activations : Name → List (History Force Heard)
+  activations name = histories (rules (p .limits)) meaning name tt (log (machine (λ n c. [])) (freshNode p) calls)
+
+-- ---- one call
+
+-- These are one record, and it has this cause.
+pub record OneFor (rs : List scdr.Record) (cause : ℕ) : Type 0 where
+  pub sole : scdr.Record
+  pub alone : rs ≡ sole ∷ []
+  pub for : sole .cause ≡ cause
+
+-- A call c after any calls from a fresh node with this profile.
+module _ (p : Profile) (recordsBy : Node → Call → List scdr.Record) (calls : List Call) (c : Call) where
+  -- the records that it writes under a name
+  abbrev pub recordsUnder : Name → List scdr.Record
+  recordsUnder name = under same (sight .nameOf) name (recordsBy (nodeThen p calls) c)
+
+  -- It closes the open record of a name, with this cause: it is accepted, a history of the name is open, this hears the event, and
+  -- one of the five closing conditions holds there, read over the open record's past alone.
+  pub record ClosesUnder (name : Name) (cause : ℕ) : Type 0 where
+    pub accepted : answer (nodeThen p calls) c ≡ 0
+    pub history : History Force Heard
+    pub is-open : openOne (rules (p .limits)) (activations p calls name) ≡ some history
+    pub event : Heard
+    pub hears : heard (rules (p .limits)) meaning name (says (c .event)) ≡ some event
+    pub condition : Closes (p .limits) (sinceOpening (rules (p .limits)) history) (timeOf (c .event)) event cause
+
+  pub record EachCall : Type 0 where
+    -- Refused, it writes nothing.
+    pub refused : (answer (nodeThen p calls) c ≡ 0 → ⊥) → octetsNow (nodeThen p calls) c ≡ []
+    -- Accepted, it writes under every name exactly the records that its event closes in the name's open history: nothing where none
+    -- is open, and nothing where the name does not hear the event.
+    pub accepted : answer (nodeThen p calls) c ≡ 0 → (name : Name) → recordsUnder name
+        ≡ map (recordFrom p name) (closesIn (rules (p .limits)) (openOne (rules (p .limits)) (activations p calls name)) (timeOf (c .event))
+        (heard (rules (p .limits)) meaning name (says (c .event))))
+    -- It writes a record with a cause, and no other under the name, exactly when a closing condition holds there with that cause.
+    pub exactly : (name : Name) (cause : ℕ) → OneFor (recordsUnder name) cause ↔ ClosesUnder name cause
+
 -- ---- the statement
 
 -- Any calls one after another, refused ones among them, from a fresh node with this profile.
-pub record Once (p : Profile) (calls : List Call) : Type 0 where
+pub record Once (p : Profile) : Type 0 where
   -- The fresh node is made.
   pub made : _≡_ {A = ℕ × Node} (freshOf p) (0, freshNode p)
-  -- There are records that calls write, whichever node they meet: what a call writes is these with their marks, in order, from the
-  -- buffer's start, and nothing else. The written length is that of these octets, they fit, and later octets are as before.
-  pub records : Node → Call → List scdr.Record
-  pub octets : (n : Node) (c : Call) → octetsNow n c ≡ marked (records n c)
-  pub lengths : (n : Node) (c : Call) → lengthNow n c ≡ length (marked (records n c))
+  -- One function says which records a call writes, whichever node it meets: what a call writes is these with their marks, in order,
+  -- from the buffer's start, and nothing else. The written length is that of these octets, they fit, and later octets are as before.
+  pub recordsBy : Node → Call → List scdr.Record
+  pub octets : (n : Node) (c : Call) → octetsNow n c ≡ marked (recordsBy n c)
+  pub lengths : (n : Node) (c : Call) → lengthNow n c ≡ length (marked (recordsBy n c))
   pub fit : (n : Node) (c : Call) → lengthNow n c ≤ length (c .buffer)
-  pub others : (n : Node) (c : Call) → bufferNow n c ≡ marked (records n c) ++ drop (lengthNow n c) (c .buffer)
-  -- So all the octets that these calls write are these records.
-  pub all-octets : outputs (freshNode p) calls ≡ marked (written (machine records) (freshNode p) calls)
+  pub others : (n : Node) (c : Call) → bufferNow n c ≡ marked (recordsBy n c) ++ drop (lengthNow n c) (c .buffer)
+  -- So all the octets that calls write are these records.
+  pub all-octets : (calls : List Call) → outputs (freshNode p) calls ≡ marked (allWritten (machine recordsBy) (freshNode p) calls)
   -- Read mark by mark they are these records and nothing else, where events are octets and the profile is one that the code can hold.
-  pub reads : HeldProfile p → All (λ c. Octets (c .event)) calls → recordList (outputs (freshNode p) calls) ≡ some (written (machine records) (freshNode p) calls)
-  -- And under every name these records, and the context that is stored, are exactly what its histories make and leave.
-  pub demand : (name : Name) → Demand3 (rules (p .limits)) meaning (forms p) sight (machine records) (freshNode p) tt calls name
+  pub reads : HeldProfile p → (calls : List Call) → All (λ c. Octets (c .event)) calls
+      → recordList (outputs (freshNode p) calls) ≡ some (allWritten (machine recordsBy) (freshNode p) calls)
+  -- Under every name these records, and the context that is stored, are exactly what its histories make and leave.
+  pub demand : (calls : List Call) (name : Name)
+      → Demand3 (rules (p .limits)) meaning (forms p) sight (machine recordsBy) (freshNode p) tt calls name
+  -- Each call writes what its event closes, and nothing else: said of the node, and as the theory says it of calls that may apply
+  -- any number of events.
+  pub each-call : (calls : List Call) (c : Call) → EachCall p recordsBy calls c
+  pub one-call : (calls : List Call) (c : Call) (name : Name)
+      → OneCall (rules (p .limits)) meaning (forms p) sight (machine recordsBy) (freshNode p) tt calls c name
   -- In every history a record closes exactly when one of the five closing conditions holds, read over the open record's past alone.
   pub five : (h : History Force Heard) (t : ℕ) (e : Heard) (cause : ℕ)
       → ClosesNow (rules (p .limits)) h t e cause ↔ Closes (p .limits) (sinceOpening (rules (p .limits)) h) t e cause
+  -- "No event meets two of them for one context": it is the same one of the five, with the same cause.
+  pub one-condition : (r : History Force Heard) (t : ℕ) (e : Heard) (j k : ℕ) (a : Closes (p .limits) r t e j) (b : Closes (p .limits) r t e k)
+      → which a ≡ which b
+  pub one-cause : (r : History Force Heard) (t : ℕ) (e : Heard) (j k : ℕ) → Closes (p .limits) r t e j → Closes (p .limits) r t e k → j ≡ k
+  -- What an activation brings stands in every part of its history.
+  pub brought : (h : History Force Heard) → Unchanged (rules (p .limits)) (λ s. s .brought) h
