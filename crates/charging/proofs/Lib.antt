@@ -1,0 +1,6 @@
+pub mod Joins
+pub mod Firsts
+pub mod Windows
+pub mod Cuts
+pub mod Steps
+pub mod Goes
