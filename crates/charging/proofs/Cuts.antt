@@ -23,7 +23,7 @@ use Rattle.charging.proofs.Windows.{here-not, here-one, is-ready}
 
 -- ---- lists
 
-drop-octets : (k : ℕ) (s : List ℕ) → Octets s → Octets (drop k s)
+pub drop-octets : (k : ℕ) (s : List ℕ) → Octets s → Octets (drop k s)
 drop-octets zero s o = o
 drop-octets (suc k) [] o = tt
 drop-octets (suc k) (x ∷ s) o = drop-octets k s (o .1)
@@ -138,7 +138,8 @@ module _ (t : Turn) (n : Node) (s : List ℕ) where
   turn-is o =
       let d = inTurn t n s in
       let l = drop (d .came) s in
-      in-hand (length (take (t .hand) s)) (length s) (length s) (t .looked && leb (length s) (t .hand)) n s (t .hand) (t .room) o turn-end (omega arith) (omega arith)
+      let e = t .looked && leb (length s) (t .hand) in
+      in-hand (length (take (t .hand) s)) (length s) (length s) e n s (t .hand) (t .room) o turn-end (omega arith) (omega arith)
       ∙ ap (andThen d) (charged-enough (length s) (length l) (d .node) l (omega (arith, length-drop (d .came) s)) (omega arith))
 
 pub turns-are : (ts : List Turn) (n : Node) (s : List ℕ) → Octets s

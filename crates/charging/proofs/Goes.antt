@@ -135,7 +135,8 @@ module _ {n₀ : Node} {s : List ℕ} {ended : Bool} {b₀ b : List ℕ} {n : No
 
     -- one event more
     pub going-more : (k : ℕ) → k ≡ 16416 → {b′ : List ℕ} {n′ : Node} {w : ℕ} → Accepts n (drop came s) (take k (drop written b)) b′ n′ w
-        → Going n₀ s ended b₀ (take written b ++ (b′ ++ drop k (drop written b))) n′ (came + nextLength (drop came s)) (events + 1) (nextLength (drop came s)) (written + w)
+        → Going n₀ s ended b₀ (take written b ++ (b′ ++ drop k (drop written b))) n′ (came + nextLength (drop came s)) (events + 1)
+        (nextLength (drop came s)) (written + w)
     going-more k ke {b′} {n′} {w} r =
         let x = going-next in
         let m = nextLength (drop came s) in
@@ -148,6 +149,7 @@ module _ {n₀ : Node} {s : List ℕ} {ended : Bool} {b₀ b : List ℕ} {n : No
         let rest = hereIn (x .fuel) ended n′ (drop (came + m) s) (length b₀ - (written + w)) in
         let wide = going-wide in
         let lb = going-length in
+        let put = patch (r .out) (drop (length o) b₀) k (omega (arith, r .fits)) (omega (arith, length-drop (length o) b₀, g .size)) in
         let lo : length (o ++ r .out) ≡ length o + length (r .out) = length-append o (r .out) in
         record {
           fuel = x .fuel;
@@ -163,7 +165,7 @@ module _ {n₀ : Node} {s : List ℕ} {ended : Bool} {b₀ b : List ℕ} {n : No
           size = omega (arith, g .size, r .size, lo);
           room = omega (arith, r .size, r .fits);
           buffer =
-              rw (r .buffer, front, back, patch (r .out) (drop (length o) b₀) k (omega (arith, r .fits)) (omega (arith, length-drop (length o) b₀, g .size)), drop-drop (length (r .out)) (length o) b₀, lo)
+              rw (r .buffer, front, back, put, drop-drop (length (r .out)) (length o) b₀, lo)
               (sym (append-assoc o (r .out) (drop (length o + length (r .out)) b₀)));
         }
 

@@ -4,3 +4,5 @@ pub mod Windows
 pub mod Cuts
 pub mod Steps
 pub mod Goes
+pub mod Rooms
+pub mod Fixes

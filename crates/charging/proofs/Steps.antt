@@ -21,7 +21,7 @@ use Rattle.charging.proofs.Firsts.{taken-refused}
 abbrev Answer : Type 0
 Answer = ℕ × (Node × (ℕ × List ℕ))
 
-room-size : length roomy ≡ 16416
+pub room-size : length roomy ≡ 16416
 unfolding roomy
 room-size = length-replicate {A = ℕ} 16416 0
 
