@@ -1,0 +1,230 @@
+-- The room is enough: no event of a file is refused with 11, and a node that was sound stays so.
+use mathlib.Core.Path.{_≡_, refl, sym, ap, _∙_}
+use mathlib.Core.Bool.{Bool, true, false, not, _||_}
+use mathlib.Core.Option.{Option, none, some}
+use mathlib.Core.List.{List, [], _∷_, _++_, map}
+use Prim.Native.Nat.{ℕ, zero, suc, _+_, _*_, _≤_, _<_}
+use native.Mathlib.Omega.{arith}
+use lib.Dec.{leb, ltb, eqb}
+use lib.ListN.{length, take, drop, length-append, length-map}
+use borrow.Author.Tests.{eqb-true, le-ltb}
+use Rattle.format.proofs.Tests.{by}
+use Rattle.scdr.specs.declared.Record.{Record}
+use Rattle.profile.specs.declared.Profile.{Profile}
+use Rattle.event.specs.declared.Name.{Name}
+use Rattle.event.specs.Fields.{kindOf, timeOf, fieldsOk}
+use Rattle.event.specs.Rows.{Row, row, firstFit, rows, marked, known, measured}
+use Rattle.event.specs.Framing.{nextLength}
+use Rattle.context.specs.declared.Context.{Context}
+use Rattle.history.specs.Lists.{All}
+use Rattle.history.specs.Log.{Said, activates, tells, tellsAll, nothing}
+use Rattle.history.specs.Table.{slot, slotsWrite, hears}
+use Rattle.node.specs.declared.Node.{Node}
+use Rattle.node.specs.declared.Heard.{Heard}
+use Rattle.node.specs.Sound.{sound, latest, mostAccepted}
+use Rattle.node.specs.Hear.{closing, hearWith, hear}
+use Rattle.node.specs.Step.{
+  Brought,
+  handling,
+  seen,
+  slots,
+  markedOctets,
+  octetsOf,
+  recordsOf,
+  output,
+  notActive,
+  isActive,
+  allTaken,
+  tableRows,
+  laterRows,
+  saidOf,
+  refusals,
+  stepOf,
+}
+use Rattle.node.specs.Held.{Octets, Held, Whole}
+use Rattle.node.proofs.Kept.{Fine}
+use Rattle.node.proofs.Demands.{answered}
+use Rattle.node.proofs.Sounded.{records-good}
+use Rattle.node.proofs.Runs.{step-kept}
+use Rattle.charging.specs.Done.{Done, andThen}
+use Rattle.charging.specs.File.{nextEvent, roomy, taken, firstOf, chargedIn, charged}
+use Rattle.charging.proofs.Steps.{room-size}
+use Rattle.charging.proofs.Cuts.{drop-octets}
+
+-- ---- what an event writes at most: a record a slot
+
+with-few : (p : Profile) (c : Context) (t : ℕ) (h : Heard) (o : Option ℕ) → length (hearWith p c t h o .out) ≤ 1
+unfolding hearWith
+with-few p c t h none = omega arith
+with-few p c t h (some cause) = omega arith
+
+hear-few : (p : Profile) (c : Context) (t : ℕ) (h : Heard) → length (hear p c t h .out) ≤ 1
+unfolding hear
+hear-few p c t h = with-few p c t h (closing (p .limits) c t h)
+
+module _ (p : Profile) (t : ℕ) (w : Said (Unit {0}) Name Brought Heard) where
+  listen-few : (c : Context) (o : Option Heard) → hears (handling p) (c .name) w ≡ o → length (slot (handling p) tt t w (some c) .out) ≤ 1
+  listen-few c none e = rw e (omega arith)
+  listen-few c (some h) e = rw e (hear-few p c t h)
+
+  slot-few : (o : Option Context) → length (slot (handling p) tt t w o .out) ≤ 1
+  slot-few none = omega arith
+  slot-few (some c) = listen-few c (hears (handling p) (c .name) w) refl
+
+  slots-few : (os : List (Option Context)) → length (slotsWrite (handling p) tt t w os) ≤ length os
+  slots-few [] = omega arith
+  slots-few (o ∷ os) =
+      omega (arith, length-append (slot (handling p) tt t w o .out) (slotsWrite (handling p) tt t w os), slot-few o, slots-few os)
+
+records-few : (n : Node) (t : ℕ) (w : Said (Unit {0}) Name Brought Heard) → length (recordsOf n t w) ≤ length (slots n)
+unfolding recordsOf
+records-few n t (activates m b) = omega arith
+records-few n t (tells m h) = slots-few (n .profile) t (tells m h) (slots n)
+records-few n t (tellsAll h) = slots-few (n .profile) t (tellsAll h) (slots n)
+records-few n t nothing = omega arith
+
+octets-few : (rs : List Record) → All Fine rs → length (octetsOf rs) ≤ 1026 * length rs
+unfolding octetsOf markedOctets
+octets-few [] a = omega arith
+octets-few (r ∷ rs) a = omega (arith, length-append (markedOctets r) (octetsOf rs), a .0 .short, octets-few rs (a .1))
+
+-- ---- 11 is the last row
+
+-- no row has this number
+abbrev Other : ℕ → List Row → Type 0
+Other k [] = Unit {0}
+Other k (row j t ∷ rs) = (j ≡ k → ⊥) × Other k rs
+
+-- where the last row was found, and does not fit with more room, none does
+last-row : (k : ℕ) (rs : List Row) (t : Bool) → (k ≡ 0 → ⊥) → Other k rs → firstFit (rs ++ (row k t ∷ [])) ≡ k → firstFit (rs ++ (row k false ∷ [])) ≡ 0
+unfolding firstFit
+last-row k [] t z o e = refl
+last-row k (row j true ∷ rs) t z o e = absurd (o .0 e)
+last-row k (row j false ∷ rs) t z o e = last-row k rs t z (o .1) e
+
+module _ (n : Node) (s : List ℕ) where
+  early : List Row
+  early =
+      row 13 (not (sound n))
+      ∷ row 1 (ltb (length s) 7)
+      ∷ row 2 (not (marked s))
+      ∷ row 3 (not (known s))
+      ∷ row 4 (not (measured s))
+      ∷ row 5 (not (fieldsOk (kindOf s) s))
+      ∷ row 6 (ltb latest (timeOf s) || ltb (timeOf s) (n .clock))
+      ∷ row 7 (leb mostAccepted (n .accepted))
+      ∷ row 8 (notActive (n .profile) (saidOf s) (slots n))
+      ∷ row 9 (isActive (n .profile) (saidOf s) (slots n))
+      ∷ row 10 (allTaken (saidOf s) (slots n))
+      ∷ []
+
+  abbrev x : List ℕ
+  x = output n (timeOf s) (saidOf s)
+
+  all-rows : (b : List ℕ) → refusals n s b ≡ early ++ (row 11 (ltb (length b) (length x)) ∷ [])
+  unfolding refusals rows laterRows tableRows early
+  all-rows b = refl
+
+  others : Other 11 early
+  unfolding early
+  others = (
+    (λ e. omega arith),
+    (
+      (λ e. omega arith),
+      (
+        (λ e. omega arith),
+        (
+          (λ e. omega arith),
+          (
+            (λ e. omega arith),
+            (
+              (λ e. omega arith),
+              ((λ e. omega arith), ((λ e. omega arith), ((λ e. omega arith), ((λ e. omega arith), ((λ e. omega arith), tt))))),
+            ),
+          ),
+        ),
+      ),
+    ),
+  )
+
+  -- with room for what it writes
+  fits-then : (b c : List ℕ) → firstFit (refusals n s b) ≡ 11 → length x ≤ length c → firstFit (refusals n s c) ≡ 0
+  fits-then b c e l =
+      rw (all-rows c, le-ltb (length c) (length x) l)
+      (last-row 11 early (ltb (length b) (length x)) (λ z. omega arith) others (ap firstFit (sym (all-rows b)) ∙ e))
+
+  enough : Held n → Octets s → firstFit (refusals n s roomy) ≡ 11 → ⊥
+  unfolding output
+  enough h o e =
+      let rs = recordsOf n (timeOf s) (saidOf s) in
+      let g = records-good n s x h o (fits-then roomy x e (omega arith)) in
+      let l : length x ≤ 16416 =
+      omega (arith, octets-few rs g, records-few n (timeOf s) (saidOf s), length-map (n .contexts) seen, h .size) in
+      let z = fits-then roomy roomy e (omega (arith, room-size)) in
+      omega arith
+
+-- ---- the next event of a file
+
+take-octets : (k : ℕ) (s : List ℕ) → Octets s → Octets (take k s)
+take-octets zero s o = tt
+take-octets (suc k) [] o = tt
+take-octets (suc k) (x ∷ s) o = (o .0, take-octets k s (o .1))
+
+taken-answer : (n : Node) (m : ℕ) (r : ℕ × (Node × (ℕ × List ℕ))) → taken n m r .answer ≡ r .0
+taken-answer n m r = by (eqb (r .0) 0) (λ e. rw e (sym (eqb-true (r .0) 0 e))) (λ e. rw e)
+
+module _ (n : Node) (s : List ℕ) (o : Octets s) where
+  -- 16,416 octets are room enough for what an event writes
+  pub room-enough : Held n → firstOf n s .answer ≡ 11 → ⊥
+  unfolding firstOf
+  room-enough h e =
+      let v = nextEvent s in
+      enough n v h (take-octets (nextLength s) s o) (sym (answered n v roomy) ∙ sym (taken-answer n (nextLength s) (stepOf n v roomy)) ∙ e)
+
+  first-whole : Whole n → Whole (firstOf n s .node)
+  unfolding firstOf
+  first-whole w =
+      let v = nextEvent s in
+      by (eqb (stepOf n v roomy .0) 0) (λ e. rw e (step-kept n v roomy w (take-octets (nextLength s) s o))) (λ e. rw e w)
+
+-- ---- a whole file, from a node that is sound and as the types have it
+
+then-node : (a b : Done) → Whole (a .node) → Whole (b .node) → Whole (andThen a b .node)
+unfolding andThen
+then-node a b u v = by (eqb (a .answer) 0) (λ e. rw e v) (λ e. rw e u)
+
+then-answer : (k : ℕ) (a b : Done) → (a .answer ≡ k → ⊥) → (b .answer ≡ k → ⊥) → andThen a b .answer ≡ k → ⊥
+unfolding andThen
+then-answer k a b u v = by (eqb (a .answer) 0) (λ e. rw e v) (λ e. rw e u)
+
+in-kept : (k : ℕ) (n : Node) (s : List ℕ) → Octets s → Whole n → Whole (chargedIn k n s .node)
+unfolding chargedIn
+in-kept zero n s o w = w
+in-kept (suc k) n s o w =
+    let d = firstOf n s in
+    let v = first-whole n s o w in
+    by (leb 1 (length s))
+    (λ e. rw e (then-node d (chargedIn k (d .node) (drop (d .came) s)) v (in-kept k (d .node) (drop (d .came) s) (drop-octets (d .came) s o) v)))
+    (λ e. rw e w)
+
+in-room : (k : ℕ) (n : Node) (s : List ℕ) → Octets s → Whole n → chargedIn k n s .answer ≡ 11 → ⊥
+unfolding chargedIn
+in-room zero n s o w = λ e. omega arith
+in-room (suc k) n s o w =
+    let d = firstOf n s in
+    by (leb 1 (length s))
+    (λ e.
+    rw e
+    (then-answer 11 d (chargedIn k (d .node) (drop (d .came) s)) (room-enough n s o (w .held))
+    (in-room k (d .node) (drop (d .came) s) (drop-octets (d .came) s o) (first-whole n s o w))))
+    (λ e. rw e (λ z. omega arith))
+
+-- after a file of octets the node is sound
+pub charged-kept : (n : Node) (s : List ℕ) → Octets s → Whole n → Whole (charged n s .node)
+unfolding charged
+charged-kept n s o w = in-kept (length s) n s o w
+
+-- and 11 is no answer of it
+pub charged-not-11 : (n : Node) (s : List ℕ) → Octets s → Whole n → charged n s .answer ≡ 11 → ⊥
+unfolding charged
+charged-not-11 n s o w = in-room (length s) n s o w

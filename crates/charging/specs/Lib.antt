@@ -1,0 +1,4 @@
+pub mod Done
+pub mod File
+pub mod Window
+pub mod Turns
