@@ -7,5 +7,6 @@ use Rattle.node.specs.declared.Node.{Node}
 use Rattle.host.specs.Begin.{Begins}
 
 -- the answer, the node and the line
-pub begins-fixes : {s : List ℕ} {a₁ a₂ l₁ l₂ : ℕ} {n₁ n₂ : Node} → Begins s a₁ n₁ l₁ → Begins s a₂ n₂ l₂ → _≡_ {A = ℕ × (Node × ℕ)} (a₁, (n₁, l₁)) (a₂, (n₂, l₂))
+pub begins-fixes : {s : List ℕ} {a₁ a₂ l₁ l₂ : ℕ} {n₁ n₂ : Node} → Begins s a₁ n₁ l₁ → Begins s a₂ n₂ l₂
+    → _≡_ {A = ℕ × (Node × ℕ)} (a₁, (n₁, l₁)) (a₂, (n₂, l₂))
 begins-fixes p q = p .is ∙ sym (q .is)

@@ -66,7 +66,8 @@ module _ (n : Node) (t : ℕ) (w : L.Said (Unit {0}) Name Brought Message) (b : 
   outs-many m s l p =
       outs-refused n t w b (laterRows n t w b) 7 (rw (le-ltb latest t m, le-ltb t (n .clock) s, le-leb mostAccepted (n .accepted) l)) (λ i. omega arith) p q u
 
-pub outs-timely : (n : Node) (t : ℕ) (w : L.Said (Unit {0}) Name Brought Message) (b : List ℕ) {b′ : List ℕ} {a k : ℕ} {r : Node} → t ≤ latest → n .clock ≤ t → n .accepted < mostAccepted
+pub outs-timely : (n : Node) (t : ℕ) (w : L.Said (Unit {0}) Name Brought Message) (b : List ℕ) {b′ : List ℕ} {a k : ℕ} {r : Node}
+    → t ≤ latest → n .clock ≤ t → n .accepted < mostAccepted
     → Outs (tableRows n t w b) n t w b b′ a r k → Outs (laterRows n t w b) n t w b b′ a r k
 unfolding laterRows firstFit
 outs-timely n t w b {b′} m s f o =

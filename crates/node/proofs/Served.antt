@@ -74,7 +74,8 @@ module _ (n : Node) (from to t : ℕ) (h : Message) (b : List ℕ) where
 -- ---- what the call answers then
 
 -- what a call answers by some rows of the table
-pub record Outs (rs : List Row) (n : Node) (t : ℕ) (w : Said (Unit {0}) Name Brought Message) (b b′ : List ℕ) (answer : ℕ) (n′ : Node) (written : ℕ) : Type 0 where
+pub record Outs (rs : List Row) (n : Node) (t : ℕ) (w : Said (Unit {0}) Name Brought Message) (b b′ : List ℕ) (answer : ℕ) (n′ : Node)
+    (written : ℕ) : Type 0 where
   pub is : _≡_ {A = ℕ × (Node × (ℕ × List ℕ))} (answer, (n′, (written, b′))) (outcome (firstFit rs) n t w b)
 
 module _ (n : Node) (t : ℕ) (w : Said (Unit {0}) Name Brought Message) (b : List ℕ) where
@@ -104,7 +105,8 @@ module _ (n : Node) (t : ℕ) (w : Said (Unit {0}) Name Brought Message) (b : Li
       let v : m ≡ nodeAfter n t w = q ∙ ap (λ (l : List Context). advanced n t l) e in
       record { is = rw (fits-none ad l) (λ i. (p i, (v i, (r i, u i)))) }
 
-  outs-served : Admitted → (from to : ℕ) (h : Message) → map stood (slotsAfter (handling (n .profile)) tt t w (slots n)) ≡ across from to (slotNext (n .profile) t h) (n .contexts)
+  outs-served : Admitted → (from to : ℕ) (h : Message)
+      → map stood (slotsAfter (handling (n .profile)) tt t w (slots n)) ≡ across from to (slotNext (n .profile) t h) (n .contexts)
       → output n t w ≡ along from to (slotOut (n .profile) t h) (n .contexts)
       → {b′ : List ℕ} {a k : ℕ} {m : Node} → Serves n from to t h b b′ a m k → Outs (tableRows n t w b) n t w b b′ a m k
   unfolding servedOf

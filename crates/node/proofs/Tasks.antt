@@ -126,7 +126,8 @@ module _ (n : Node) (s b : List ℕ) (z : All Shaped (n .contexts)) (whole : len
     abbrev names : List Slot
     names = map slotOf (n .contexts)
 
-    module _ (w : Said (Unit {0}) Name Brought Message) (conv : (b′ : List ℕ) (a k : ℕ) (r : Node) → Outs (tableRows n t w b) n t w b b′ a r k → Steps n s b b′ a r k) where
+    module _ (w : Said (Unit {0}) Name Brought Message)
+        (conv : (b′ : List ℕ) (a k : ℕ) (r : Node) → Outs (tableRows n t w b) n t w b b′ a r k → Steps n s b b′ a r k) where
       tell-task : (m : Name) (h : Message) → w ≡ tells m h → (f : Found) → firstFrom (bears m) 0 names ≡ f → Tasked n s b (oneAt t h f)
       unfolding doneBy
       tell-task m h e (At i) q =
@@ -214,7 +215,8 @@ module _ (n : Node) (s b : List ℕ) where
   unfolding doneBy
   steps-refused {j} {a} {k} {m} x p q r = let y : _≡_ {A = ℕ × (Node × (ℕ × List ℕ))} (a, (m, (k, b))) (j, (n, (0, b))) = (λ i. (p i, (q i, (r i, b)))) in record { is = y ∙ sym (x .done) }
 
-  pub steps-one : {i t : ℕ} {h : Message} (d : Context) → length (n .contexts) ≡ 16 → {b′ : List ℕ} {a k a′ k′ : ℕ} {c : Context} {m : Node} → Tasked n s b (K.One i t h)
+  pub steps-one : {i t : ℕ} {h : Message} (d : Context) → length (n .contexts) ≡ 16 → {b′ : List ℕ} {a k a′ k′ : ℕ} {c : Context} {m : Node}
+      → Tasked n s b (K.One i t h)
       → Tries (n .profile) t h (getD (n .contexts) i d) b b′ a c k
       → (a′ ≡ a) × ((m ≡ cond (eqb a 0) (advanced n t (set (n .contexts) i c)) n) × (k′ ≡ cond (eqb a 0) k 0)) → Steps n s b b′ a′ m k′
   unfolding doneBy

@@ -206,7 +206,8 @@ module _ (p : Profile) (n : Name) (h : History Force Heard) (t : ℕ) where
   counted u d = rw (take-padded held) (omega (arith, volumes p (stretches R past), every-open R up h, every-open R down h))
 
   -- the closing conditions
-  closes-qos : (q : Qos) (b : Bool) → sameQos (inForce R h .qos) q ≡ b → closing (p .limits) (stands (inForce R h)) t (N.Qos q) ≡ causeFor R past t (Heard.qos q)
+  closes-qos : (q : Qos) (b : Bool) → sameQos (inForce R h .qos) q ≡ b → closing (p .limits) (stands (inForce R h)) t (N.Qos q)
+      ≡ causeFor R past t (Heard.qos q)
   unfolding closing reached
   closes-qos q true e = rw (inForce-open R h, e)
   closes-qos q false e = rw (inForce-open R h, e, add-one)

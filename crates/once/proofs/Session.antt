@@ -119,7 +119,8 @@ calls = call activate ∷ call traffic ∷ call (released 0) ∷ []
 
 pub session-run : (log (machine wrote) (freshNode session) calls ≡ short) × (outputs (freshNode session) calls ≡ 0xC3 ∷ 0x5A ∷ printed)
 unfolding activate traffic released printed spelt octetsFrom numberIn fillTo noContainers
-    step.stepOf step.outcome step.refusals step.notActive step.isActive step.allTaken step.output step.recordsOf step.octetsOf step.markedOctets step.nodeAfter step.activated
+    step.stepOf step.outcome step.refusals step.notActive step.isActive step.allTaken step.output step.recordsOf step.octetsOf step.markedOctets
+    step.nodeAfter step.activated
     firstFit rows.marked known measured wholeLength fields.fieldsOk activateOk eventOf
     imsiOk halves leading allF qosOk allOf apnChar release nodeChar
     sound profileOk limitsOk nodeOk apnOk stampOk distinct slots.isActive isFree bears noneBears sameName

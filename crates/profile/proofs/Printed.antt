@@ -25,7 +25,9 @@ badly n f = record { line = n; fault = f; profile = noProfile }
 -- ---- "One session, whole"
 
 pub session-read : readOf sessionText ≡ record { line = 0; fault = None; profile = session }
-unfolding readOf readBy firstBad badFrom3 orBad orElse unless addressLine numberLine offsetLine nodeLine valueFault headFault tailOf valueOf oneSpace nodeSpace has upTo past begins numberFault padded digit allOf numeral atMost addressOk octetOk minus westFault offsetFault profileOf limitsOf addressOf octetOf zoneOf east west nodeOctets
+unfolding readOf readBy firstBad badFrom3 orBad orElse unless addressLine numberLine offsetLine nodeLine valueFault headFault tailOf valueOf
+    oneSpace nodeSpace has upTo past begins numberFault padded digit allOf numeral atMost addressOk octetOk minus westFault offsetFault
+    profileOf limitsOf addressOf octetOf zoneOf east west nodeOctets
 session-read = refl
 
 pub session-text : textOf session ≡ sessionText
@@ -73,7 +75,8 @@ pub record Faults : Type 0 where
   pub octet-leading-zero : readOf ((sgsnName ++ 0x20 ∷ 0x31 ∷ 0x30 ∷ 0x2E ∷ 0x30 ∷ 0x2E ∷ 0x30 ∷ 0x2E ∷ 0x30 ∷ 0x31 ∷ 10 ∷ []) ++ line2 ++ line3 ++ line4 ++ line5 ++ line6) ≡ badly 1 Address
 
 pub faults : Faults
-unfolding readOf readBy firstBad badFrom3 orBad orElse unless addressLine numberLine offsetLine nodeLine valueFault headFault tailOf valueOf oneSpace nodeSpace has upTo past begins numberFault padded digit allOf numeral atMost addressOk octetOk minus westFault offsetFault
+unfolding readOf readBy firstBad badFrom3 orBad orElse unless addressLine numberLine offsetLine nodeLine valueFault headFault tailOf valueOf
+    oneSpace nodeSpace has upTo past begins numberFault padded digit allOf numeral atMost addressOk octetOk minus westFault offsetFault
 faults =
     record {
       nothing = refl;
