@@ -20,7 +20,7 @@ use Rattle.history.specs.Lists.{All}
 use Rattle.history.specs.Log.{Said, activates, tells, tellsAll, nothing}
 use Rattle.history.specs.Table.{slot, slotsWrite, hears}
 use Rattle.node.specs.declared.Node.{Node}
-use Rattle.node.specs.declared.Heard.{Heard}
+use Rattle.node.specs.declared.Message.{Message}
 use Rattle.node.specs.Sound.{sound, latest, mostAccepted}
 use Rattle.node.specs.Hear.{closing, hearWith, hear}
 use Rattle.node.specs.Step.{
@@ -53,17 +53,17 @@ use Rattle.charging.proofs.Cuts.{drop-octets}
 
 -- ---- what an event writes at most: a record a slot
 
-with-few : (p : Profile) (c : Context) (t : ℕ) (h : Heard) (o : Option ℕ) → length (hearWith p c t h o .out) ≤ 1
+with-few : (p : Profile) (c : Context) (t : ℕ) (h : Message) (o : Option ℕ) → length (hearWith p c t h o .out) ≤ 1
 unfolding hearWith
 with-few p c t h none = omega arith
 with-few p c t h (some cause) = omega arith
 
-hear-few : (p : Profile) (c : Context) (t : ℕ) (h : Heard) → length (hear p c t h .out) ≤ 1
+hear-few : (p : Profile) (c : Context) (t : ℕ) (h : Message) → length (hear p c t h .out) ≤ 1
 unfolding hear
 hear-few p c t h = with-few p c t h (closing (p .limits) c t h)
 
-module _ (p : Profile) (t : ℕ) (w : Said (Unit {0}) Name Brought Heard) where
-  listen-few : (c : Context) (o : Option Heard) → hears (handling p) (c .name) w ≡ o → length (slot (handling p) tt t w (some c) .out) ≤ 1
+module _ (p : Profile) (t : ℕ) (w : Said (Unit {0}) Name Brought Message) where
+  listen-few : (c : Context) (o : Option Message) → hears (handling p) (c .name) w ≡ o → length (slot (handling p) tt t w (some c) .out) ≤ 1
   listen-few c none e = rw e (omega arith)
   listen-few c (some h) e = rw e (hear-few p c t h)
 
@@ -76,7 +76,7 @@ module _ (p : Profile) (t : ℕ) (w : Said (Unit {0}) Name Brought Heard) where
   slots-few (o ∷ os) =
       omega (arith, length-append (slot (handling p) tt t w o .out) (slotsWrite (handling p) tt t w os), slot-few o, slots-few os)
 
-records-few : (n : Node) (t : ℕ) (w : Said (Unit {0}) Name Brought Heard) → length (recordsOf n t w) ≤ length (slots n)
+records-few : (n : Node) (t : ℕ) (w : Said (Unit {0}) Name Brought Message) → length (recordsOf n t w) ≤ length (slots n)
 unfolding recordsOf
 records-few n t (activates m b) = omega arith
 records-few n t (tells m h) = slots-few (n .profile) t (tells m h) (slots n)
