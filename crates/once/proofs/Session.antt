@@ -12,9 +12,9 @@ use Rattle.ber.specs.Imsi.{halves, leading, allF, imsiOk, imsiEnc}
 use Rattle.calendar.specs.Month.{monthLen, seek, monthDay}
 use Rattle.calendar.specs.Stamp.{stampOk, stampEnc}
 use Rattle.container.specs.declared.Container.{Container}
-use Rattle.container.specs.Qos.{sameQos, qosOk}
-use Rattle.container.specs.Container.{isNew, told}
-use Rattle.container.specs.List.{noContainers, eachOk, oneOffset, isBlank, blanks}
+use Rattle.container.specs.Qos.{sameQos, qosOk, qos}
+use Rattle.container.specs.Container.{isNew, told, container}
+use Rattle.container.specs.List.{containers, noContainers, eachOk, oneOffset, isBlank, blanks}
 use Rattle.container.specs.Open.{midway, timesTo, qosRun, openOk, volumeOf}
 use Rattle.scdr.specs.declared.Record as scdr
 use Rattle.scdr.specs.Layout.{fillTo}
@@ -127,4 +127,5 @@ unfolding activate traffic released printed spelt octetsFrom numberIn fillTo noC
     context.fieldsOk unusedOk closedOk countOk containersOk volumeOk contextOk zeroOk slotOk slotsOk openOk eachOk midway oneOffset timesTo qosRun volumeOf isBlank blanks sameQos
     reported qosAfter changeOf closing opened numberFor recordOf goesOn closedBy afterClosing hearWith hear
     layout.scdr layout.inside layout.body layout.ofRecord layout.fieldsOf duration lastTime tlvEnc lenEnc intEnc lowest imsiEnc stampEnc monthDay seek monthLen isNew told
+    containers container qos
 session-run = (refl, eqs-eq (outputs (freshNode session) calls) (0xC3 ∷ 0x5A ∷ printed) tt)
