@@ -65,7 +65,7 @@ returns-3 : tie.Need-returns-3
 returns-3 c =
     let l = c .before .before in
     let d = l .before .before .before in
-    read-day (read l) (d .before .before .month-named .ensures .same) (d .days-of .ensures .count) (place l) (c .if3 .taken)
+    read-day (read l) (d .before .before .month-named .ensures .same) (d .days-of .ensures .count) (place l) (omega arith)
 
 shared-slice-read-second-of : tie.Need-shared-slice-read-second-of
 shared-slice-read-second-of c = search needs
