@@ -10,7 +10,7 @@ use native.Mathlib.Omega.{arith}
 use lib.ListN.{length}
 use Rattle.history.specs.Lists.{each, sumOf, ifAny, isSome, orElse, count}
 use Rattle.history.specs.History.{History, start, _▸_∶_, events, began, beganWith, total}
-use Rattle.history.specs.Records.{Rules, Stretch, Record, whole, entire, orAnew, number, inForce, changes, causeFor, sinceOpening, closes, condition, cuts, running, stretchesAt, stretches, closings, recordsAt, records, ended, leaves}
+use Rattle.history.specs.Records.{Rules, Stretch, Record, whole, entire, orAnew, number, inForce, changes, causeFor, sinceOpening, closes, condition, cuts, running, stretchesAt, stretches, closings, recordAt, recordsAt, records, ended, leaves}
 use Rattle.history.specs.Demand.{upTo, numbers, ClosesNow}
 use Rattle.history.proofs.Lists.{each-append, map-append, sumOf-append, length-ifAny, append-cancel}
 
@@ -184,14 +184,7 @@ module _ {S E : Type 0} (R : Rules S E) where
     (λ c. exactly-at (closes R h t e) (number (closings R h) (isSome (R .release e))) (sinceOpening R h) t e (stretches R (sinceOpening R h ▸ t ∶ e)) cause (c .closed)
         (append-cancel (records R h) (recordsAt R h t e) (c .closed ∷ []) (c .added)) (c .for)),
     (λ p. record {
-      closed = record {
-        number = number (closings R h) (isSome (R .release e));
-        cause = cause;
-        past = sinceOpening R h;
-        time = t;
-        event = e;
-        stretches = stretches R (sinceOpening R h ▸ t ∶ e);
-      };
+      closed = recordAt R h t e cause;
       added = rw p;
       for = refl;
     }),
@@ -245,7 +238,7 @@ module _ {S E : Type 0} (R : Rules S E) where
       event = e;
       stretches = stretches R (sinceOpening R h) ++ (cut (R .last (R .change (inForce R h) e)) ∷ []);
     } ∷ []
-    records-closing c p = rw (stretchesAt-open h, p)
+    records-closing c p = rw (p, stretchesAt-open h, p)
 
     -- it does not close
     pub records-none : closes R h t e ≡ none → recordsAt R h t e ≡ []

@@ -9,7 +9,7 @@ use native.Mathlib.Omega.{arith}
 use Rattle.history.specs.Lists.{each, All, ifAny, isSome, NotFalling}
 use Rattle.history.specs.History.{History, start, _▸_∶_, collect, events, began, beganWith, latest, InOrder}
 use Rattle.history.specs.Records.{Rules, Stretch, Record, whole, entire, orAnew, number, inForce, sinceOpening, closes, cuts, running}
-use Rattle.history.specs.Records.{stretchesAt, stretches, closings, recordsAt, records}
+use Rattle.history.specs.Records.{stretchesAt, stretches, closings, recordAt, recordsAt, records}
 use Rattle.history.specs.Demand.{OnceEach, InTime, Unchanged}
 use Rattle.history.proofs.Lists.{each-append, map-append, all-append, notFalling-append}
 use Rattle.history.proofs.Records.{inForce-open, inForce-running, open-open, read, all, every, Proper, numbered, opened, opened-with, changed, exactly}
@@ -20,17 +20,6 @@ module _ {S E : Type 0} (R : Rules S E) where
   all-ifAny : {A : Type 0} (P : A → Type 0) (o : Option ℕ) (f : ℕ → A) → ((k : ℕ) → o ≡ some k → P (f k)) → All P (ifAny o f)
   all-ifAny P none f holds = tt
   all-ifAny P (some k) f holds = (holds k refl, tt)
-
-  -- the record that e closes, heard at t right after h, with this cause
-  abbrev pub closed : History S E → ℕ → E → ℕ → Record S E
-  closed h t e c = record {
-    number = number (closings R h) (isSome (R .release e));
-    cause = c;
-    past = sinceOpening R h;
-    time = t;
-    event = e;
-    stretches = stretches R (sinceOpening R h ▸ t ∶ e);
-  }
 
   -- Q is what the history has all along.
   module _ (Q : History S E → Type 0) (earlier : (h : History S E) (t : ℕ) (e : E) → Q (h ▸ t ∶ e) → Q h) where
@@ -47,11 +36,11 @@ module _ {S E : Type 0} (R : Rules S E) where
         (λ h t e q. all-ifAny P (cuts R h t e) (λ k. record { ran = running R h; time = t; event = e; condition = k }) (λ k p. holds h t e k q))
 
     pub all-records-while : (P : Record S E → Type 0)
-        → ((h : History S E) (t : ℕ) (e : E) (c : ℕ) → Q (h ▸ t ∶ e) → closes R h t e ≡ some c → P (closed h t e c))
+        → ((h : History S E) (t : ℕ) (e : E) (c : ℕ) → Q (h ▸ t ∶ e) → closes R h t e ≡ some c → P (recordAt R h t e c))
         → (h : History S E) → Q h → All P (records R h)
-    all-records-while P holds = all-collect P (recordsAt R) (λ h t e q. all-ifAny P (closes R h t e) (closed h t e) (λ c p. holds h t e c q p))
+    all-records-while P holds = all-collect P (recordsAt R) (λ h t e q. all-ifAny P (closes R h t e) (recordAt R h t e) (λ c p. holds h t e c q p))
 
-  pub all-records : (P : Record S E → Type 0) → ((h : History S E) (t : ℕ) (e : E) (c : ℕ) → closes R h t e ≡ some c → P (closed h t e c))
+  pub all-records : (P : Record S E → Type 0) → ((h : History S E) (t : ℕ) (e : E) (c : ℕ) → closes R h t e ≡ some c → P (recordAt R h t e c))
       → (h : History S E) → All P (records R h)
   all-records P holds h = all-records-while (λ h. Unit {0}) (λ h t e q. tt) P (λ h t e c q p. holds h t e c p) h tt
 

@@ -108,16 +108,20 @@ module _ {S E : Type 0} (R : Rules S E) where
   closings (start t s) = 0
   closings (h ▸ t ∶ e) = count (closes h t e) (closings h)
 
-  -- The closed records: one for each event that closes, with the stretches that its own past makes.
-  abbrev pub recordsAt : History S E → ℕ → E → List (Record S E)
-  recordsAt h t e = ifAny (closes h t e) (λ cause. record {
+  -- The record that e closes with this cause, heard at t right after h, with the stretches that its own past makes.
+  abbrev pub recordAt : History S E → ℕ → E → ℕ → Record S E
+  recordAt h t e cause = record {
     number = number (closings h) (isSome (R .release e));
     cause = cause;
     past = sinceOpening h;
     time = t;
     event = e;
     stretches = stretches (sinceOpening h ▸ t ∶ e);
-  })
+  }
+
+  -- The closed records: one for each event that closes.
+  abbrev pub recordsAt : History S E → ℕ → E → List (Record S E)
+  recordsAt h t e = ifAny (closes h t e) (recordAt h t e)
 
   abbrev pub records : History S E → List (Record S E)
   records h = collect recordsAt h

@@ -11,13 +11,12 @@ use Rattle.profile.specs.declared.Profile.{Profile}
 use Rattle.event.specs.declared.Name.{Name}
 use Rattle.event.specs.Fields.{timeOf}
 use Rattle.history.specs.History.{History}
-use Rattle.history.specs.Records.{Rules, Record, recordsAt, sinceOpening, closes}
+use Rattle.history.specs.Records.{Rules, Record, sinceOpening, closes, recordAt, recordsAt}
 use Rattle.history.specs.Log.{Accepted, heard}
 use Rattle.history.specs.Run.{run, log}
 use Rattle.history.specs.Demand.{under}
 use Rattle.history.specs.Calls.{openOne, closesIn, OneCall}
 use Rattle.history.proofs.Lists.{each-one}
-use Rattle.history.proofs.Whole as whole
 use Rattle.node.specs.declared.Node.{Node}
 use Rattle.node.specs.Sound.{freshNode}
 use Rattle.node.specs.Run.{Call, after}
@@ -72,7 +71,7 @@ module _ (p : Profile) (calls : List Call) (c : Call)
         rw (each-one (wrote n c)) at (o (rw z))
 
     made : (h : History Force Heard) (e : Heard) (k : ℕ) → closes R h t e ≡ some k
-        → map (recordFrom p name) (recordsAt R h t e) ≡ recordFrom p name (whole.closed R h t e k) ∷ []
+        → map (recordFrom p name) (recordsAt R h t e) ≡ recordFrom p name (recordAt R h t e k) ∷ []
     made h e k q = rw q
 
     -- a record is written: by the open history, by what it hears, by what that closes
@@ -107,7 +106,7 @@ module _ (p : Profile) (calls : List Call) (c : Call)
       written-so z =
           let k = holds-so (p .limits) (sinceOpening R (z .history)) t (z .event) cause (z .condition) in
           record {
-            sole = recordFrom p name (whole.closed R (z .history) t (z .event) cause);
+            sole = recordFrom p name (recordAt R (z .history) t (z .event) cause);
             alone = accepted (z .accepted) ∙ rw (z .is-open, z .hears) (made (z .history) (z .event) cause k);
             for = refl;
           }
