@@ -2,12 +2,12 @@
 //
 //     charge PROFILE EVENTS
 //
-// The events of a file are run from a fresh node, each on the node that the last one handed back, up to the first that is refused. The
-// record list goes to standard output, what was done and what is wrong to standard error (docs/FORMATS.md).
+// The events of a file are charged from a fresh node, one after another, up to the first that is refused (charging::charge, on what is in the
+// window; a file that is cut into windows gives what the whole gives). The record list goes to standard output, what was done and what is
+// wrong to standard error (docs/FORMATS.md).
 //
 // No contract can say what is read or written: each function is proved safe and ending.
 mod count;
-mod events;
 mod said;
 
 use libc::STDERR_FILENO;
@@ -15,6 +15,7 @@ use libc::STDOUT_FILENO;
 use node::Node;
 use said::Tally;
 use std::num::wrapping_add_u64;
+use std::num::wrapping_sub_u64;
 use window::Place;
 
 // The node that the last event handed back; where the next event lies; whether the file has ended there or in the window; what was
@@ -34,38 +35,58 @@ fn stopped(s: State) -> State {
     t
 }
 
-// The tally with what one event more wrote.
-fn told(t: Tally, written: &[u8]) -> Tally {
+// The tally with some events more, and what they wrote.
+fn told(t: Tally, events: usize, written: &[u8]) -> Tally {
     Tally {
-        events: wrapping_add_u64(t.events, 1),
+        events: wrapping_add_u64(t.events, events as u64),
         records: wrapping_add_u64(t.records, count::records_in(written)),
         octets: wrapping_add_u64(t.octets, written.len() as u64),
     }
 }
 
-// One event. Its records go out before the next event is looked at.
-fn called(s: State, event: &[u8], out: &mut [u8]) -> State {
-    let before = s.node;
-    let place = s.place;
-    let tally = s.tally;
-    let number = wrapping_add_u64(tally.events, 1);
-    let r = node::step::step(before, event, out);
-    if r.answer != 0 {
-        said::write_refused(r.answer, number, place.offset);
-        return stopped(s);
+// The tally without the last event, whose records could not be written. Those before it wrote nothing.
+fn untold(t: Tally, events: usize) -> Tally {
+    Tally {
+        events: wrapping_sub_u64(wrapping_add_u64(t.events, events as u64), 1),
+        records: t.records,
+        octets: t.octets,
     }
+}
+
+// The events in hand. The buffer has room for what one event can write, and no more: so where an event writes, its records go out before
+// the next is looked at.
+fn called(s: State, hand: &[u8], out: &mut [u8]) -> State {
+    let before = s.node;
+    let from = s.place;
+    let tally = s.tally;
+    let r = charging::charge(before, hand, s.ended, out);
+    let node = r.node;
+    let place = window::after(from, r.came);
     let written = window::front(out, r.written);
     if !io::write_all(STDOUT_FILENO, written) {
-        said::write_unwritten(number, place.offset);
-        return stopped(s);
+        let without = untold(tally, r.events);
+        said::write_unwritten(
+            wrapping_add_u64(without.events, 1),
+            wrapping_sub_u64(place.offset, r.last as u64),
+        );
+        return State {
+            node,
+            place,
+            ended: s.ended,
+            tally: without,
+            going: false,
+        };
     }
-    let node = r.node;
+    let with = told(tally, r.events, written);
+    if r.answer != 0 {
+        said::write_refused(r.answer, wrapping_add_u64(with.events, 1), place.offset);
+    }
     State {
         node,
-        place: window::after(place, event.len()),
+        place,
         ended: s.ended,
-        tally: told(tally, written),
-        going: true,
+        tally: with,
+        going: r.answer == 0,
     }
 }
 
@@ -89,7 +110,7 @@ fn read_on(fd: i32, s: State, held: &mut [u8]) -> State {
     }
 }
 
-// One event, or more of the file, or the end.
+// The events in hand, or more of the file, or the end.
 fn turn(fd: i32, s: State, held: &mut [u8; 4096], out: &mut [u8; 16416]) -> State {
     let p = s.place;
     let here = window::left(p);
@@ -101,11 +122,10 @@ fn turn(fd: i32, s: State, held: &mut [u8; 4096], out: &mut [u8; 16416]) -> Stat
     if here == 0 {
         return stopped(s);
     }
-    called(s, events::next(held, p), out)
+    called(s, window::part(held, p.at, p.end), out)
 }
 
-// A proved loop has to end, and nothing says that a file does. So it counts its turns down, from a number that no run uses up. The buffer
-// has room for 16 records of 1,024 octets with their marks, which is more than an event can write.
+// A proved loop has to end, and nothing says that a file does. So it counts its turns down, from a number that no run uses up.
 fn run(fd: i32, node: Node) -> Tally {
     let mut held = io::buffer();
     let mut out = [0u8; 16416];

@@ -1,5 +1,5 @@
--- A file of events charged: "one event at a time; after each the records it closed are written" (01), each event on the node that the last one
--- handed back, up to the first that is refused or the file's end.
+-- A file of events charged: "a file of events one after another, writes the record list and stops at the first refusal" (01). Each event is
+-- taken by the node that the last one handed back.
 use mathlib.Core.Bool.{cond}
 use mathlib.Core.List.{List, []}
 use Prim.Native.Nat.{ℕ, zero, suc}
@@ -14,7 +14,7 @@ use Rattle.charging.specs.Done.{Done, nothing, andThen}
 abbrev pub nextEvent : List ℕ → List ℕ
 nextEvent s = take (nextLength s) s
 
--- room for what one event can write: 16 records of 1,024 octets, each after its mark (`room-enough`: it always is)
+-- room for what one event can write: 16 records of 1,024 octets, each after its mark (that it is enough is a theorem, `room-enough`)
 unfoldable pub roomy : List ℕ
 roomy = replicate 16416 0
 

@@ -1,10 +1,14 @@
 // Characters on their way to standard output: they wait in a buffer, which is written where it is full, and at the end.
 //
-// No contract can say what is written: each function is proved safe and ending. Each puts something behind the characters that wait, and answers how many wait then: 4097 once a write has failed.
+// No contract can say what is written: of one character it says what waits then, as the write went; each other function is proved safe and ending.
+// Each puts something behind the characters that wait, and answers how many wait then: 4097 once a write has failed.
 use libc::STDOUT_FILENO;
+ghost use Rattle.out.specs.Put.{PutsOne};
 
 // One character.
-pub fn put(text: &mut [u8; 4096], waiting: usize, x: u8) -> usize {
+pub fn put(text: &mut [u8; 4096], waiting: usize, x: u8) -> usize
+    ensures { λ r. ⌜ PutsOne (now (text .entry)) waiting x (now (text .exit)) r ⌝ }
+{
     if waiting < 4096 {
         text[waiting] = x;
         return waiting + 1;

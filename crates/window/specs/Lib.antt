@@ -1,1 +1,4 @@
 pub mod Part
+pub mod Moved
+pub mod Fill
+pub mod Private

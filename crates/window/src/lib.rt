@@ -1,12 +1,15 @@
 // A file seen through a window: octets that are held, of which some are left to look at, and more read behind them.
 //
-// What lies there is for the program to say. `fill` reads, so no contract can say what comes of it.
+// What lies there is for the program to say. `fill` reads, so no contract can say what comes behind what was left.
 use std::num::wrapping_add_u64;
 use std::num::wrapping_add_usize;
 ghost use mathlib.Core.Path.{_≡_};
 ghost use Prim.Native.Nat.{_+_, _-_, _%_, _^_};
 ghost use lib.ListN.{take};
 ghost use Rattle.window.specs.Part.{partOf};
+ghost use Rattle.window.specs.Moved.{Moves};
+ghost use Rattle.window.specs.Fill.{Fills};
+ghost use Rattle.window.specs.Private.Again.{againOf};
 
 // Where the next thing lies: in the window from `at` on, where octets of the file stand up to `end`; in the file after `offset` octets.
 pub struct Place {
@@ -67,7 +70,9 @@ pub fn after(p: Place, n: usize) -> Place
 }
 
 // The octet at one place, at another too.
-fn again(window: &mut [u8], from: usize, to: usize) {
+fn again(window: &mut [u8], from: usize, to: usize)
+    ensures { λ _. ⌜ now (window .exit) ≡ againOf from to (now (window .entry)) ⌝ }
+{
     if from < window.len() {
         if to < window.len() {
             window[to] = window[from];
@@ -76,7 +81,9 @@ fn again(window: &mut [u8], from: usize, to: usize) {
 }
 
 // Moves what is left to the front of the window.
-fn to_front(window: &mut [u8], p: Place) -> Place {
+fn to_front(window: &mut [u8], p: Place) -> Place
+    ensures { λ r. ⌜ Moves (now (window .entry)) (now (window .exit)) p r ⌝ }
+{
     let n = left(p);
     let mut i: usize = 0;
     while i < n {
@@ -91,7 +98,9 @@ fn to_front(window: &mut [u8], p: Place) -> Place {
 }
 
 // Reads on, behind what is left.
-pub fn fill(fd: i32, window: &mut [u8], p: Place) -> Filled {
+pub fn fill(fd: i32, window: &mut [u8], p: Place) -> Filled
+    ensures { λ r. ⌜ Fills (now (window .entry)) (now (window .exit)) p r ⌝ }
+{
     let q = to_front(window, p);
     let n = q.end;
     if window.len() <= n {
