@@ -17,7 +17,7 @@ use Rattle.event.proofs.Framed.{next-within, next-some}
 use Rattle.history.specs.Lists.{All}
 use Rattle.node.specs.declared.Node.{Node}
 use Rattle.node.specs.Sound.{sound}
-use Rattle.node.specs.Step.{saidOf, laterRows, refusals, stepOf}
+use Rattle.node.specs.Step.{saidOf, refusals, stepOf}
 use Rattle.node.specs.Held.{Octets}
 use Rattle.node.proofs.Demands.{refused}
 use Rattle.charging.specs.Done.{Done, nothing}
@@ -81,7 +81,7 @@ strange : Node → Bool → ℕ
 strange n m = cond (not (sound n)) 13 (cond (not m) 2 3)
 
 strange-fit : (n : Node) (s b : List ℕ) → 7 ≤ length s → known s ≡ false → firstFit (refusals n s b) ≡ strange n (marked s)
-unfolding refusals rows firstFit strange
+unfolding refusals firstFit strange
 strange-fit n s b h k = rw (le-ltb (length s) 7 h, k)
 
 strange-some : (n : Node) (m : Bool) → strange n m ≡ 0 → ⊥

@@ -35,8 +35,6 @@ use Rattle.node.specs.Step.{
   notActive,
   isActive,
   allTaken,
-  tableRows,
-  laterRows,
   saidOf,
   refusals,
   stepOf,
@@ -122,7 +120,7 @@ module _ (n : Node) (s : List ℕ) where
   x = output n (timeOf s) (saidOf s)
 
   all-rows : (b : List ℕ) → refusals n s b ≡ early ++ (row 11 (ltb (length b) (length x)) ∷ [])
-  unfolding refusals rows laterRows tableRows early
+  unfolding refusals early
   all-rows b = refl
 
   others : Other 11 early

@@ -10,7 +10,7 @@ use Rattle.event.specs.Fields.{timeOf}
 use Rattle.event.specs.Rows.{firstFit}
 use Rattle.event.specs.Framing.{nextLength}
 use Rattle.node.specs.declared.Node.{Node}
-use Rattle.node.specs.Step.{saidOf, nodeAfter, output, tableRows, laterRows, refusals, stepOf, Steps}
+use Rattle.node.specs.Step.{saidOf, nodeAfter, output, refusals, stepOf, Steps}
 use Rattle.node.proofs.Demands.{answered, refused, accepted}
 use Rattle.node.proofs.Sounded.{accepts}
 use Rattle.charging.specs.Done.{Done}
@@ -47,7 +47,7 @@ module _ (n : Node) (s b : List ℕ) (size : length b ≡ 16416) where
 
   -- the room alone decides
   same-rows : refusals n e b ≡ refusals n e roomy
-  unfolding refusals laterRows tableRows
+  unfolding refusals
   same-rows = rw (size, room-size)
 
   same-fit : firstFit (refusals n e b) ≡ firstFit (refusals n e roomy)
