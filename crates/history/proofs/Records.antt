@@ -10,8 +10,8 @@ use native.Mathlib.Omega.{arith}
 use lib.ListN.{length}
 use Rattle.history.specs.Lists.{each, sumOf, ifAny, isSome, orElse, count}
 use Rattle.history.specs.History.{History, start, _▸_∶_, events, began, beganWith, total}
-use Rattle.history.specs.Records.{Rules, Stretch, Record, whole, entire, orAnew, number, inForce, changes, causeFor}
-use Rattle.history.specs.Records.{sinceOpening, closes, condition, cuts, running, stretchesAt, stretches, closings, recordAt, recordsAt, records, ended, leaves}
+use Rattle.history.specs.Records.{Rules, Stretch, Record, whole, entire, orAnew, number, inForce, changes, causeFor, sinceOpening}
+use Rattle.history.specs.Records.{closes, condition, cuts, running, stretchesAt, stretches, closings, recordAt, recordsAt, records, ended, leaves}
 use Rattle.history.specs.Demand.{upTo, numbers, ClosesNow}
 use Rattle.history.proofs.Lists.{each-append, map-append, sumOf-append, length-ifAny, append-cancel}
 
