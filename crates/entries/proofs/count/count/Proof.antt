@@ -25,22 +25,29 @@ enum-known-e c = search needs
 
 returns : tie.Need-returns Inv-loop μ-loop
 returns c =
-    counted-end (c .before .before .loop .inv)
-    (other-place (c .before .before .before .before .args .s .now) (c .before .before .loop .at) (c .before .entry-at .result) (c .match .keys2) (c .before .entry-at .ensures))
+    let l = c .before .before .loop in
+    let f = c .before .entry-at in
+    counted-end (l .inv) (other-place (c .before .before .before .before .args .s .now) (l .at) (f .result) (c .match .keys2) (f .ensures))
 
 add-n : tie.Need-add-n Inv-loop μ-loop
 add-n c =
-    let w = found-stands (c .before .before .before .before .before .before .args .s .now) (c .before .before .before .before .loop .at) (c .before .e .given .1) (c .before .before .before .entry-at .ensures) .1 in
-    let i = c .before .before .before .before .loop .inv in
-    omega (arith, w .long, w .inside, i .few)
+    let l = c .before .before .before .before .loop in
+    let s = c .before .before .before .before .before .before .args .s .now in
+    let w = found-stands s (l .at) (c .before .e .given .1) (c .before .before .before .entry-at .ensures) .1 in
+    omega (arith, w .long, w .inside, l .inv .few)
 
 loop-less : tie.Need-loop-less Inv-loop μ-loop
-loop-less c = let w = found-stands (c .before .before .before .before .before .before .args .s .now) (c .before .before .before .before .loop .at) (c .before .e .given .1) (c .before .before .before .entry-at .ensures) .1 in omega (arith, w .long, w .inside)
+loop-less c =
+    let l = c .before .before .before .before .loop in
+    let s = c .before .before .before .before .before .before .args .s .now in
+    let w = found-stands s (l .at) (c .before .e .given .1) (c .before .before .before .entry-at .ensures) .1 in
+    omega (arith, w .long, w .inside)
 
 loop-again : tie.Need-loop-again Inv-loop μ-loop
 loop-again c =
-    counted-more (c .before .before .before .before .loop .inv)
-    (found-place (c .before .before .before .before .before .before .args .s .now) (c .before .before .before .before .loop .at) (c .before .e .given .1) (c .before .before .before .entry-at .ensures))
+    let l = c .before .before .before .before .loop in
+    let s = c .before .before .before .before .before .before .args .s .now in
+    counted-more (l .inv) (found-place s (l .at) (c .before .e .given .1) (c .before .before .before .entry-at .ensures))
 
 pub count-spec : {M : Type 1} → statement M
 count-spec =

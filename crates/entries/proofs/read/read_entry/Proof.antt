@@ -23,7 +23,8 @@ returns : tie.Need-returns
 returns c =
     let a = c .before .before .before .before .before .args in
     let q = c .before .before .before .entry-at .ensures in
-    reads-none (a .s .now) (a .at) q (other-place (a .s .now) (a .at) (c .before .before .before .entry-at .result) (c .before .before .match .keys2) q) (c .with-record .ensures)
+    let e = other-place (a .s .now) (a .at) (c .before .before .before .entry-at .result) (c .before .before .match .keys2) q in
+    reads-none (a .s .now) (a .at) q e (c .with-record .ensures)
 
 sub-with-record : tie.Need-sub-with-record
 sub-with-record c =

@@ -70,16 +70,20 @@ returns-5 c =
 returns-6 : tie.Need-returns-6
 returns-6 c =
     let a = c .before .before .before .before .before .before .before .before .before .before .before .args in
-    let t = sym (c .before .before .before .before .before .before .before .is-tag .ensures) ∙ not-false _ (c .before .before .before .before .before .before .if2 .left) in
+    let b = c .before .before .before .before .before .before in
+    let t = sym (b .before .is-tag .ensures) ∙ not-false _ (b .if2 .left) in
     long-value (a .s .now) (a .from) (a .at) _ _ (c .before .if4 .left) (c .if5 .taken)
-    ∙ tagged (a .s .now) (a .from) (a .at) (omega arith) t (sym (c .before .before .before .n .given .1) ∙ c .before .before .before .before .before .len-at .ensures)
+    ∙ tagged (a .s .now) (a .from) (a .at) (omega arith) t
+    (sym (c .before .before .before .n .given .1) ∙ c .before .before .before .before .before .len-at .ensures)
 
 returns-7 : tie.Need-returns-7
 returns-7 c =
     let a = c .before .before .before .before .before .before .before .before .before .before .before .args in
-    let t = sym (c .before .before .before .before .before .before .before .is-tag .ensures) ∙ not-false _ (c .before .before .before .before .before .before .if2 .left) in
+    let b = c .before .before .before .before .before .before in
+    let t = sym (b .before .is-tag .ensures) ∙ not-false _ (b .if2 .left) in
     cut-value (a .s .now) (a .from) (a .at) _ _ (c .before .if4 .left) (c .if5 .left)
-    ∙ tagged (a .s .now) (a .from) (a .at) (omega arith) t (sym (c .before .before .before .n .given .1) ∙ c .before .before .before .before .before .len-at .ensures)
+    ∙ tagged (a .s .now) (a .from) (a .at) (omega arith) t
+    (sym (c .before .before .before .n .given .1) ∙ c .before .before .before .before .before .len-at .ensures)
 
 pub value-at-spec : {M : Type 1} → statement M
 value-at-spec =
