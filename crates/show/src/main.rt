@@ -8,28 +8,31 @@
 // docs/FORMATS.md has both forms.
 //
 // No contract can say what is read or written: each function is proved safe and ending.
-mod found;
-mod json;
-mod text;
-mod value;
+mod form;
+mod numbers;
+mod record;
 
-use found::Found;
+use entries::Entry;
+use entries::read::ReadEntry;
 use libc::STDERR_FILENO;
+use std::num::wrapping_add_u64;
+use std::num::wrapping_sub_u64;
 use window::Place;
 
 // The longest record with its mark.
 const LONGEST: usize = 1026;
 
-// How the program goes on, or why it stops.
-enum Turn {
-    Going,
-    Done,
-    // the file could not be read; it has been said why
-    Unread,
-    NoMark,
-    Cut,
-    NoRecord,
-}
+// How the program goes on: 0 on and on, 4 not at all; or what is wrong with the next record: 1 no mark stands there, 2 it is cut short, 3 it
+// is no record within the rules.
+const GOING: u64 = 0;
+
+const NO_MARK: u64 = 1;
+
+const CUT: u64 = 2;
+
+const NO_RECORD: u64 = 3;
+
+const OVER: u64 = 4;
 
 // Where the next record lies; how many were shown; how many characters wait to be written; whether the file has been read to its end;
 // and how to go on.
@@ -38,7 +41,7 @@ struct State {
     records: u64,
     waiting: usize,
     ended: bool,
-    turn: Turn,
+    turn: u64,
 }
 
 // Says what failed last, and why.
@@ -48,7 +51,7 @@ fn fail(what: &[u8]) {
 }
 
 // The same state, with another word on how to go on.
-fn turned(s: State, turn: Turn) -> State {
+fn turned(s: State, turn: u64) -> State {
     let place = s.place;
     State {
         place,
@@ -66,74 +69,79 @@ fn read_on(fd: i32, s: State, held: &mut [u8]) -> State {
     let place = f.place;
     if f.got < 0 {
         fail(b"the record list");
-        return turned(s, Turn::Unread);
+        return turned(s, OVER);
     }
     State {
         place,
         records: s.records,
         waiting: s.waiting,
         ended: f.got == 0,
-        turn: Turn::Going,
+        turn: GOING,
     }
 }
 
-// A value after a mark, if it is a record.
-fn show_value(json: bool, s: State, octets: &[u8], text: &mut [u8; 4096]) -> State {
-    let r = scdr::read::read_record(octets);
-    let cdr = r.cdr;
-    let p = s.place;
-    if r.answer != 0 {
-        return turned(s, Turn::NoRecord);
+// How to go on after what was found.
+fn turn_after(e: Entry, answer: u8) -> u64 {
+    match e {
+        Entry::Found(_, _) => {
+            if answer == 0 {
+                return GOING;
+            }
+            NO_RECORD
+        }
+        Entry::End => OVER,
+        Entry::NoMark(_) => NO_MARK,
+        Entry::Cut(_) => CUT,
+        Entry::NoValue(_) => NO_RECORD,
     }
-    let n = octets.len();
-    let number = std::num::wrapping_add_u64(s.records, 1);
-    let waiting = put_record(json, text, s.waiting, cdr, number, p.offset, n);
-    let place = window::after(p, std::num::wrapping_add_usize(n, 2));
+}
+
+// Where the record ends that was found at the front.
+fn end_of(e: Entry) -> usize {
+    if let Entry::Found(_, end) = e { end } else { 0 }
+}
+
+// What lies at the front of the octets that are left: a record and more, or all that is left of the file.
+fn show_one(json: bool, s: State, here: &[u8], text: &mut [u8; 4096]) -> State {
+    let z = entries::read::read_entry(here, 0);
+    let e = z.entry;
+    let turn = turn_after(e, z.answer);
+    if turn != GOING {
+        return turned(s, turn);
+    }
+    show_record(json, s, z, end_of(e), text)
+}
+
+// A record that reads, and where it ends, counted from its mark on.
+fn show_record(json: bool, s: State, z: ReadEntry, end: usize, text: &mut [u8; 4096]) -> State {
+    let p = s.place;
+    let cdr = z.cdr;
+    let which = wrapping_add_u64(s.records, 1);
+    let waiting = record::put_record(
+        text,
+        s.waiting,
+        json,
+        cdr,
+        which,
+        p.offset,
+        wrapping_sub_u64(end as u64, 2),
+    );
+    let place = window::after(p, end);
     State {
         place,
-        records: number,
+        records: which,
         waiting,
         ended: s.ended,
         turn: after_text(waiting),
     }
 }
 
-// In one form or the other.
-fn put_record(
-    json: bool,
-    text: &mut [u8; 4096],
-    waiting: usize,
-    r: scdr::Record,
-    number: u64,
-    offset: u64,
-    size: usize,
-) -> usize {
-    if json {
-        return json::put_record(text, waiting, r);
-    }
-    text::put_record(text, waiting, r, number, offset, size)
-}
-
 // Nothing more is read once a write has failed.
-fn after_text(waiting: usize) -> Turn {
+fn after_text(waiting: usize) -> u64 {
     if 4096 < waiting {
-        return Turn::Done;
+        return OVER;
     }
-    Turn::Going
-}
-
-// What lies at the front of the octets that are left.
-fn show_one(json: bool, s: State, here: &[u8], text: &mut [u8; 4096]) -> State {
-    if here.len() == 0 {
-        return turned(s, Turn::Done);
-    }
-    let f = found::look(here);
-    match f {
-        Found::Value(e) => show_value(json, s, window::part(here, 2, e), text),
-        Found::NoMark => turned(s, Turn::NoMark),
-        Found::Cut => turned(s, Turn::Cut),
-        Found::NoRecord => turned(s, Turn::NoRecord),
-    }
+    GOING
 }
 
 // One record, or more of the file.
@@ -153,60 +161,39 @@ fn take_turn(
     show_one(json, s, window::part(held, p.at, p.end), text)
 }
 
-fn is_going(s: State) -> bool {
-    let turn = s.turn;
-    match turn {
-        Turn::Going => true,
-        Turn::Done => false,
-        Turn::Unread => false,
-        Turn::NoMark => false,
-        Turn::Cut => false,
-        Turn::NoRecord => false,
-    }
-}
-
-// A record that is refused: which it is, counted from 1, how many octets lie before its mark, and what was found there.
-fn refuse(s: State, found: &[u8]) {
-    let p = s.place;
-    io::write_all(STDERR_FILENO, b"show: refused 20 at record ");
-    io::print_decimal(STDERR_FILENO, std::num::wrapping_add_u64(s.records, 1));
-    io::write_all(STDERR_FILENO, b" (octet ");
-    io::print_decimal(STDERR_FILENO, p.offset);
-    io::write_all(STDERR_FILENO, b"): ");
-    io::write_all(STDERR_FILENO, found);
-    io::write_all(STDERR_FILENO, b"\n");
-}
-
-fn say_refused(s: State) {
-    let turn = s.turn;
-    match turn {
-        Turn::NoMark => refuse(s, b"no mark"),
-        Turn::Cut => refuse(s, b"cut short"),
-        Turn::NoRecord => refuse(s, b"not a record within the rules"),
-        Turn::Going => (),
-        Turn::Done => (),
-        Turn::Unread => (),
-    }
-}
-
-// What was shown.
-fn say_sums(s: State) {
-    let p = s.place;
-    io::write_all(STDERR_FILENO, b"show: ");
-    io::print_decimal(STDERR_FILENO, s.records);
-    io::write_all(STDERR_FILENO, b" records, ");
-    io::print_decimal(STDERR_FILENO, p.offset);
-    io::write_all(STDERR_FILENO, b" octets\n");
-}
-
 // Writes what waits, and says how it ended.
 fn finish(s: State, text: &[u8; 4096]) {
     if !out::write_out(text, s.waiting) {
         fail(b"standard output");
         return;
     }
-    say_refused(s);
-    say_sums(s);
+    say_end(s);
+}
+
+// Says which record was refused, counted from 1, how many octets lie before its mark and what was found there; and what was shown.
+fn say_end(s: State) {
+    let p = s.place;
+    let mut said = [0u8; 4096];
+    let v = numbers::of_end(
+        s.turn % OVER,
+        wrapping_add_u64(s.records, 1),
+        p.offset,
+        s.records,
+    );
+    let n = form::put_form(
+        &mut said,
+        0,
+        false,
+        b"%Fshow: refused 20 at record %r (octet %o): %f\n%.show: %n records, %o octets\n",
+        &v,
+        b"",
+    );
+    say(&said, n);
+}
+
+// On standard error.
+fn say(text: &[u8; 4096], n: usize) {
+    io::write_all(STDERR_FILENO, window::front(text, n));
 }
 
 // A proved loop has to end, and nothing says that a file does. So it counts its turns down, from a number that no run uses up.
@@ -222,10 +209,10 @@ fn run(fd: i32, json: bool) {
         records: 0,
         waiting: 0,
         ended: false,
-        turn: Turn::Going,
+        turn: GOING,
     };
     let mut turns = u64::MAX;
-    while turns > 0 && is_going(s) {
+    while turns > 0 && s.turn == GOING {
         s = take_turn(fd, json, s, &mut held, &mut text);
         turns -= 1;
     }

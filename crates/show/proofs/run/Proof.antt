@@ -15,9 +15,6 @@ large-buffer-requires c κs = search needs
 loop-holds : tie.Need-loop-holds Inv-loop μ-loop
 loop-holds c = tt
 
-is-going-requires : tie.Need-is-going-requires Inv-loop μ-loop
-is-going-requires c κs = search needs
-
 take-turn-requires : tie.Need-take-turn-requires Inv-loop μ-loop
 take-turn-requires c κs = search needs
 
@@ -44,7 +41,6 @@ run-spec =
     μ-loop
     large-buffer-requires
     loop-holds
-    is-going-requires
     take-turn-requires
     sub-turns
     loop-less

@@ -1,16 +1,16 @@
--- `show::json::put_chars` is safe and ends. Assumes nothing.
+-- `show::form::put_word` is safe and ends.
 use Prim.Native.Nat.{_-_, _≤_}
 use native.Mathlib.Omega.{arith}
 use lib.ListN.{length}
 use borrow.Author.Needs.{needs}
-use Rattle.show.proofs.json.put_chars.Statement.{statement}
-use Rattle.show.proofs.json.put_chars.Tie as tie
+use Rattle.show.proofs.form.put_word.Statement.{statement}
+use Rattle.show.proofs.form.put_word.Tie as tie
 
 abbrev Inv-loop : tie.InvT-loop
-Inv-loop text₀ waiting s w₀ i₀ text w i = i ≤ length s
+Inv-loop text₀ waiting json s w₀ i₀ text w i = i ≤ length s
 
 abbrev μ-loop : tie.MeasureT-loop
-μ-loop text₀ waiting s w₀ i₀ text w i = length s - i
+μ-loop text₀ waiting json s w₀ i₀ text w i = length s - i
 
 loop-holds : tie.Need-loop-holds Inv-loop μ-loop
 loop-holds c = omega arith
@@ -25,16 +25,16 @@ add-i : tie.Need-add-i Inv-loop μ-loop
 add-i c = search needs
 
 loop-less : tie.Need-loop-less Inv-loop μ-loop
-loop-less c = search needs
+loop-less c = omega arith
 
 loop-again : tie.Need-loop-again Inv-loop μ-loop
-loop-again c = search needs
+loop-again c = omega arith
 
 returns : tie.Need-returns Inv-loop μ-loop
 returns c = search needs
 
-pub put-chars-spec : {M : Type 1} → statement M
-put-chars-spec =
+pub put-word-spec : {M : Type 1} → statement M
+put-word-spec =
     tie.close
     (tie.spec
     Inv-loop

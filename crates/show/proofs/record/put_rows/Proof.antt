@@ -1,15 +1,15 @@
--- `show::text::put_rows` is safe and ends. Assumes nothing.
+-- `show::record::put_rows` is safe and ends.
 use Prim.Native.Nat.{_-_, _≤_}
 use native.Mathlib.Omega.{arith}
 use borrow.Author.Needs.{needs}
-use Rattle.show.proofs.text.put_rows.Statement.{statement}
-use Rattle.show.proofs.text.put_rows.Tie as tie
+use Rattle.show.proofs.record.put_rows.Statement.{statement}
+use Rattle.show.proofs.record.put_rows.Tie as tie
 
 abbrev Inv-loop : tie.InvT-loop
-Inv-loop text₀ waiting count v w₀ i₀ text w i = i ≤ 15
+Inv-loop text₀ waiting json count list rows₀ i₀ text rows i = i ≤ 15
 
 abbrev μ-loop : tie.MeasureT-loop
-μ-loop text₀ waiting count v w₀ i₀ text w i = 15 - i
+μ-loop text₀ waiting json count list rows₀ i₀ text rows i = 15 - i
 
 loop-holds : tie.Need-loop-holds Inv-loop μ-loop
 loop-holds c = omega arith
@@ -27,10 +27,10 @@ add-i : tie.Need-add-i Inv-loop μ-loop
 add-i c = search needs
 
 loop-less : tie.Need-loop-less Inv-loop μ-loop
-loop-less c = search needs
+loop-less c = omega arith
 
 loop-again : tie.Need-loop-again Inv-loop μ-loop
-loop-again c = search needs
+loop-again c = omega arith
 
 returns : tie.Need-returns Inv-loop μ-loop
 returns c = search needs

@@ -1,0 +1,70 @@
+-- `entries::read::read_entry` meets its contract: with an entry at the place, and with none.
+use mathlib.Core.Path.{sym, _∙_}
+use native.Mathlib.Omega.{arith}
+use borrow.Author.Needs.{needs}
+use Rattle.entries.proofs.Stands.{found-place, found-stands, other-place}
+use Rattle.entries.proofs.Reading.{reads-none, reads-some}
+use Rattle.entries.proofs.read.read_entry.Statement.{statement}
+use Rattle.entries.proofs.read.read_entry.Tie as tie
+
+entry-at-requires : tie.Need-entry-at-requires
+entry-at-requires c κs = search needs
+
+enum-known-entry : tie.Need-enum-known-entry
+enum-known-entry c = search needs
+
+slice-aggregate-with-record : tie.Need-slice-aggregate-with-record
+slice-aggregate-with-record c = search needs
+
+with-record-requires : tie.Need-with-record-requires
+with-record-requires c κs = search needs
+
+returns : tie.Need-returns
+returns c =
+    let a = c .before .before .before .before .before .args in
+    let q = c .before .before .before .entry-at .ensures in
+    let e = other-place (a .s .now) (a .at) (c .before .before .before .entry-at .result) (c .before .before .match .keys2) q in
+    reads-none (a .s .now) (a .at) q e (c .with-record .ensures)
+
+sub-with-record : tie.Need-sub-with-record
+sub-with-record c =
+    let a = c .before .before .before .before .before .args in
+    let w = found-stands (a .s .now) (a .at) (c .before .entry .given .1) (c .before .before .before .entry-at .ensures) .1 in
+    omega (arith, w .begins, w .long, w .inside)
+
+part-with-record-start : tie.Need-part-with-record-start
+part-with-record-start c =
+    let a = c .before .before .before .before .before .args in
+    let w = found-stands (a .s .now) (a .at) (c .before .entry .given .1) (c .before .before .before .entry-at .ensures) .1 in
+    omega (arith, w .begins, w .long, w .inside)
+
+part-with-record-end : tie.Need-part-with-record-end
+part-with-record-end c =
+    let a = c .before .before .before .before .before .args in
+    let w = found-stands (a .s .now) (a .at) (c .before .entry .given .1) (c .before .before .before .entry-at .ensures) .1 in
+    omega (arith, w .begins, w .long, w .inside)
+
+with-record-requires-2 : tie.Need-with-record-requires-2
+with-record-requires-2 c κs = search needs
+
+returns-2 : tie.Need-returns-2
+returns-2 c =
+    let a = c .before .before .before .before .before .before .before .args in
+    let k = c .before .before .before .entry .given .1 in
+    let q = c .before .before .before .before .before .entry-at .ensures in
+    reads-some (a .s .now) (a .at) (sym k ∙ q) _ (found-place (a .s .now) (a .at) k q) (c .with-record2 .ensures)
+
+pub read-entry-spec : {M : Type 1} → statement M
+read-entry-spec =
+    tie.close
+    (tie.spec
+    entry-at-requires
+    enum-known-entry
+    slice-aggregate-with-record
+    with-record-requires
+    returns
+    sub-with-record
+    part-with-record-start
+    part-with-record-end
+    with-record-requires-2
+    returns-2)
