@@ -7,7 +7,6 @@
 // wrong to standard error (docs/FORMATS.md).
 //
 // No contract can say what is read or written: each function is proved safe and ending.
-mod count;
 mod said;
 
 use libc::STDERR_FILENO;
@@ -35,11 +34,11 @@ fn stopped(s: State) -> State {
     t
 }
 
-// The tally with some events more, and what they wrote.
+// The tally with some events more, and what they wrote: records, each after its mark.
 fn told(t: Tally, events: usize, written: &[u8]) -> Tally {
     Tally {
         events: wrapping_add_u64(t.events, events as u64),
-        records: wrapping_add_u64(t.records, count::records_in(written)),
+        records: wrapping_add_u64(t.records, entries::count::count(written) as u64),
         octets: wrapping_add_u64(t.octets, written.len() as u64),
     }
 }
