@@ -2,19 +2,20 @@
 use mathlib.Core.Path.{_≡_, refl, sym, ap, _∙_}
 use mathlib.Core.Bool.{Bool, true, false, _||_}
 use mathlib.Core.List.{List, [], _∷_, _++_}
-use Prim.Native.Nat.{ℕ, _≤_}
+use Prim.Native.Nat.{ℕ, _+_, _≤_, _<_}
 use native.Mathlib.Nat.{not-suc-le-zero}
 use native.Mathlib.Omega.{arith}
 use lib.Dec.{eqb}
-use lib.ListN.{length, drop}
+use lib.ListN.{length, take, drop, take-append-drop, length-append}
+use lib.Seq.{take-at}
 use borrow.Author.Tests.{eq-eqb, eqb-true}
 use Rattle.scdr.specs.Rules.{allOf}
 use Rattle.profile.specs.Cut.{has, upTo, past, begins}
 use Rattle.profile.proofs.Numbers.{by}
-use Rattle.profile.proofs.Firsts.{both}
+use Rattle.profile.proofs.Firsts.{clash, both}
 
 neither : (a b : Bool) → (a || b) ≡ false → (a ≡ false) × (b ≡ false)
-neither true b e = (e, absurd (let z : _≡_ {A = ℕ} 0 1 = cc in omega arith))
+neither true b e = clash refl e
 neither false b e = (refl, e)
 
 module _ (x : ℕ) where
@@ -25,13 +26,23 @@ module _ (x : ℕ) where
   absent p (y ∷ v) e a =
       let (f, g) = both (p y) (allOf p v) a in
       by (eqb y x)
-      (λ t. absurd (let w = eqb-true y x t in let b : true ≡ false = sym f ∙ ap p w ∙ e in let z : _≡_ {A = ℕ} 0 1 = cc in omega arith))
+      (λ t. clash f (ap p (eqb-true y x t) ∙ e))
       (λ t. rw (t, absent p v e g))
 
   pub absent-both : (v w : List ℕ) → has x v ≡ false → has x w ≡ false → has x (v ++ w) ≡ false
   unfolding has
   absent-both [] w e f = f
   absent-both (y ∷ v) w e f = let (a, b) = neither (eqb y x) (has x v) e in rw (a, absent-both v w b f)
+
+  pub clear-after : (v w : List ℕ) → has x (v ++ w) ≡ false → has x w ≡ false
+  unfolding has
+  clear-after [] w e = e
+  clear-after (y ∷ v) w e = clear-after v w (neither (eqb y x) (has x (v ++ w)) e .1)
+
+  pub past-beyond : (v w : List ℕ) → has x v ≡ false → past x (v ++ w) ≡ past x w
+  unfolding has past
+  past-beyond [] w e = refl
+  past-beyond (y ∷ v) w e = let (a, b) = neither (eqb y x) (has x v) e in rw (a, past-beyond v w b)
 
   module _ (r : List ℕ) where
     pub has-here : (v : List ℕ) → has x (v ++ x ∷ r) ≡ true
@@ -45,20 +56,19 @@ module _ (x : ℕ) where
     up-to-here (y ∷ v) e = let (a, b) = neither (eqb y x) (has x v) e in rw (a, up-to-here v b)
 
     pub past-here : (v : List ℕ) → has x v ≡ false → past x (v ++ x ∷ r) ≡ r
-    unfolding has past
-    past-here [] e = rw (eq-eqb x x refl)
-    past-here (y ∷ v) e = let (a, b) = neither (eqb y x) (has x v) e in rw (a, past-here v b)
+    unfolding past
+    past-here v e = past-beyond v (x ∷ r) e ∙ rw (eq-eqb x x refl)
 
-  -- nothing stands past a mark that is not there
-  pub up-to-all : (v : List ℕ) → has x v ≡ false → upTo x v ≡ v
+  -- no mark stands before the first
+  pub up-to-clear : (s : List ℕ) → has x (upTo x s) ≡ false
   unfolding has upTo
-  up-to-all [] e = refl
-  up-to-all (y ∷ v) e = let (a, b) = neither (eqb y x) (has x v) e in rw (a, up-to-all v b)
+  up-to-clear [] = refl
+  up-to-clear (y ∷ s) = by (eqb y x) (λ t. rw t) (λ t. rw t (rw (t, up-to-clear s)))
 
   -- octets that have the mark are what stands before it, the mark and what stands after it
   pub cut-is : (s : List ℕ) → has x s ≡ true → s ≡ upTo x s ++ x ∷ past x s
   unfolding has upTo past
-  cut-is [] e = absurd (let z : _≡_ {A = ℕ} 0 1 = cc in omega arith)
+  cut-is [] e = clash e refl
   cut-is (y ∷ s) e =
       by (eqb y x)
       (λ t. rw t (ap (λ (z : ℕ). z ∷ s) (eqb-true y x t)))
@@ -80,7 +90,24 @@ begins-here (x ∷ name) t = rw (eq-eqb x x refl, begins-here name t)
 pub begins-is : (name s : List ℕ) → begins name s ≡ true → s ≡ name ++ drop (length name) s
 unfolding begins
 begins-is [] s e = refl
-begins-is (x ∷ name) [] e = absurd (let z : _≡_ {A = ℕ} 0 1 = cc in omega arith)
+begins-is (x ∷ name) [] e = clash e refl
 begins-is (x ∷ name) (y ∷ s) e =
     let (a, b) = both (eqb y x) (begins name s) e in
     ap (λ (z : ℕ). z ∷ s) (eqb-true y x a) ∙ ap (_∷_ x) (begins-is name s b)
+
+-- as the code tests it: the octets in front are those of the name
+pub begins-same : (name s : List ℕ) {r : Bool} → (r ≡ true → take (length name) s ≡ name) × (take (length name) s ≡ name → r ≡ true) → r ≡ begins name s
+begins-same name s {r} h =
+    by (begins name s)
+    (λ t. h .1 (ap (take (length name)) (begins-is name s t) ∙ take-at name (drop (length name) s) (length name) refl) ∙ sym t)
+    (λ t.
+    by r
+    (λ u. let e = sym (take-append-drop (length name) s) ∙ ap (λ (l : List ℕ). l ++ drop (length name) s) (h .0 u) in
+    clash (ap (begins name) e ∙ begins-here name (drop (length name) s)) t)
+    (λ u. u ∙ sym t))
+
+pub begins-short : (name s : List ℕ) → length s < length name → false ≡ begins name s
+begins-short name s h =
+    by (begins name s)
+    (λ t. absurd (omega (arith, ap length (begins-is name s t), length-append name (drop (length name) s))))
+    (λ t. sym t)
