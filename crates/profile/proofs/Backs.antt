@@ -12,7 +12,7 @@ use Rattle.profile.specs.Fault.{isNone, unless}
 use Rattle.profile.specs.Cut.{has, upTo, past}
 use Rattle.profile.specs.Number.{digits, numberFault, numeral, atMost}
 use Rattle.profile.specs.Address.{dot, octetOk, octetOf, addressOk, addressOf}
-use Rattle.profile.specs.Offset.{minus, westFault, offsetFault, east, west, zoneOf}
+use Rattle.profile.specs.Offset.{westFault, offsetFault, east, west, zoneOf}
 use Rattle.profile.specs.Node.{nodeOctets}
 use Rattle.profile.specs.Line.{space, restSpace}
 use Rattle.profile.specs.Print.{numberText, addressText, offsetText, nodeText}

@@ -1,4 +1,3 @@
-pub mod Cuts
 pub mod Firsts
 pub mod Numbers
 pub mod Nodes

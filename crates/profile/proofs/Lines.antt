@@ -95,7 +95,8 @@ lead-one (x ∷ t) e =
     rw a (ap (λ (z : ℕ). z ∷ t) (eqb-true x space a))
 
 -- printed so, where what the value says is printed as the value
-pub spaced-back : (f : List ℕ → List ℕ) (v t : List ℕ) → oneSpace t ≡ true → v ≡ past space t → f (past space t) ≡ past space t → space ∷ f v ≡ t
+pub spaced-back : (f : List ℕ → List ℕ) (v t : List ℕ) → oneSpace t ≡ true → v ≡ past space t → f (past space t) ≡ past space t
+    → space ∷ f v ≡ t
 spaced-back f v t o e g = ap (λ (w : List ℕ). space ∷ f w) e ∙ ap (_∷_ space) g ∙ sym (lead-one t o)
 
 -- ---- the lines of the rows

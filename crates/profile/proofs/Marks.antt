@@ -1,14 +1,16 @@
 -- A mark after octets that have none: what stands before it and after it. And the other way round. Assumes nothing.
 use mathlib.Core.Path.{_≡_, refl, sym, ap, _∙_}
-use mathlib.Core.Bool.{Bool, true, false, _||_}
+use mathlib.Core.Bool.{Bool, true, false, cond, _||_}
 use mathlib.Core.List.{List, [], _∷_, _++_}
-use Prim.Native.Nat.{ℕ, _+_, _≤_, _<_}
+use Prim.Native.Nat.{ℕ, suc, _+_, _-_, _≤_, _<_}
 use native.Mathlib.Nat.{not-suc-le-zero}
+use native.Mathlib.Numerals.{add-one}
 use native.Mathlib.Omega.{arith}
-use lib.Dec.{eqb}
-use lib.ListN.{length, take, drop, take-append-drop, length-append}
-use lib.Seq.{take-at}
-use borrow.Author.Tests.{eq-eqb, eqb-true}
+use lib.Dec.{eqb, ltb, leb·suc-suc}
+use lib.ListN.{length, take, drop, take-append-drop, drop-of-length-le, length-drop}
+use lib.Seq.{take-at, take-all, drop-length}
+use borrow.Author.Tests.{lt-ltb, eq-eqb, eqb-true}
+use Rattle.bytes.specs.Bytes.{slice, indexAfter, indexOf}
 use Rattle.scdr.specs.Rules.{allOf}
 use Rattle.profile.specs.Cut.{has, upTo, past, begins}
 use Rattle.profile.proofs.Numbers.{by}
@@ -96,7 +98,8 @@ begins-is (x ∷ name) (y ∷ s) e =
     ap (λ (z : ℕ). z ∷ s) (eqb-true y x a) ∙ ap (_∷_ x) (begins-is name s b)
 
 -- as the code tests it: the octets in front are those of the name
-pub begins-same : (name s : List ℕ) {r : Bool} → (r ≡ true → take (length name) s ≡ name) × (take (length name) s ≡ name → r ≡ true) → r ≡ begins name s
+pub begins-same : (name s : List ℕ) {r : Bool} → (r ≡ true → take (length name) s ≡ name) × (take (length name) s ≡ name → r ≡ true)
+    → r ≡ begins name s
 begins-same name s {r} h =
     by (begins name s)
     (λ t. h .1 (ap (take (length name)) (begins-is name s t) ∙ take-at name (drop (length name) s) (length name) refl) ∙ sym t)
@@ -106,8 +109,50 @@ begins-same name s {r} h =
     clash (ap (begins name) e ∙ begins-here name (drop (length name) s)) t)
     (λ u. u ∙ sym t))
 
-pub begins-short : (name s : List ℕ) → length s < length name → false ≡ begins name s
-begins-short name s h =
-    by (begins name s)
-    (λ t. absurd (omega (arith, ap length (begins-is name s t), length-append name (drop (length name) s))))
-    (λ t. sym t)
+-- ---- as the code comes to it: by how many octets stand before the mark
+
+module _ (x : ℕ) where
+  pub find-all : (s : List ℕ) → 0 + indexOf x (slice 0 (length s) s) ≡ indexOf x s
+  unfolding slice
+  find-all s = let e = ap (indexOf x) (take-all (length s) s (omega arith)) in omega arith
+
+  pub up-to-take : (s : List ℕ) → take (indexOf x s) s ≡ upTo x s
+  unfolding indexOf indexAfter upTo
+  up-to-take [] = refl
+  up-to-take (y ∷ s) = go (eqb y x) (up-to-take s)
+    where
+      go : (t : Bool) → take (indexOf x s) s ≡ upTo x s → take (indexAfter t (indexOf x s)) (y ∷ s) ≡ cond t [] (y ∷ upTo x s)
+      go true e = refl
+      go false e = ap (_∷_ y) e
+
+  past-suc : (s : List ℕ) → drop (suc (indexOf x s)) s ≡ past x s
+  unfolding indexOf indexAfter past
+  past-suc [] = refl
+  past-suc (y ∷ s) = go (eqb y x) (past-suc s)
+    where
+      go : (t : Bool) → drop (suc (indexOf x s)) s ≡ past x s → drop (indexAfter t (indexOf x s)) s ≡ cond t s (past x s)
+      go true e = refl
+      go false e = e
+
+  pub past-drop : (s : List ℕ) → drop (indexOf x s + 1) s ≡ past x s
+  past-drop s = rw (add-one (indexOf x s)) (past-suc s)
+
+  pub has-ltb : (s : List ℕ) → ltb (indexOf x s) (length s) ≡ has x s
+  unfolding indexOf indexAfter has
+  has-ltb [] = refl
+  has-ltb (y ∷ s) = go (eqb y x) (has-ltb s)
+    where
+      go : (t : Bool) → ltb (indexOf x s) (length s) ≡ has x s → ltb (indexAfter t (indexOf x s)) (suc (length s)) ≡ (t || has x s)
+      go true e = lt-ltb 0 (suc (length s)) (omega arith)
+      go false e = leb·suc-suc (suc (indexOf x s)) (length s) ∙ e
+
+-- ---- what is left after n octets
+
+pub front-all : (s : List ℕ) (n : ℕ) → length s ≤ n → take (length s) s ≡ take n s
+front-all s n h = take-all (length s) s (omega arith) ∙ sym (take-all n s h)
+
+pub rest-some : (s : List ℕ) (n : ℕ) → n < length s → take (length s - n) (drop n s) ≡ drop n s
+rest-some s n h = take-all (length s - n) (drop n s) (omega (arith, length-drop n s))
+
+pub rest-none : (s : List ℕ) (n : ℕ) → length s ≤ n → take (length s - length s) (drop (length s) s) ≡ drop n s
+rest-none s n h = rw (drop-length s, drop-of-length-le s h) (take-all (length s - length s) [] (omega arith))

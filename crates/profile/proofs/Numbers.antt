@@ -36,7 +36,10 @@ module _ (m n : ℕ) where
 
 -- a smaller largest number hides a larger one
 pub most-most : (k m n : ℕ) → k ≤ m → atMost k (atMost m n) ≡ atMost k n
-most-most k m n h = by (leb n m) (λ t. ap (atMost k) (sym (most-is m n (leb-true n m t)))) (λ t. let l = leb-false n m t in ap (atMost k) (sym (most-over m n (omega arith))) ∙ sym (most-over k m h) ∙ most-over k n (omega arith))
+most-most k m n h =
+    by (leb n m)
+    (λ t. ap (atMost k) (sym (most-is m n (leb-true n m t))))
+    (λ t. let l = leb-false n m t in ap (atMost k) (sym (most-over m n (omega arith))) ∙ sym (most-over k m h) ∙ most-over k n (omega arith))
 
 -- ---- digits
 

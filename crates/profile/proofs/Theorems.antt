@@ -1,8 +1,8 @@
 -- A profile in range has one text: that text reads as the profile, and no other does. Assumes nothing.
 use mathlib.Core.Path.{_≡_, refl, sym, ap, _∙_}
-use mathlib.Core.Bool.{true, false, _&&_}
-use mathlib.Core.List.{List, [], _∷_, _++_}
-use Prim.Native.Nat.{ℕ, _+_, _-_, _^_, _≤_, _<_}
+use mathlib.Core.Bool.{true, _&&_}
+use mathlib.Core.List.{List, [], _∷_}
+use Prim.Native.Nat.{ℕ, _-_, _^_, _≤_, _<_}
 use native.Mathlib.Omega.{arith}
 use lib.Dec.{leb}
 use lib.ListN.{length, take, drop, getD}
@@ -12,7 +12,7 @@ use Rattle.profile.specs.Profile.{limitsOk, profileOk}
 use Rattle.profile.specs.Cut.{has, past}
 use Rattle.profile.specs.Line.{space, valueAt}
 use Rattle.profile.specs.Text.{rows, firstBad, profileOf, readBy, readOf}
-use Rattle.profile.specs.Print.{numberText, addressText, offsetText, nodeText, linesOf, tailsOf, textOf}
+use Rattle.profile.specs.Print.{numberText, addressText, offsetText, linesOf, tailsOf, textOf}
 use Rattle.profile.specs.declared.Profile.{Profile}
 use Rattle.profile.specs.declared.line.Kind.the-variants.{Dotted, Digits, Signed, Rest}
 use Rattle.profile.specs.declared.text.Fault.the-variants.{None, Address}
@@ -124,7 +124,8 @@ printed : (s : List ℕ) (ts : List (List ℕ)) → Lines rows ts → s ≡ line
 unfolding textOf profileOf
 printed s _ (line _ _ t1 _ _ _ f1 (line _ _ t2 _ _ _ f2 (line _ _ t3 _ _ _ f3 (line _ _ t4 _ _ _ f4 (line _ _ t5 _ _ _ f5 (line _ _ t6 _ _ _ f6 last)))))) e i =
     let ts = six t1 t2 t3 t4 t5 t6 in
-    let v : (n : ℕ) → valueAt n s ≡ past space (getD ts n []) = λ n. ap (λ (l : List ℕ). valueAt n l) e ∙ value-at (six-lines t1 t2 t3 t4 t5 t6 f1 f2 f3 f4 f5 f6) n in
+    let lines = six-lines t1 t2 t3 t4 t5 t6 f1 f2 f3 f4 f5 f6 in
+    let v : (n : ℕ) → valueAt n s ≡ past space (getD ts n []) = λ n. ap (λ (l : List ℕ). valueAt n l) e ∙ value-at lines n in
     let e1 = dotted-back (valueAt 0 s) t1 (v 0) f1 in
     let e2 = digits-back (valueAt 1 s) t2 (v 1) (2 ^ 64 - 1) f2 (omega arith) (omega (arith, i .volume)) in
     let e3 = digits-back (valueAt 2 s) t3 (v 2) (2 ^ 32 - 1) f3 (omega arith) (omega (arith, i .seconds)) in

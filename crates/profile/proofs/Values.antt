@@ -9,10 +9,10 @@ use lib.ListN.{length, take, drop, getD, replicate, take-append-drop, length-dro
 use lib.Seq.{take-at, length-take-le}
 use borrow.Author.Tests.{leb-true, leb-false, le-leb, eqb-true, eqb-false, ne-eqb}
 use Rattle.scdr.specs.Rules.{allOf, nodeChar, isZero, nodeOk}
-use Rattle.profile.specs.Cut.{has, upTo, past}
+use Rattle.profile.specs.Cut.{has, past}
 use Rattle.profile.specs.Number.{digit, numeral, atMost}
 use Rattle.profile.specs.Address.{dot, octetOk, octetOf, addressOk, addressOf}
-use Rattle.profile.specs.Offset.{minus, westFault, offsetFault, east, west, zoneOf}
+use Rattle.profile.specs.Offset.{westFault, offsetFault, east, west, zoneOf}
 use Rattle.profile.specs.Node.{nodeOctets}
 use Rattle.profile.specs.Line.{feed, space}
 use Rattle.profile.specs.Print.{numberText, addressText, offsetText, nodeText}

@@ -2,7 +2,7 @@
 use bytes::scan;
 ghost use mathlib.Core.Path.{_≡_};
 ghost use Prim.Native.Nat.{_≤_};
-ghost use lib.ListN.{length, getD, drop};
+ghost use lib.ListN.{length, getD, take, drop};
 ghost use Rattle.bytes.specs.Bytes.{indexOf};
 ghost use Rattle.profile.specs.Cut.{has, upTo, past, begins};
 
@@ -41,6 +41,17 @@ pub fn rest(s: &[u8], n: usize) -> &[u8]
     &s[e..]
 }
 
+// The first n octets; all of them where there are fewer.
+pub fn front(s: &[u8], n: usize) -> &[u8]
+    ensures { λ r. ⌜ now r ≡ take n (now (s .entry)) ⌝ }
+{
+    if n < s.len() {
+        return &s[..n];
+    }
+    let e = s.len();
+    &s[..e]
+}
+
 // What stands before the first x.
 pub fn up_to(s: &[u8], x: u8) -> &[u8]
     ensures { λ r. ⌜ now r ≡ upTo x (now (s .entry)) ⌝ }
@@ -61,9 +72,5 @@ pub fn past(s: &[u8], x: u8) -> &[u8]
 pub fn begins(s: &[u8], name: &[u8]) -> bool
     ensures { λ r. ⌜ r ≡ begins (now (name .entry)) (now (s .entry)) ⌝ }
 {
-    let n = name.len();
-    if s.len() < n {
-        return false;
-    }
-    check::same(&s[..n], name)
+    check::same(front(s, name.len()), name)
 }

@@ -48,11 +48,7 @@ fn node_octets(v: &[u8]) -> [u8; 20]
     ensures { λ r. ⌜ r ≡ nodeOctets (now (v .entry)) ⌝ }
 {
     let mut out = [0u8; 20];
-    let mut i = 0;
-    while i < 20 {
-        out[i] = cut::octet(v, i);
-        i += 1;
-    }
+    bytes::copy(cut::front(v, 20), &mut out);
     out
 }
 

@@ -1,11 +1,7 @@
 -- `profile::address::address` meets its contract. Assumes nothing.
-use Rattle.profile.specs.Address.{addressOf}
 use borrow.Author.Needs.{needs}
 use Rattle.profile.proofs.address.address.Statement.{statement}
 use Rattle.profile.proofs.address.address.Tie as tie
-
-returns : tie.Need-returns
-returns c = rw (c .octet-of4 .ensures .0, c .before .past3 .ensures, c .before .before .octet-of3 .ensures .0, c .before .before .before .up-to3 .ensures, c .before .before .before .before .octet-of2 .ensures .0, c .before .before .before .before .before .up-to2 .ensures, c .before .before .before .before .before .before .octet-of .ensures .0, c .before .before .before .before .before .before .before .up-to .ensures, c .before .before .before .before .before .before .before .before .past2 .ensures, c .before .before .before .before .before .before .before .before .before .past .ensures)
 
 pub address-spec : {M : Type 1} → statement M
 address-spec =
@@ -14,4 +10,18 @@ address-spec =
     (λ c κs. search needs) (λ c κs. search needs) (λ c κs. search needs) (λ c κs. search needs) (λ c κs. search needs)
     (λ c κs. search needs) (λ c κs. search needs) (λ c κs. search needs) (λ c κs. search needs) (λ c κs. search needs)
     (λ c. search needs) (λ c. search needs) (λ c. search needs) (λ c. search needs) (λ c. search needs) (λ c. search needs)
-    returns)
+    (λ c.
+    let c4 = c .before .before .before .before in
+    let c8 = c4 .before .before .before .before in
+    rw (
+      c .octet-of4 .ensures .0,
+      c .before .past3 .ensures,
+      c .before .before .octet-of3 .ensures .0,
+      c .before .before .before .up-to3 .ensures,
+      c4 .octet-of2 .ensures .0,
+      c4 .before .up-to2 .ensures,
+      c4 .before .before .octet-of .ensures .0,
+      c4 .before .before .before .up-to .ensures,
+      c8 .past2 .ensures,
+      c8 .before .past .ensures,
+    )))

@@ -10,7 +10,11 @@ use Rattle.profile.proofs.address.octet_of.Tie as tie
 
 returns : tie.Need-returns
 unfolding octetOf
-returns c = let s = c .before .before .before .args .v .now in (rw (c .at-most .ensures, c .before .number .ensures) (most-most 255 (2 ^ 64 - 1) (numeral 0 s) (omega arith)), omega (arith, most-le 255 (c .before .number .result)))
+returns c =
+    let s = c .before .before .before .args .v .now in (
+      rw (c .at-most .ensures, c .before .number .ensures) (most-most 255 (2 ^ 64 - 1) (numeral 0 s) (omega arith)),
+      omega (arith, most-le 255 (c .before .number .result)),
+    )
 
 pub octet-of-spec : {M : Type 1} → statement M
 octet-of-spec =

@@ -1,6 +1,6 @@
 -- `profile::cut::ahead` meets its contract.
 use mathlib.Core.Path.{_∙_}
-use Rattle.profile.proofs.Cuts.{find-all}
+use Rattle.profile.proofs.Marks.{find-all}
 use borrow.Author.Needs.{needs}
 use Rattle.profile.proofs.cut.ahead.Statement.{statement}
 use Rattle.profile.proofs.cut.ahead.Tie as tie

@@ -1,5 +1,5 @@
 -- `profile::cut::has` meets its contract.
-use Rattle.profile.proofs.Cuts.{has-ltb}
+use Rattle.profile.proofs.Marks.{has-ltb}
 use borrow.Author.Needs.{needs}
 use Rattle.profile.proofs.cut.has.Statement.{statement}
 use Rattle.profile.proofs.cut.has.Tie as tie

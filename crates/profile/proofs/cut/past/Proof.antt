@@ -1,5 +1,5 @@
 -- `profile::cut::past` meets its contract.
-use Rattle.profile.proofs.Cuts.{past-drop}
+use Rattle.profile.proofs.Marks.{past-drop}
 use borrow.Author.Needs.{needs}
 use Rattle.profile.proofs.cut.past.Statement.{statement}
 use Rattle.profile.proofs.cut.past.Tie as tie

@@ -1,5 +1,5 @@
 -- `profile::cut::rest` meets its contract. Assumes nothing.
-use Rattle.profile.proofs.Cuts.{rest-some, rest-none}
+use Rattle.profile.proofs.Marks.{rest-some, rest-none}
 use borrow.Author.Needs.{needs}
 use Rattle.profile.proofs.cut.rest.Statement.{statement}
 use Rattle.profile.proofs.cut.rest.Tie as tie

@@ -1,7 +1,7 @@
 -- `profile::cut::up_to` meets its contract.
 use mathlib.Core.Path.{sym}
 use lib.Seq.{length-take-le}
-use Rattle.profile.proofs.Cuts.{up-to-take}
+use Rattle.profile.proofs.Marks.{up-to-take}
 use borrow.Author.Needs.{needs}
 use Rattle.profile.proofs.cut.up_to.Statement.{statement}
 use Rattle.profile.proofs.cut.up_to.Tie as tie

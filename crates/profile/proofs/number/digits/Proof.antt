@@ -16,10 +16,14 @@ abbrev μ-loop : tie.MeasureT-loop
 μ-loop v i₀ i = length v - i
 
 returns : tie.Need-returns Inv-loop μ-loop
-returns c = passed-stop digit _ _ (c .before .before .before .before .loop .inv) (c .before .before .before .loop-test .taken) (sym (c .before .is-digit .ensures) ∙ not-true _ (c .if1 .taken))
+returns c =
+    passed-stop digit _ _ (c .before .before .before .before .loop .inv) (c .before .before .before .loop-test .taken)
+    (sym (c .before .is-digit .ensures) ∙ not-true _ (c .if1 .taken))
 
 loop-again : tie.Need-loop-again Inv-loop μ-loop
-loop-again c = passed-more digit _ _ (c .before .before .before .before .loop .inv) (c .before .before .before .loop-test .taken) (sym (c .before .is-digit .ensures) ∙ not-false _ (c .if1 .left))
+loop-again c =
+    passed-more digit _ _ (c .before .before .before .before .loop .inv) (c .before .before .before .loop-test .taken)
+    (sym (c .before .is-digit .ensures) ∙ not-false _ (c .if1 .left))
 
 pub digits-spec : {M : Type 1} → statement M
 digits-spec =

@@ -13,7 +13,9 @@ abbrev μ-loop : tie.MeasureT-loop
 μ-loop v n₀ i₀ n i = length v - i
 
 loop-again : tie.Need-loop-again Inv-loop μ-loop
-loop-again c = spelt-more _ _ _ _ (c .before .before .before .before .loop .inv) (c .before .before .before .loop-test .taken) (c .before .worth .result) (c .tens .result) (c .before .worth .ensures) (c .tens .ensures)
+loop-again c =
+    spelt-more _ _ _ _ (c .before .before .before .before .loop .inv) (c .before .before .before .loop-test .taken)
+    (c .before .worth .result) (c .tens .result) (c .before .worth .ensures) (c .tens .ensures)
 
 pub number-spec : {M : Type 1} → statement M
 number-spec =

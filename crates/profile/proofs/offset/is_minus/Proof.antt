@@ -1,6 +1,5 @@
 -- `profile::offset::is_minus` meets its contract. Assumes nothing.
 use borrow.Author.Needs.{needs}
-use Rattle.profile.specs.Offset.{minus}
 use Rattle.profile.proofs.offset.is_minus.Statement.{statement}
 use Rattle.profile.proofs.offset.is_minus.Tie as tie
 

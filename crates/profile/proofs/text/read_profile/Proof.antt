@@ -5,7 +5,9 @@ use Rattle.profile.proofs.text.read_profile.Statement.{statement}
 use Rattle.profile.proofs.text.read_profile.Tie as tie
 
 returns : tie.Need-returns
-returns c = read-good (c .before .before .before .before .before .args .s .now) (c .before .before .before .first-bad .result) (c .before .before .before .first-bad .ensures) (c .profile-of .ensures) (c .before .if1 .taken)
+returns c =
+    read-good (c .before .before .before .before .before .args .s .now) (c .before .before .before .first-bad .result)
+    (c .before .before .before .first-bad .ensures) (c .profile-of .ensures) (c .before .if1 .taken)
 
 returns-2 : tie.Need-returns-2
 returns-2 c =
