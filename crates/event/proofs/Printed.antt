@@ -28,7 +28,8 @@ pub activate-said : decoded activate ≡
       qos = record { reliability = 1; delay = 3; precedence = 2; peak = 4; mean = 0 };
       apnlen = 1;
     }))
-unfolding activate decoded saidBy eventOf firstFit rows marked known measured wholeLength fieldsOk activateOk spelt octetsFrom numberIn imsiOk halves leading allF qosOk allOf apnChar
+unfolding activate decoded saidBy eventOf firstFit rows marked known measured wholeLength fieldsOk activateOk
+    spelt octetsFrom numberIn imsiOk halves leading allF qosOk allOf apnChar
 activate-said = refl
 
 pub traffic-said : decoded traffic ≡ Said 5 (Traffic (record { id = 1; ggsn = 0x0A000002 }) 400 599)

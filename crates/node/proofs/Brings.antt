@@ -8,6 +8,7 @@ use lib.ListN.{length, getD, replicate}
 use lib.Seq.{drop-append-seam}
 use borrow.Author.Tests.{le-leb}
 use Rattle.format.proofs.Tests.{true-T}
+use Rattle.ber.specs.Int.{spelt, octetsFrom, numberIn}
 use Rattle.ber.specs.Imsi.{imsiOk}
 use Rattle.ber.proofs.Imsis.{imsi-rules}
 use Rattle.container.specs.Qos.{qosOk}
@@ -23,16 +24,16 @@ use Rattle.event.specs.declared.Activation.{Activation}
 use Rattle.event.specs.declared.Event.{Event}
 use Rattle.event.specs.declared.Event.the-variants as E
 use Rattle.event.specs.declared.Decoded.the-variants as D
-use Rattle.event.specs.Number.{be}
 use Rattle.event.specs.Fields.{kindOf}
 use Rattle.event.specs.Event.{trafficOf, eventOf, decoded}
-use Rattle.event.proofs.Theorems.{heard, activated as activate-in, profiled, released}
+use Rattle.event.proofs.Numbers.{number-more}
+use Rattle.event.proofs.Theorems.{heard, activated as activate-in, qos-changed, released}
 use Rattle.context.specs.Sound.{contextOk}
 use Rattle.context.proofs.Sounds.{good-is}
 use Rattle.history.specs.Log.{Said, activates, tells, tellsAll, nothing}
-use Rattle.node.specs.declared.Heard.{Heard}
+use Rattle.node.specs.declared.Message.{Message}
 use Rattle.node.specs.Step.{Brought, broughtBy, takes, activated}
-use Rattle.node.specs.Told.{Fair}
+use Rattle.node.specs.Private.Told.{Fair}
 use Rattle.node.specs.Held.{Octets, HeldContext}
 use Rattle.node.proofs.Fits.{fit}
 
@@ -43,10 +44,10 @@ octet-at [] o i = omega arith
 octet-at (x ∷ s) o zero = o .0
 octet-at (x ∷ s) o (suc i) = octet-at s (o .1) i
 
-be-below : (k at : ℕ) (s : List ℕ) → Octets s → be k at s < 256 ^ k
-unfolding be
-be-below zero at s o = omega arith
-be-below (suc k) at s o = omega (arith, be-below k at s o, octet-at s o (at + k))
+number-below : (k at : ℕ) (s : List ℕ) → Octets s → numberIn k at s < 256 ^ k
+unfolding numberIn octetsFrom spelt
+number-below zero at s o = omega arith
+number-below (suc k) at s o = rw (number-more k at s) (omega (arith, number-below k at s o, octet-at s o (at + k)))
 
 -- ---- what is brought
 
@@ -64,7 +65,7 @@ pub record Brings (m : Name) (b : Brought) : Type 0 where
   pub address : b .address < 2 ^ 32
 
 -- Of any event; none says nothing.
-abbrev pub Fairly : Said (Unit {0}) Name Brought Heard → Type 0
+abbrev pub Fairly : Said (Unit {0}) Name Brought Message → Type 0
 Fairly (activates m b) = Brings m (b tt)
 Fairly (tells m h) = Fair h
 Fairly (tellsAll h) = Fair h
@@ -83,19 +84,19 @@ fair-said s (E.Activate a) o d =
       most = omega (arith, x .most);
       apn = x .apn;
       qos = x .qos;
-      id = rw (x .is) (be-below 4 7 s o);
-      ggsn = rw (x .is) (be-below 4 11 s o);
-      pdptype = rw (x .is) (be-below 2 24 s o);
-      address = rw (x .is) (be-below 4 26 s o);
+      id = rw (x .is) (number-below 4 7 s o);
+      ggsn = rw (x .is) (number-below 4 11 s o);
+      pdptype = rw (x .is) (number-below 2 24 s o);
+      address = rw (x .is) (number-below 4 26 s o);
     }
 fair-said s (E.Traffic n up down) o d =
     let x = heard s d in
     let k : kindOf s ≡ 2 = sym (x .kind) in
     let g : E.Traffic n up down ≡ trafficOf s = x .event ∙ ap (λ (m : ℕ). eventOf m s) k in
-    let u : up ≡ be 4 15 s = cc in
-    let v : down ≡ be 4 19 s = cc in
-    (rw u (be-below 4 15 s o), rw v (be-below 4 19 s o))
-fair-said s (E.Profile n q) o d = profiled s d
+    let u : up ≡ numberIn 4 15 s = cc in
+    let v : down ≡ numberIn 4 19 s = cc in
+    (rw u (number-below 4 15 s o), rw v (number-below 4 19 s o))
+fair-said s (E.Qos n q) o d = qos-changed s d
 fair-said s E.Tariff o d = tt
 fair-said s (E.Release n c) o d = released s d
 fair-said s E.Tick o d = tt

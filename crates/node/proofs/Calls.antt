@@ -22,10 +22,10 @@ use Rattle.context.specs.Sound.{slotsOk}
 use Rattle.context.specs.Slots.{slotOf, distinct}
 use Rattle.history.specs.Log as L
 use Rattle.node.specs.declared.Node.{Node}
-use Rattle.node.specs.declared.Heard.{Heard}
+use Rattle.node.specs.declared.Message.{Message}
 use Rattle.node.specs.Sound.{sound, latest, mostAccepted}
-use Rattle.node.specs.Step.{Brought, takes, tableRows, laterRows, saidOf, refusals, outcome, stepOf, Steps}
-use Rattle.node.proofs.Rowed.{numbered-rows, fit-more, fit-first}
+use Rattle.node.specs.Step.{Brought, takes, saidOf, refusals, outcome, stepOf, Steps}
+use Rattle.node.proofs.Rowed.{tableRows, laterRows, parted, numbered-rows, fit-more, fit-first}
 use Rattle.node.proofs.Served.{Outs, outs-refused}
 
 -- ---- what was decoded
@@ -52,7 +52,7 @@ refused-by n s {k} h =
 
 -- ---- the answers
 
-module _ (n : Node) (t : ℕ) (w : L.Said (Unit {0}) Name Brought Heard) (b : List ℕ) {a k : ℕ} {r : Node} (q : r ≡ n) (u : k ≡ 0) where
+module _ (n : Node) (t : ℕ) (w : L.Said (Unit {0}) Name Brought Message) (b : List ℕ) {a k : ℕ} {r : Node} (q : r ≡ n) (u : k ≡ 0) where
   pub outs-late : latest < t → a ≡ 6 → Outs (laterRows n t w b) n t w b b a r k
   unfolding laterRows firstFit
   outs-late l p = outs-refused n t w b (laterRows n t w b) 6 (rw (lt-ltb latest t l)) (λ i. omega arith) p q u
@@ -66,7 +66,8 @@ module _ (n : Node) (t : ℕ) (w : L.Said (Unit {0}) Name Brought Heard) (b : Li
   outs-many m s l p =
       outs-refused n t w b (laterRows n t w b) 7 (rw (le-ltb latest t m, le-ltb t (n .clock) s, le-leb mostAccepted (n .accepted) l)) (λ i. omega arith) p q u
 
-pub outs-timely : (n : Node) (t : ℕ) (w : L.Said (Unit {0}) Name Brought Heard) (b : List ℕ) {b′ : List ℕ} {a k : ℕ} {r : Node} → t ≤ latest → n .clock ≤ t → n .accepted < mostAccepted
+pub outs-timely : (n : Node) (t : ℕ) (w : L.Said (Unit {0}) Name Brought Message) (b : List ℕ) {b′ : List ℕ} {a k : ℕ} {r : Node}
+    → t ≤ latest → n .clock ≤ t → n .accepted < mostAccepted
     → Outs (tableRows n t w b) n t w b b′ a r k → Outs (laterRows n t w b) n t w b b′ a r k
 unfolding laterRows firstFit
 outs-timely n t w b {b′} m s f o =
@@ -83,8 +84,8 @@ module _ (n : Node) (s b : List ℕ) where
 
   module _ (ok : sound n ≡ true) where
     past-13 : firstFit (refusals n s b) ≡ firstFit (rows s ++ laterRows n (timeOf s) (saidOf s) b)
-    unfolding refusals firstFit
-    past-13 = rw ok
+    unfolding firstFit
+    past-13 = rw (parted n s b, ok)
 
     pub steps-octets : {a k : ℕ} {r : Node} {j : ℕ} → decoded s ≡ Refused j → a ≡ j → r ≡ n → k ≡ 0 → Steps n s b b a r k
     unfolding decoded

@@ -26,11 +26,11 @@ use Rattle.profile.specs.declared.Profile.{Profile}
 use Rattle.context.specs.declared.Context.{Context}
 use Rattle.context.specs.Context.{used}
 use Rattle.history.specs.Lists.{test}
-use Rattle.node.specs.declared.Heard.{Heard}
-use Rattle.node.specs.declared.Heard.the-variants as H
+use Rattle.node.specs.declared.Message.{Message}
+use Rattle.node.specs.declared.Message.the-variants as M
 use Rattle.node.specs.Hear.{counted, reported, reached, closing, isRelease, ended, endedAll, numberFor, recordOf, closedBy}
 use Rattle.node.specs.Sound.{latest, mostAccepted}
-use Rattle.node.specs.Told.{Fair, Apt}
+use Rattle.node.specs.Private.Told.{Fair, Apt}
 use Rattle.node.proofs.Turned.{used-length}
 use Rattle.node.proofs.Fits.{Fit, fit, apt-good, apt-roomy}
 
@@ -128,18 +128,18 @@ module _ (l : Limits) (c : Context) (t : ℕ) where
   unfolding reached causeOk release
   reached-cause e = cause-of 19 (test-is (leb (l .changes) (c .changes + 1)) 19 e) refl refl
 
-  other-cause : (h : Heard) {k : ℕ} → isRelease h ≡ false → closing l c t h ≡ some k → Cause k
+  other-cause : (h : Message) {k : ℕ} → isRelease h ≡ false → closing l c t h ≡ some k → Cause k
   unfolding closing causeOk release
-  other-cause (H.Traffic up down) r e = cause-of 16 (test-is (leb (l .volume) (volumeOf (used c) + (c .uplink + up) + (c .downlink + down))) 16 e) refl refl
-  other-cause (H.Profile q) {k} r e = go (sameQos (c .qos) q) e
+  other-cause (M.Traffic up down) r e = cause-of 16 (test-is (leb (l .volume) (volumeOf (used c) + (c .uplink + up) + (c .downlink + down))) 16 e) refl refl
+  other-cause (M.Qos q) {k} r e = go (sameQos (c .qos) q) e
     where
       go : (b : Bool) → cond b none (reached l c) ≡ some k → Cause k
       go true i = absurd (let z : _≡_ {A = ℕ} 0 1 = cc in omega arith)
       go false i = reached-cause i
-  other-cause H.Tariff r e = reached-cause e
-  other-cause (H.Release cause) r e = absurd (let z : _≡_ {A = ℕ} 0 1 = cc in omega arith)
-  other-cause H.Tick r e = cause-of 17 (test-is (leb (l .seconds) (t - c .opening .seconds)) 17 e) refl refl
-  other-cause H.Management {k} r e = cause-of 20 (let z : 20 ≡ k = cc in sym z) refl refl
+  other-cause M.Tariff r e = reached-cause e
+  other-cause (M.Release cause) r e = absurd (let z : _≡_ {A = ℕ} 0 1 = cc in omega arith)
+  other-cause M.Tick r e = cause-of 17 (test-is (leb (l .seconds) (t - c .opening .seconds)) 17 e) refl refl
+  other-cause M.Management {k} r e = cause-of 20 (let z : 20 ≡ k = cc in sym z) refl refl
 
 release-cause : (cause : ℕ) → release cause ≡ true → causeOk cause ≡ true
 unfolding causeOk
@@ -186,16 +186,16 @@ module _ (p : Profile) (t : ℕ) (c : Context) (a : Apt p t c) (size : length (c
   closes-other : (d : Context) → Closable p t d → d .closed ≡ c .closed → {cause : ℕ} → Cause cause → within (recordOf p d t cause (numberFor c false)) ≡ true
   closes-other d k e {cause} w = closes-with d k e false cause (w .known) (closing-number c (apt-roomy p t c a .closed) cause (w .other))
 
-  pub closed-within : (h : Heard) (cause : ℕ) → Fair h → closing (p .limits) c t h ≡ some cause → within (closedBy p c t h cause) ≡ true
+  pub closed-within : (h : Message) (cause : ℕ) → Fair h → closing (p .limits) c t h ≡ some cause → within (closedBy p c t h cause) ≡ true
   unfolding closedBy reported closing
-  closed-within (H.Traffic up down) cause f e =
+  closed-within (M.Traffic up down) cause f e =
       let n = counts (f .0) (f .1) in
-      closes-other (counted c (c .uplink + up) (c .downlink + down)) (closable _ _ (n .0) (n .1)) refl (other-cause (p .limits) c t (H.Traffic up down) refl e)
-  closed-within (H.Profile q) cause f e = closes-other c kept refl (other-cause (p .limits) c t (H.Profile q) refl e)
-  closed-within H.Tariff cause f e = closes-other c kept refl (other-cause (p .limits) c t H.Tariff refl e)
-  closed-within (H.Release k) cause f e =
+      closes-other (counted c (c .uplink + up) (c .downlink + down)) (closable _ _ (n .0) (n .1)) refl (other-cause (p .limits) c t (M.Traffic up down) refl e)
+  closed-within (M.Qos q) cause f e = closes-other c kept refl (other-cause (p .limits) c t (M.Qos q) refl e)
+  closed-within M.Tariff cause f e = closes-other c kept refl (other-cause (p .limits) c t M.Tariff refl e)
+  closed-within (M.Release k) cause f e =
       let z : k ≡ cause = cc in
       let r : release cause ≡ true = rw z at f in
       closes-with c kept refl true cause (release-cause cause r) (released-number c (apt-roomy p t c a .closed) cause r)
-  closed-within H.Tick cause f e = closes-other c kept refl (other-cause (p .limits) c t H.Tick refl e)
-  closed-within H.Management cause f e = closes-other c kept refl (other-cause (p .limits) c t H.Management refl e)
+  closed-within M.Tick cause f e = closes-other c kept refl (other-cause (p .limits) c t M.Tick refl e)
+  closed-within M.Management cause f e = closes-other c kept refl (other-cause (p .limits) c t M.Management refl e)

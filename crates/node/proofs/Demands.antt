@@ -1,19 +1,19 @@
 -- Demands 1 and 2 of a call: over any node, any event octets and any lent buffer. `node::step::step` answers `stepOf` (its promise); these
 -- theorems say what that is. Assumes nothing.
-use mathlib.Core.Path.{_≡_, refl, sym, ap, _∙_}
+use mathlib.Core.Path.{_≡_, refl, sym, ap}
 use mathlib.Core.Bool.{Bool, true, false}
-use mathlib.Core.List.{List, [], _∷_, _++_}
+use mathlib.Core.List.{List, [], _∷_, _++_, map}
 use Prim.Native.Nat.{ℕ}
 use native.Mathlib.Omega.{arith}
-use lib.ListN.{length, drop}
+use lib.ListN.{length, take, drop}
 use lib.Dec.{eqb}
 use borrow.Author.Tests.{ne-eqb, eqb-true}
 use Rattle.format.proofs.Tests.{by}
 use Rattle.event.specs.Fields.{timeOf}
-use Rattle.event.specs.Rows.{Row, row, firstFit}
+use Rattle.event.specs.Rows.{Row, row, firstFit, rows}
 use Rattle.history.specs.Lists.{All}
 use Rattle.node.specs.declared.Node.{Node}
-use Rattle.node.specs.Step.{saidOf, nodeAfter, output, refusals, outcome, stepOf, Steps}
+use Rattle.node.specs.Step.{saidOf, nodeAfter, output, refusals, outcome, stepOf}
 
 abbrev numberOf : Row → ℕ
 numberOf (row k t) = k
@@ -74,6 +74,16 @@ only-then (row k false ∷ rs) z =
 module _ (n : Node) (s b : List ℕ) where
   -- ---- demand 1
 
+  -- the table's numbers, in 01's order
+  pub in-order : map numberOf (refusals n s b) ≡ 13 ∷ 1 ∷ 2 ∷ 3 ∷ 4 ∷ 5 ∷ 6 ∷ 7 ∷ 8 ∷ 9 ∷ 10 ∷ 11 ∷ []
+  unfolding refusals
+  in-order = refl
+
+  -- its rows 1 to 5 are those by which `event::decode` refuses the octets alone
+  pub of-octets : take 5 (drop 1 (refusals n s b)) ≡ rows s
+  unfolding refusals rows
+  of-octets = refl
+
   -- any call ends with the first fitting number of the table, or 0
   pub answered : stepOf n s b .0 ≡ firstFit (refusals n s b)
   unfolding stepOf outcome
@@ -95,8 +105,3 @@ module _ (n : Node) (s b : List ℕ) where
       ≡ (0, (nodeAfter n (timeOf s) (saidOf s), (length (output n (timeOf s) (saidOf s)), output n (timeOf s) (saidOf s) ++ drop (length (output n (timeOf s) (saidOf s))) b)))
   unfolding stepOf outcome
   accepted e = rw e
-
-  -- the promise leaves nothing open: two results that meet it are one
-  pub one-result : {b₁ b₂ : List ℕ} {a₁ a₂ w₁ w₂ : ℕ} {n₁ n₂ : Node} → Steps n s b b₁ a₁ n₁ w₁ → Steps n s b b₂ a₂ n₂ w₂
-      → _≡_ {A = ℕ × (Node × (ℕ × List ℕ))} (a₁, (n₁, (w₁, b₁))) (a₂, (n₂, (w₂, b₂)))
-  one-result p q = p .is ∙ sym (q .is)

@@ -19,11 +19,11 @@ use Rattle.profile.specs.declared.Profile.{Profile}
 use Rattle.context.specs.declared.Context.{Context}
 use Rattle.context.specs.Sound.{slotOk}
 use Rattle.history.specs.Table.{Step}
-use Rattle.node.specs.declared.Heard.{Heard}
+use Rattle.node.specs.declared.Message.{Message}
 use Rattle.node.specs.Hear.{closing, changeOf, goesOn, closedBy, afterClosing, hearWith, hear}
 use Rattle.node.specs.Step.{stood, markedOctets, octetsOf}
-use Rattle.node.specs.Told.{Apt, Slotted}
-use Rattle.node.specs.Range.{slotNext, slotOut, Counts, Turns}
+use Rattle.node.specs.Private.Told.{Apt, Slotted}
+use Rattle.node.specs.Private.Range.{slotNext, slotOut, Counts, Turns}
 
 -- ---- a record after its mark
 
@@ -71,7 +71,7 @@ module _ (r : Record) {b b₁ : List ℕ} {at a : ℕ} (w : within r ≡ true) (
 
 -- ---- what an active context does
 
-module _ (p : Profile) (c : Context) (t : ℕ) (h : Heard) where
+module _ (p : Profile) (c : Context) (t : ℕ) (h : Message) where
   hear-closes : {cause : ℕ} → closing (p .limits) c t h ≡ some cause
       → hear p c t h ≡ record { next = afterClosing p c t h; out = closedBy p c t h cause ∷ [] }
   unfolding hear hearWith
@@ -118,7 +118,7 @@ module _ (p : Profile) (c : Context) (t : ℕ) (h : Heard) where
 
 -- ---- a slot
 
-module _ (p : Profile) (t : ℕ) (h : Heard) (c : Context) where
+module _ (p : Profile) (t : ℕ) (h : Message) (c : Context) where
   pub slot-active : c .active ≡ 1 → (slotNext p t h c ≡ stood (hear p c t h .next)) × (slotOut p t h c ≡ octetsOf (hear p c t h .out))
   unfolding slotNext slotOut
   slot-active e = (rw e, rw e)

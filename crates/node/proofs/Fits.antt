@@ -15,7 +15,7 @@ use Rattle.profile.specs.Profile.{limitsOk, profileOk}
 use Rattle.context.specs.declared.Context.{Context}
 use Rattle.context.specs.Context.{used}
 use Rattle.context.proofs.Sounds.{Good, good}
-use Rattle.node.specs.Told.{Roomy, Ample, Apt}
+use Rattle.node.specs.Private.Told.{Roomy, Ample, Apt}
 
 -- ---- a profile in range
 

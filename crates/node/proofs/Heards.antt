@@ -22,11 +22,11 @@ use Rattle.context.proofs.Sounds.{slot-free, zero-is}
 use Rattle.history.specs.Lists.{each, All}
 use Rattle.history.specs.Log.{Said, activates, tells, tellsAll, nothing}
 use Rattle.history.specs.Table.{Step, Handling, fill, free, active, slot, slotsHear, slotsWrite}
-use Rattle.node.specs.declared.Heard.{Heard}
+use Rattle.node.specs.declared.Message.{Message}
 use Rattle.node.specs.Hear.{hear}
 use Rattle.node.specs.Step.{Brought, handling, seen, stood, markedOctets, octetsOf}
-use Rattle.node.specs.Shape.{Shaped}
-use Rattle.node.specs.Range.{across, along, slotNext, slotOut}
+use Rattle.node.specs.Held.{Shaped}
+use Rattle.node.specs.Private.Range.{across, along, slotNext, slotOut}
 use Rattle.node.proofs.Found.{First, here, there}
 use Rattle.node.proofs.Ranges.{across-none, along-none}
 
@@ -88,27 +88,27 @@ octets-append [] b = refl
 octets-append (r ∷ a) b = ap (λ (l : List ℕ). markedOctets r ++ l) (octets-append a b) ∙ sym (append-assoc (markedOctets r) (octetsOf a) (octetsOf b))
 
 module _ (p : Profile) (t : ℕ) where
-  abbrev K : Handling (Unit {0}) Name Brought Heard (Event × List ℕ) Context Record
+  abbrev K : Handling (Unit {0}) Name Brought Message (Event × List ℕ) Context Record
   K = handling p
 
-  abbrev after : Said (Unit {0}) Name Brought Heard → Context → Context
+  abbrev after : Said (Unit {0}) Name Brought Message → Context → Context
   after w c = stood (slot K tt t w (seen c) .next)
 
-  abbrev outs : Said (Unit {0}) Name Brought Heard → Context → List ℕ
+  abbrev outs : Said (Unit {0}) Name Brought Message → Context → List ℕ
   outs w c = octetsOf (slot K tt t w (seen c) .out)
 
-  hear-after : (w : Said (Unit {0}) Name Brought Heard) (cs : List Context) → map stood (slotsHear K tt t w (map seen cs)) ≡ map (after w) cs
+  hear-after : (w : Said (Unit {0}) Name Brought Message) (cs : List Context) → map stood (slotsHear K tt t w (map seen cs)) ≡ map (after w) cs
   hear-after w [] = refl
   hear-after w (c ∷ cs) = ap (λ (l : List Context). after w c ∷ l) (hear-after w cs)
 
-  hear-outs : (w : Said (Unit {0}) Name Brought Heard) (cs : List Context) → octetsOf (slotsWrite K tt t w (map seen cs)) ≡ each (outs w) cs
+  hear-outs : (w : Said (Unit {0}) Name Brought Message) (cs : List Context) → octetsOf (slotsWrite K tt t w (map seen cs)) ≡ each (outs w) cs
   unfolding octetsOf
   hear-outs w [] = refl
   hear-outs w (c ∷ cs) = octets-append (slot K tt t w (seen c) .out) (slotsWrite K tt t w (map seen cs)) ∙ ap (λ (l : List ℕ). outs w c ++ l) (hear-outs w cs)
 
   -- ---- all hear
 
-  module _ (h : Heard) where
+  module _ (h : Message) where
     all-one : (c : Context) → Settled c → (after (tellsAll h) c ≡ slotNext p t h c) × (outs (tellsAll h) c ≡ slotOut p t h c)
     unfolding Settled slotNext slotOut octetsOf
     all-one c s = by (eqb (c .active) 1) (λ e. (rw (seen-active c e, e), rw (seen-active c e, e))) (λ e. (rw (seen-free c e, e) (sym (s e)), rw (seen-free c e, e)))

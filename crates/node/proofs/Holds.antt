@@ -14,8 +14,7 @@ use Rattle.history.specs.Lists.{All}
 use Rattle.context.specs.declared.Context.{Context}
 use Rattle.context.proofs.Context.{the-field}
 use Rattle.node.specs.declared.Node.{Node}
-use Rattle.node.specs.Shape.{Shaped}
-use Rattle.node.specs.Held.{Octets, HeldContext, Held}
+use Rattle.node.specs.Held.{Shaped, Octets, HeldContext, Held}
 use Rattle.node.proofs.Node as N
 use Rattle.node.proofs.Shapes.{all-shaped}
 

@@ -32,12 +32,11 @@ use Rattle.context.proofs.Sounds.{good, good-is}
 use Rattle.history.specs.Lists.{test, All}
 use Rattle.history.specs.Table.{Step}
 use Rattle.history.proofs.Lists.{none≢some}
-use Rattle.node.specs.declared.Heard.{Heard}
-use Rattle.node.specs.declared.Heard.the-variants as H
+use Rattle.node.specs.declared.Message.{Message}
+use Rattle.node.specs.declared.Message.the-variants as M
 use Rattle.node.specs.Hear.{counted, reported, qosAfter, changeOf, reached, closing, isRelease, ended, endedAll, changed, opened, recordOf, goesOn, closedBy, afterClosing, hearWith, hear, numberFor}
-use Rattle.node.specs.Told.{Fair, Apt}
-use Rattle.node.specs.Shape.{Shaped}
-use Rattle.node.specs.Held.{HeldContext, HeldProfile}
+use Rattle.node.specs.Private.Told.{Fair, Apt}
+use Rattle.node.specs.Held.{Shaped, HeldContext, HeldProfile}
 use Rattle.node.proofs.Turned.{used-length, more}
 use Rattle.node.proofs.Fits.{fit, apt-good, apt-roomy}
 use Rattle.node.proofs.Closed.{ended-ok, closed-within}
@@ -119,14 +118,14 @@ record Reports (c d : Context) : Type 0 where
   down : ℕ
   is : d ≡ counted c up down
 
-reports : (c : Context) (h : Heard) → Reports c (reported c h)
+reports : (c : Context) (h : Message) → Reports c (reported c h)
 unfolding reported
-reports c (H.Traffic up down) = record { up = c .uplink + up; down = c .downlink + down; is = refl }
-reports c (H.Profile q) = record { up = c .uplink; down = c .downlink; is = refl }
-reports c H.Tariff = record { up = c .uplink; down = c .downlink; is = refl }
-reports c (H.Release cause) = record { up = c .uplink; down = c .downlink; is = refl }
-reports c H.Tick = record { up = c .uplink; down = c .downlink; is = refl }
-reports c H.Management = record { up = c .uplink; down = c .downlink; is = refl }
+reports c (M.Traffic up down) = record { up = c .uplink + up; down = c .downlink + down; is = refl }
+reports c (M.Qos q) = record { up = c .uplink; down = c .downlink; is = refl }
+reports c M.Tariff = record { up = c .uplink; down = c .downlink; is = refl }
+reports c (M.Release cause) = record { up = c .uplink; down = c .downlink; is = refl }
+reports c M.Tick = record { up = c .uplink; down = c .downlink; is = refl }
+reports c M.Management = record { up = c .uplink; down = c .downlink; is = refl }
 
 module _ (p : Profile) (t : ℕ) (c : Context) (a : Apt p t c) (w : Shaped c) where
   -- the report leaves the record open
@@ -217,31 +216,31 @@ module _ (p : Profile) (t : ℕ) (c : Context) (a : Apt p t c) (w : Shaped c) wh
   reached-none e = let b = leb (p .limits .changes) (c .changes + 1) in leb-false (p .limits .changes) (c .changes + 1) (test-none b 19 e)
 
   -- where nothing closes
-  goes-on : (h : Heard) → Fair h → closing (p .limits) c t h ≡ none → Keeps p t (a .due .accepted + 1) c (goesOn p c t h (changeOf c h))
+  goes-on : (h : Message) → Fair h → closing (p .limits) c t h ≡ none → Keeps p t (a .due .accepted + 1) c (goesOn p c t h (changeOf c h))
   unfolding goesOn changeOf closing reported qosAfter
-  goes-on (H.Traffic up down) f e =
+  goes-on (M.Traffic up down) f e =
       let sum = volumeOf (used c) + (c .uplink + up) + (c .downlink + down) in
       counted-keeps (c .uplink + up) (c .downlink + down) (leb-false (p .limits .volume) sum (test-none (leb (p .limits .volume) sum) 16 e))
-  goes-on (H.Profile q) f e =
+  goes-on (M.Qos q) f e =
       by (sameQos (c .qos) q)
       (λ s. rw s same-keeps)
       (λ s. rw s (changed-keeps 0 q (omega arith) f (rw s) (reached-none (rw s at e))))
-  goes-on H.Tariff f e = changed-keeps 1 (c .qos) (omega arith) (apt-good p t c a .qos) (rw (qos-same (c .qos) (c .qos) refl)) (reached-none e)
-  goes-on (H.Release cause) f e = absurd (none≢some (sym e))
-  goes-on H.Tick f e = same-keeps
-  goes-on H.Management f e = absurd (none≢some (sym e))
+  goes-on M.Tariff f e = changed-keeps 1 (c .qos) (omega arith) (apt-good p t c a .qos) (rw (qos-same (c .qos) (c .qos) refl)) (reached-none e)
+  goes-on (M.Release cause) f e = absurd (none≢some (sym e))
+  goes-on M.Tick f e = same-keeps
+  goes-on M.Management f e = absurd (none≢some (sym e))
 
   -- where the record closes
-  after-closing : (h : Heard) → Fair h → NextKeeps p t (a .due .accepted + 1) c (afterClosing p c t h)
+  after-closing : (h : Message) → Fair h → NextKeeps p t (a .due .accepted + 1) c (afterClosing p c t h)
   unfolding afterClosing reported qosAfter opened
-  after-closing (H.Traffic up down) f = opened-keeps (c .qos) (apt-good p t c a .qos)
-  after-closing (H.Profile q) f = opened-keeps q f
-  after-closing H.Tariff f = opened-keeps (c .qos) (apt-good p t c a .qos)
-  after-closing (H.Release cause) f = tt
-  after-closing H.Tick f = opened-keeps (c .qos) (apt-good p t c a .qos)
-  after-closing H.Management f = opened-keeps (c .qos) (apt-good p t c a .qos)
+  after-closing (M.Traffic up down) f = opened-keeps (c .qos) (apt-good p t c a .qos)
+  after-closing (M.Qos q) f = opened-keeps q f
+  after-closing M.Tariff f = opened-keeps (c .qos) (apt-good p t c a .qos)
+  after-closing (M.Release cause) f = tt
+  after-closing M.Tick f = opened-keeps (c .qos) (apt-good p t c a .qos)
+  after-closing M.Management f = opened-keeps (c .qos) (apt-good p t c a .qos)
 
-  next-keeps : (h : Heard) → Fair h → NextKeeps p t (a .due .accepted + 1) c (hear p c t h .next)
+  next-keeps : (h : Message) → Fair h → NextKeeps p t (a .due .accepted + 1) c (hear p c t h .next)
   unfolding hear hearWith
   next-keeps h f = go (closing (p .limits) c t h) refl
     where
@@ -250,7 +249,7 @@ module _ (p : Profile) (t : ℕ) (c : Context) (a : Apt p t c) (w : Shaped c) wh
       go (some cause) e = after-closing h f
 
   -- whatever it hears, what stands after it follows it
-  pub heard-sound : (h : Heard) → Fair h → {d : Context} → hear p c t h .next ≡ some d → Keeps p t (a .due .accepted + 1) c d
+  pub heard-sound : (h : Message) → Fair h → {d : Context} → hear p c t h .next ≡ some d → Keeps p t (a .due .accepted + 1) c d
   heard-sound h f {d} e = go (hear p c t h .next) (next-keeps h f) e
     where
       go : (o : Option Context) → NextKeeps p t (a .due .accepted + 1) c o → o ≡ some d → Keeps p t (a .due .accepted + 1) c d
@@ -267,7 +266,7 @@ module _ (p : Profile) (t : ℕ) (c : Context) (a : Apt p t c) (w : HeldContext 
       let n : length (endedAll p d t 2) ≤ 15 = omega (arith, length-append (used c) (ended p d t 2 ∷ []), r .few) in
       shaped-is (recordOf p d t cause number) (w .shape .apn) (padded-length (endedAll p d t 2) n) (o .nodeid) (o .sgsn) (w .id) (w .ggsn) (w .pdptype) (w .address)
 
-  closed-fine : (h : Heard) (cause : ℕ) → Fair h → closing (p .limits) c t h ≡ some cause → Fine (closedBy p c t h cause)
+  closed-fine : (h : Message) (cause : ℕ) → Fair h → closing (p .limits) c t h ≡ some cause → Fine (closedBy p c t h cause)
   unfolding closedBy
   closed-fine h cause f e =
       let r = reports c h in
@@ -275,7 +274,7 @@ module _ (p : Profile) (t : ℕ) (c : Context) (a : Apt p t c) (w : HeldContext 
       (rw (r .is) (shaped-with (r .up) (r .down) cause (numberFor c (isRelease h))))
 
   -- and what it writes keeps the rules of records
-  pub out-fine : (h : Heard) → Fair h → All Fine (hear p c t h .out)
+  pub out-fine : (h : Message) → Fair h → All Fine (hear p c t h .out)
   unfolding hear hearWith
   out-fine h f = go (closing (p .limits) c t h) refl
     where
@@ -283,5 +282,5 @@ module _ (p : Profile) (t : ℕ) (c : Context) (a : Apt p t c) (w : HeldContext 
       go none e = tt
       go (some cause) e = (closed-fine h cause f e, tt)
 
-  pub leaves : (h : Heard) → Fair h → Leaves p t (a .due .accepted + 1) c (hear p c t h)
+  pub leaves : (h : Message) → Fair h → Leaves p t (a .due .accepted + 1) c (hear p c t h)
   leaves h f = record { next = next-keeps p t c a (w .shape) h f; out = out-fine h f }

@@ -15,6 +15,7 @@ pub mod Calls
 pub mod Tasks
 pub mod Looks
 pub mod Demands
+pub mod Fixes
 pub mod Printed
 pub mod Kept
 pub mod Brings

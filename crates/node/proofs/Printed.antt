@@ -1,7 +1,7 @@
 -- 01's two sessions, computed. Assumes nothing.
 use mathlib.Core.Path.{_≡_, refl}
 use mathlib.Core.List.{[], _∷_}
-use Rattle.ber.specs.Int.{intEnc, lowest}
+use Rattle.ber.specs.Int.{intEnc, spelt, octetsFrom, numberIn, lowest}
 use Rattle.ber.specs.Length.{lenEnc}
 use Rattle.ber.specs.Tlv.{tlvEnc}
 use Rattle.ber.specs.Imsi.{halves, leading, allF, imsiOk, imsiEnc}
@@ -14,9 +14,8 @@ use Rattle.container.specs.Open.{midway, timesTo, qosRun, openOk, volumeOf}
 use Rattle.scdr.specs.Rules.{allOf, apnChar, nodeChar, apnOk, nodeOk, release, lastTime, duration}
 use Rattle.scdr.specs.Layout.{body, fillTo, ofRecord, fieldsOf, inside, scdr}
 use Rattle.scdr.specs.Sample.{printed}
-use Rattle.event.specs.Number.{be}
 use Rattle.event.specs.Fields.{wholeLength, activateOk, fieldsOk}
-use Rattle.event.specs.Rows.{firstFit, rows, marked, known, measured}
+use Rattle.event.specs.Rows.{firstFit, marked, known, measured}
 use Rattle.event.specs.Event.{eventOf}
 use Rattle.event.specs.Sample.{activate, traffic, released}
 use Rattle.profile.specs.Profile.{limitsOk, profileOk}
@@ -24,16 +23,29 @@ use Rattle.context.specs.Sound.{fieldsOk as storedOk, unusedOk, closedOk, count
 use Rattle.context.specs.Slots.{sameName, isActive, isFree, bears, noneBears, distinct}
 use Rattle.node.specs.Hear.{reported, qosAfter, changeOf, reached, closing, changed, opened, numberFor, recordOf, goesOn, closedBy, afterClosing, hearWith, hear}
 use Rattle.node.specs.Sound.{sound}
-use Rattle.node.specs.Step.{activated, markedOctets, octetsOf, nodeAfter, recordsOf, output, notActive, isActive as wasActive, allTaken, tableRows, laterRows, refusals, outcome, stepOf}
-use Rattle.node.specs.Sample.{at, named, written, session, first, second, third}
+use Rattle.node.specs.Step.{activated, markedOctets, octetsOf, nodeAfter, recordsOf, output}
+use Rattle.node.specs.Step.{notActive, isActive as wasActive, allTaken, refusals, outcome, stepOf}
+use Rattle.node.specs.Sample.{at, named, answers, session, first, second, third}
 
 -- time 0: activate; time 5: 400 up, 599 down; time 6: release 0. The last writes the mark and the record that 01 prints.
 pub one-session : session (activate ∷ traffic ∷ released 0 ∷ []) ≡ (0, []) ∷ (0, []) ∷ (0, 0xC3 ∷ 0x5A ∷ printed) ∷ []
-unfolding intEnc lowest lenEnc tlvEnc halves leading allF imsiOk imsiEnc monthLen seek monthDay stampOk stampEnc qosOk sameQos containerOk isNew told eachOk oneOffset noContainers isBlank blanks midway timesTo qosRun openOk volumeOf allOf apnChar nodeChar apnOk nodeOk release lastTime duration body fillTo ofRecord fieldsOf inside scdr printed be wholeLength activateOk fieldsOk firstFit rows marked known measured eventOf activate traffic released limitsOk profileOk storedOk unusedOk closedOk countOk containersOk volumeOk contextOk zeroOk slotOk slotsOk sameName isActive isFree bears noneBears distinct reported qosAfter changeOf reached closing changed opened numberFor recordOf goesOn closedBy afterClosing hearWith hear sound activated markedOctets octetsOf nodeAfter recordsOf output notActive wasActive allTaken tableRows laterRows refusals outcome stepOf written
+unfolding intEnc lowest lenEnc tlvEnc halves leading allF imsiOk imsiEnc monthLen seek monthDay stampOk stampEnc qosOk sameQos containerOk
+    isNew told eachOk oneOffset noContainers isBlank blanks midway timesTo qosRun openOk volumeOf allOf apnChar nodeChar apnOk nodeOk
+    release lastTime duration body fillTo ofRecord fieldsOf inside scdr printed spelt octetsFrom numberIn wholeLength activateOk fieldsOk
+    firstFit marked known measured eventOf activate traffic released limitsOk profileOk storedOk unusedOk closedOk countOk containersOk
+    volumeOk contextOk zeroOk slotOk slotsOk sameName isActive isFree bears noneBears distinct reported qosAfter changeOf reached closing
+    changed opened numberFor recordOf goesOn closedBy afterClosing hearWith hear sound activated markedOctets octetsOf nodeAfter recordsOf
+    output notActive wasActive allTaken refusals outcome stepOf answers
 one-session = refl
 
 -- Instead at 6: 0 up, 1 down. Tariff at 10; tick at 65 does nothing; tick at 66; release at 66.
 pub other-session : session (activate ∷ traffic ∷ at 2 6 (named (0 ∷ 0 ∷ 0 ∷ 0 ∷ 0 ∷ 0 ∷ 0 ∷ 1 ∷ [])) ∷ at 4 10 [] ∷ at 6 65 [] ∷ at 6 66 [] ∷ at 5 66 (named (0 ∷ [])) ∷ [])
     ≡ (0, []) ∷ (0, []) ∷ (0, first) ∷ (0, []) ∷ (0, []) ∷ (0, second) ∷ (0, third) ∷ []
-unfolding first second third intEnc lowest lenEnc tlvEnc halves leading allF imsiOk imsiEnc monthLen seek monthDay stampOk stampEnc qosOk sameQos containerOk isNew told eachOk oneOffset noContainers isBlank blanks midway timesTo qosRun openOk volumeOf allOf apnChar nodeChar apnOk nodeOk release lastTime duration body fillTo ofRecord fieldsOf inside scdr be wholeLength activateOk fieldsOk firstFit rows marked known measured eventOf activate traffic limitsOk profileOk storedOk unusedOk closedOk countOk containersOk volumeOk contextOk zeroOk slotOk slotsOk sameName isActive isFree bears noneBears distinct reported qosAfter changeOf reached closing changed opened numberFor recordOf goesOn closedBy afterClosing hearWith hear sound activated markedOctets octetsOf nodeAfter recordsOf output notActive wasActive allTaken tableRows laterRows refusals outcome stepOf written
+unfolding first second third intEnc lowest lenEnc tlvEnc halves leading allF imsiOk imsiEnc monthLen seek monthDay stampOk stampEnc qosOk
+    sameQos containerOk isNew told eachOk oneOffset noContainers isBlank blanks midway timesTo qosRun openOk volumeOf allOf apnChar nodeChar
+    apnOk nodeOk release lastTime duration body fillTo ofRecord fieldsOf inside scdr spelt octetsFrom numberIn wholeLength activateOk
+    fieldsOk firstFit marked known measured eventOf activate traffic limitsOk profileOk storedOk unusedOk closedOk countOk containersOk
+    volumeOk contextOk zeroOk slotOk slotsOk sameName isActive isFree bears noneBears distinct reported qosAfter changeOf reached closing
+    changed opened numberFor recordOf goesOn closedBy afterClosing hearWith hear sound activated markedOctets octetsOf nodeAfter recordsOf
+    output notActive wasActive allTaken refusals outcome stepOf answers
 other-session = refl

@@ -12,9 +12,9 @@ use Rattle.profile.specs.declared.Profile.{Profile}
 use Rattle.context.specs.declared.Context.{Context}
 use Rattle.context.specs.Sound.{slotOk}
 use Rattle.context.proofs.Sounds.{slots-at}
-use Rattle.node.specs.declared.Heard.{Heard}
-use Rattle.node.specs.Told.{Slotted, Ready}
-use Rattle.node.specs.Range.{across, along, slotNext, slotOut, Counts, Turns}
+use Rattle.node.specs.declared.Message.{Message}
+use Rattle.node.specs.Private.Told.{Slotted, Ready}
+use Rattle.node.specs.Private.Range.{across, along, slotNext, slotOut, Counts, Turns}
 
 -- ---- one place more
 
@@ -73,7 +73,7 @@ module _ {A B : Type 0} (g : A → List B) where
 
 -- ---- the loops
 
-module _ (p : Profile) (t : ℕ) (h : Heard) (from to : ℕ) (cs : List Context) where
+module _ (p : Profile) (t : ℕ) (h : Message) (from to : ℕ) (cs : List Context) where
   abbrev next : Context → Context
   next = slotNext p t h
 

@@ -1,10 +1,44 @@
--- Rows of the refusal table one after another. Assumes nothing.
+-- Rows of the refusal table one after another: those of the event's octets, and those after them. Assumes nothing.
 use mathlib.Core.Path.{_≡_, refl, sym}
-use mathlib.Core.Bool.{true, false}
+use mathlib.Core.Bool.{true, false, not, _||_}
 use mathlib.Core.List.{List, [], _∷_, _++_}
 use Prim.Native.Nat.{ℕ}
 use native.Mathlib.Omega.{arith}
+use lib.Dec.{leb, ltb}
+use lib.ListN.{length}
+use Rattle.event.specs.declared.Name.{Name}
+use Rattle.event.specs.Fields.{timeOf}
 use Rattle.event.specs.Rows.{Row, row, firstFit, rows}
+use Rattle.history.specs.Log.{Said}
+use Rattle.node.specs.declared.Node.{Node}
+use Rattle.node.specs.declared.Message.{Message}
+use Rattle.node.specs.Sound.{sound, latest, mostAccepted}
+use Rattle.node.specs.Step.{Brought, slots, output, notActive, isActive, allTaken, saidOf, refusals}
+
+-- ---- the table in parts
+
+-- 8 to 11, by what an event says
+unfoldable pub tableRows : Node → ℕ → Said (Unit {0}) Name Brought Message → List ℕ → List Row
+tableRows n t w b =
+    row 8 (notActive (n .profile) w (slots n))
+    ∷ row 9 (isActive (n .profile) w (slots n))
+    ∷ row 10 (allTaken w (slots n))
+    ∷ row 11 (ltb (length b) (length (output n t w)))
+    ∷ []
+
+-- 6 and 7, and what follows
+unfoldable pub laterRows : Node → ℕ → Said (Unit {0}) Name Brought Message → List ℕ → List Row
+laterRows n t w b =
+    row 6 (ltb latest t || ltb t (n .clock))
+    ∷ row 7 (leb mostAccepted (n .accepted))
+    ∷ tableRows n t w b
+
+-- 13, then the rows by which the event's octets are refused alone, then the later ones
+pub parted : (n : Node) (s b : List ℕ) → refusals n s b ≡ row 13 (not (sound n)) ∷ (rows s ++ laterRows n (timeOf s) (saidOf s) b)
+unfolding refusals rows laterRows tableRows
+parted n s b = refl
+
+-- ---- rows before others
 
 -- none has the number 0, which says that no row fits
 abbrev pub Numbered : List Row → Type 0

@@ -19,9 +19,10 @@ use Rattle.context.specs.Slots.{slotOf, isActive, isFree, distinct}
 use Rattle.history.specs.Lists.{All}
 use Rattle.node.specs.declared.Node.{Node}
 use Rattle.node.specs.Sound.{sound, freshNode, noNode}
-use Rattle.node.specs.Step.{recordsOf, tableRows, laterRows, saidOf, refusals, outcome, stepOf}
+use Rattle.node.specs.Step.{recordsOf, saidOf, refusals, outcome, stepOf}
 use Rattle.node.specs.Held.{Octets, HeldContext, HeldProfile, Held, Whole}
 use Rattle.node.specs.Run.{Call, after}
+use Rattle.node.proofs.Rowed.{tableRows, laterRows}
 use Rattle.node.proofs.Demands.{answered}
 use Rattle.node.proofs.Kept.{Fine}
 use Rattle.node.proofs.Tabled.{nothing-ok, nothing-held}

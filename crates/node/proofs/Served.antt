@@ -16,12 +16,13 @@ use Rattle.history.specs.Lists.{All}
 use Rattle.history.specs.Log.{Said, activates, tells, tellsAll}
 use Rattle.history.specs.Table.{free, slotsAfter}
 use Rattle.node.specs.declared.Node.{Node}
-use Rattle.node.specs.declared.Heard.{Heard}
+use Rattle.node.specs.declared.Message.{Message}
 use Rattle.node.specs.Sound.{sound, latest, mostAccepted}
-use Rattle.node.specs.Step.{Brought, handling, stood, slots, octetsOf, activated, nodeAfter, recordsOf, output, notActive, isActive, allTaken, tableRows, outcome}
-use Rattle.node.specs.Shape.{Shaped}
-use Rattle.node.specs.Told.{Ready}
-use Rattle.node.specs.Range.{across, along, slotNext, slotOut, Turns, advanced, servedOf, Serves}
+use Rattle.node.specs.Step.{Brought, handling, stood, slots, octetsOf, activated, nodeAfter, recordsOf, output, notActive, isActive, allTaken, outcome}
+use Rattle.node.specs.Held.{Shaped}
+use Rattle.node.specs.Private.Told.{Ready}
+use Rattle.node.specs.Private.Range.{across, along, slotNext, slotOut, Turns, advanced, servedOf, Serves}
+use Rattle.node.proofs.Rowed.{tableRows}
 use Rattle.node.proofs.Rules.{rules}
 use Rattle.node.proofs.Found.{First}
 use Rattle.node.proofs.Heards.{Settled, all-settled, all-after, all-outs, tells-after, tells-outs, found-active, none-active, found-free, none-free, filled}
@@ -50,7 +51,7 @@ module _ (n : Node) (t : ℕ) (s : Sounding n t) where
 
 -- ---- some slots heard
 
-module _ (n : Node) (from to t : ℕ) (h : Heard) (b : List ℕ) where
+module _ (n : Node) (from to t : ℕ) (h : Message) (b : List ℕ) where
   abbrev x : List ℕ
   x = along from to (slotOut (n .profile) t h) (n .contexts)
 
@@ -73,10 +74,11 @@ module _ (n : Node) (from to t : ℕ) (h : Heard) (b : List ℕ) where
 -- ---- what the call answers then
 
 -- what a call answers by some rows of the table
-pub record Outs (rs : List Row) (n : Node) (t : ℕ) (w : Said (Unit {0}) Name Brought Heard) (b b′ : List ℕ) (answer : ℕ) (n′ : Node) (written : ℕ) : Type 0 where
+pub record Outs (rs : List Row) (n : Node) (t : ℕ) (w : Said (Unit {0}) Name Brought Message) (b b′ : List ℕ) (answer : ℕ) (n′ : Node)
+    (written : ℕ) : Type 0 where
   pub is : _≡_ {A = ℕ × (Node × (ℕ × List ℕ))} (answer, (n′, (written, b′))) (outcome (firstFit rs) n t w b)
 
-module _ (n : Node) (t : ℕ) (w : Said (Unit {0}) Name Brought Heard) (b : List ℕ) where
+module _ (n : Node) (t : ℕ) (w : Said (Unit {0}) Name Brought Message) (b : List ℕ) where
   pub outs-refused : (rs : List Row) (j : ℕ) {a k : ℕ} {m : Node} → firstFit rs ≡ j → (j ≡ 0 → ⊥) → a ≡ j → m ≡ n → k ≡ 0 → Outs rs n t w b b a m k
   unfolding outcome
   outs-refused rs j e z p q r = record { is = rw (e, ne-eqb j 0 z) (λ i. (p i, (q i, (r i, b)))) }
@@ -103,7 +105,8 @@ module _ (n : Node) (t : ℕ) (w : Said (Unit {0}) Name Brought Heard) (b : List
       let v : m ≡ nodeAfter n t w = q ∙ ap (λ (l : List Context). advanced n t l) e in
       record { is = rw (fits-none ad l) (λ i. (p i, (v i, (r i, u i)))) }
 
-  outs-served : Admitted → (from to : ℕ) (h : Heard) → map stood (slotsAfter (handling (n .profile)) tt t w (slots n)) ≡ across from to (slotNext (n .profile) t h) (n .contexts)
+  outs-served : Admitted → (from to : ℕ) (h : Message)
+      → map stood (slotsAfter (handling (n .profile)) tt t w (slots n)) ≡ across from to (slotNext (n .profile) t h) (n .contexts)
       → output n t w ≡ along from to (slotOut (n .profile) t h) (n .contexts)
       → {b′ : List ℕ} {a k : ℕ} {m : Node} → Serves n from to t h b b′ a m k → Outs (tableRows n t w b) n t w b b′ a m k
   unfolding servedOf
@@ -123,14 +126,14 @@ module _ (n : Node) (t : ℕ) (w : Said (Unit {0}) Name Brought Heard) (b : List
 -- ---- the three kinds of events
 
 module _ (n : Node) (t : ℕ) (b : List ℕ) (s : Sounding n t) (z : All Shaped (n .contexts)) where
-  pub outs-tell : (m : Name) (h : Heard) {i : ℕ} → First (λ c. bears m (slotOf c)) (n .contexts) i
+  pub outs-tell : (m : Name) (h : Message) {i : ℕ} → First (λ c. bears m (slotOf c)) (n .contexts) i
       → {b′ : List ℕ} {a k : ℕ} {r : Node} → Serves n i (i + 1) t h b b′ a r k → Outs (tableRows n t (tells m h) b) n t (tells m h) b b′ a r k
   unfolding notActive isActive allTaken output recordsOf
   outs-tell m h {i} f {b′} {a} {k} {r} v =
       outs-served n t (tells m h) b (record { known = rw (found-active (n .profile) t m f); new = refl; room = refl }) i (suc i) h
       (tells-after (n .profile) t h m f (settleds n t s z) (apart n t s)) (tells-outs (n .profile) t h m f (settleds n t s z) (apart n t s)) (rw (add-one i) at v)
 
-  pub outs-all : (h : Heard) → length (n .contexts) ≡ 16 → {b′ : List ℕ} {a k : ℕ} {r : Node} → Serves n 0 16 t h b b′ a r k
+  pub outs-all : (h : Message) → length (n .contexts) ≡ 16 → {b′ : List ℕ} {a k : ℕ} {r : Node} → Serves n 0 16 t h b b′ a r k
       → Outs (tableRows n t (tellsAll h) b) n t (tellsAll h) b b′ a r k
   unfolding notActive isActive allTaken output recordsOf
   outs-all h l {b′} {a} {k} {r} v =
@@ -148,7 +151,7 @@ module _ (n : Node) (t : ℕ) (b : List ℕ) (s : Sounding n t) (z : All Shaped 
         outs-done n t (activates m f) b (record { known = refl; new = none-active (n .profile) t m (n .contexts) none; room = rw (found-free free) }) (omega arith) g p q u refl
 
 module _ (n : Node) (t : ℕ) (b : List ℕ) (m : Name) {a k : ℕ} {r : Node} (q : r ≡ n) (u : k ≡ 0) where
-  pub outs-8 : (h : Heard) → All (λ c. bears m (slotOf c) ≡ false) (n .contexts) → a ≡ 8 → Outs (tableRows n t (tells m h) b) n t (tells m h) b b a r k
+  pub outs-8 : (h : Message) → All (λ c. bears m (slotOf c) ≡ false) (n .contexts) → a ≡ 8 → Outs (tableRows n t (tells m h) b) n t (tells m h) b b a r k
   unfolding tableRows firstFit notActive
   outs-8 h none p = outs-refused n t (tells m h) b (tableRows n t (tells m h) b) 8 (rw (none-active (n .profile) t m (n .contexts) none)) (λ i. omega arith) p q u
 

@@ -12,7 +12,7 @@ use Rattle.scdr.proofs.Tails.{length-of-map}
 use Rattle.history.specs.Lists.{All}
 use Rattle.context.specs.declared.Context.{Context}
 use Rattle.context.proofs.Context.{the-field}
-use Rattle.node.specs.Shape.{Shaped}
+use Rattle.node.specs.Held.{Shaped}
 
 -- of each element of an array field, what its type says of it
 each-is : (F : Field) (xs : List (F .Value)) (us : List Val) → shadow (each (F .row .Denot) (F .row .own) (map (F .into) xs) us)

@@ -24,11 +24,10 @@ use Rattle.context.proofs.Sounds.{slot-active, slot-free, is-zero}
 use Rattle.history.specs.Lists.{All}
 use Rattle.history.specs.Log.{Said, activates, tells, tellsAll, nothing}
 use Rattle.history.specs.Table.{Handling, hears, listen, slot, slotsHear, slotsWrite}
-use Rattle.node.specs.declared.Heard.{Heard}
+use Rattle.node.specs.declared.Message.{Message}
 use Rattle.node.specs.Step.{Brought, handling, seen, stood}
-use Rattle.node.specs.Shape.{Shaped}
-use Rattle.node.specs.Told.{Fair, Due, Apt}
-use Rattle.node.specs.Held.{HeldContext, HeldProfile}
+use Rattle.node.specs.Private.Told.{Fair, Due, Apt}
+use Rattle.node.specs.Held.{Shaped, HeldContext, HeldProfile}
 use Rattle.node.proofs.Kept.{keeps-held, Fine, NextKeeps, Leaves, same-keeps, leaves}
 use Rattle.node.proofs.Brings.{Fairly}
 
@@ -121,7 +120,7 @@ module _ (p : Profile) (t : ℕ) (u : Due p t) (o : HeldProfile p) where
   abbrev m : ℕ
   m = u .accepted + 1
 
-  abbrev K : Handling (Unit {0}) Name Brought Heard (Event × List ℕ) Context Record
+  abbrev K : Handling (Unit {0}) Name Brought Message (Event × List ℕ) Context Record
   K = handling p
 
   abbrev SlotOk : Context → Type 0
@@ -138,21 +137,21 @@ module _ (p : Profile) (t : ℕ) (u : Due p t) (o : HeldProfile p) where
     abbrev apt : Apt p t c
     apt = record { due = u; sound = sym (slot-active (p .limits) (p .zone) (u .clock) (u .accepted) c e) ∙ k }
 
-    abbrev FairIf : Option Heard → Type 0
+    abbrev FairIf : Option Message → Type 0
     FairIf none = Unit {0}
     FairIf (some x) = Fair x
 
-    listens : (x : Option Heard) → FairIf x → Leaves p t m c (listen K tt c t x)
+    listens : (x : Option Message) → FairIf x → Leaves p t m c (listen K tt c t x)
     listens none f = record { next = same-keeps p t c apt (h .shape); out = tt }
     listens (some x) f = leaves p t c apt h o x f
 
-    hears-fair : (w : Said (Unit {0}) Name Brought Heard) → Fairly w → FairIf (hears K (c .name) w)
+    hears-fair : (w : Said (Unit {0}) Name Brought Message) → Fairly w → FairIf (hears K (c .name) w)
     hears-fair (activates n b) f = tt
     hears-fair (tells n x) f = by (sameName (c .name) n) (λ i. rw i f) (λ i. rw i tt)
     hears-fair (tellsAll x) f = f
     hears-fair nothing f = tt
 
-  module _ (w : Said (Unit {0}) Name Brought Heard) (f : Fairly w) where
+  module _ (w : Said (Unit {0}) Name Brought Message) (f : Fairly w) where
     active-leaves : (c : Context) → SlotOk c → HeldContext c → c .active ≡ 1 → Leaves p t m c (slot K tt t w (some c))
     active-leaves c k h e = listens c k h e (hears K (c .name) w) (hears-fair c k h e w f)
 

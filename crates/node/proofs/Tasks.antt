@@ -18,7 +18,8 @@ use Rattle.event.specs.declared.Event.the-variants as E
 use Rattle.event.specs.declared.Decoded.{Decoded}
 use Rattle.event.specs.declared.Decoded.the-variants as D
 use Rattle.event.specs.Event.{decoded}
-use Rattle.event.proofs.Theorems.{Activated, activated as activate-in, profiled, released}
+use Rattle.event.specs.Private.Activated.{Activated}
+use Rattle.event.proofs.Theorems.{activated as activate-in, qos-changed, released}
 use Rattle.context.specs.declared.Context.{Context}
 use Rattle.context.specs.declared.slots.Slot.{Slot}
 use Rattle.context.specs.declared.slots.Found.{Found}
@@ -28,15 +29,16 @@ use Rattle.context.specs.Slots.{slotOf, isFree, bears, firstFrom, distinct}
 use Rattle.history.specs.Lists.{All}
 use Rattle.history.specs.Log.{Said, activates, tells, tellsAll}
 use Rattle.node.specs.declared.Node.{Node}
-use Rattle.node.specs.declared.Heard.{Heard}
-use Rattle.node.specs.declared.Heard.the-variants as H
+use Rattle.node.specs.declared.Message.{Message}
+use Rattle.node.specs.declared.Message.the-variants as M
 use Rattle.node.specs.declared.task.Task.{Task}
 use Rattle.node.specs.declared.task.Task.the-variants as K
 use Rattle.node.specs.Sound.{sound, latest, mostAccepted}
-use Rattle.node.specs.Step.{Brought, broughtBy, takes, activated, tableRows, stepOf, Steps}
-use Rattle.node.specs.Shape.{Shaped}
-use Rattle.node.specs.Range.{across, along, slotNext, slotOut, Turns, advanced, triedOf, Tries, servedOf, Serves}
-use Rattle.node.specs.Task.{oneAt, namedTask, openAt, openTask, taskOf, timelyTask, taskFor, doneBy, FairEvent}
+use Rattle.node.specs.Step.{Brought, broughtBy, takes, activated, stepOf, Steps}
+use Rattle.node.specs.Held.{Shaped}
+use Rattle.node.specs.Private.Range.{across, along, slotNext, slotOut, Turns, advanced, triedOf, Tries, servedOf, Serves}
+use Rattle.node.specs.Private.Task.{oneAt, namedTask, openAt, openTask, taskOf, timelyTask, taskFor, doneBy, FairEvent}
+use Rattle.node.proofs.Rowed.{tableRows}
 use Rattle.node.proofs.Found.{first-is, none-at, first-below}
 use Rattle.node.proofs.Ranges.{across-none, across-more, along-none, along-more}
 use Rattle.node.proofs.Served.{Sounding, Outs, outs-tell, outs-all, outs-activate, outs-8, outs-9, outs-10}
@@ -46,7 +48,7 @@ use Rattle.node.proofs.Calls.{outs-late, outs-early, outs-many, outs-ti
 pub fair-event : (s : List ℕ) {t : ℕ} {e : Event} → decoded s ≡ D.Said t e → FairEvent e
 fair-event s {e = E.Activate a} d = tt
 fair-event s {e = E.Traffic n up down} d = tt
-fair-event s {e = E.Profile n q} d = profiled s d
+fair-event s {e = E.Qos n q} d = qos-changed s d
 fair-event s {e = E.Tariff} d = tt
 fair-event s {e = E.Release n c} d = released s d
 fair-event s {e = E.Tick} d = tt
@@ -54,7 +56,7 @@ fair-event s {e = E.Management n} d = tt
 
 -- ---- a slot heard alone
 
-module _ (n : Node) (i t : ℕ) (h : Heard) (d : Context) (l : i < length (n .contexts)) where
+module _ (n : Node) (i t : ℕ) (h : Message) (d : Context) (l : i < length (n .contexts)) where
   abbrev here : Context
   here = getD (n .contexts) i d
 
@@ -87,7 +89,7 @@ module _ (n : Node) (i t : ℕ) (h : Heard) (d : Context) (l : i < length (n .co
       let o : a′ ≡ 11 = p ∙ u in
       record { is = rw (alone, placed, lt-leb (length x) (length b) y) (λ j. (o j, (f j, (g j, e j .1 .1 .1)))) })
 
-module _ (p : Profile) (t : ℕ) (h : Heard) (c : Context) (b : List ℕ) where
+module _ (p : Profile) (t : ℕ) (h : Message) (c : Context) (b : List ℕ) where
   pub tries-full : {size : ℕ} → size ≡ length (slotOut p t h c) → length b < size → Tries p t h c b b 11 c 0
   unfolding triedOf
   tries-full e l = record { is = rw (lt-leb (length (slotOut p t h c)) (length b) (omega arith)) }
@@ -124,8 +126,9 @@ module _ (n : Node) (s b : List ℕ) (z : All Shaped (n .contexts)) (whole : len
     abbrev names : List Slot
     names = map slotOf (n .contexts)
 
-    module _ (w : Said (Unit {0}) Name Brought Heard) (conv : (b′ : List ℕ) (a k : ℕ) (r : Node) → Outs (tableRows n t w b) n t w b b′ a r k → Steps n s b b′ a r k) where
-      tell-task : (m : Name) (h : Heard) → w ≡ tells m h → (f : Found) → firstFrom (bears m) 0 names ≡ f → Tasked n s b (oneAt t h f)
+    module _ (w : Said (Unit {0}) Name Brought Message)
+        (conv : (b′ : List ℕ) (a k : ℕ) (r : Node) → Outs (tableRows n t w b) n t w b b′ a r k → Steps n s b b′ a r k) where
+      tell-task : (m : Name) (h : Message) → w ≡ tells m h → (f : Found) → firstFrom (bears m) 0 names ≡ f → Tasked n s b (oneAt t h f)
       unfolding doneBy
       tell-task m h e (At i) q =
           let f = first-is (bears m) (n .contexts) q in
@@ -135,7 +138,7 @@ module _ (n : Node) (s b : List ℕ) (z : All Shaped (n .contexts)) (whole : len
           record { done = sym (conv _ _ _ _ o .is); fit = (omega (arith, first-below f), so) }
       tell-task m h e Nothing q = refused-task (conv _ _ _ _ (rw e (outs-8 n t b m refl refl h (none-at (bears m) 0 (n .contexts) q) refl)))
 
-      all-task : (h : Heard) → w ≡ tellsAll h → Tasked n s b (K.All t h)
+      all-task : (h : Message) → w ≡ tellsAll h → Tasked n s b (K.All t h)
       unfolding doneBy
       all-task h e =
           let r = servedOf n 0 16 t h b in
@@ -164,15 +167,15 @@ module _ (n : Node) (s b : List ℕ) (z : All Shaped (n .contexts)) (whole : len
 
           go : (e : Event) → decoded s ≡ D.Said t e → Tasked n s b (taskOf names t e)
           go (E.Activate a) q = open-task (takes (E.Activate a) s) (later q) a refl (activate-in s q) (firstFrom (bears (a .name)) 0 names) (firstFrom isFree 0 names) refl refl
-          go (E.Traffic m up down) q = tell-task (takes (E.Traffic m up down) s) (later q) m (H.Traffic up down) refl (firstFrom (bears m) 0 names) refl
-          go (E.Profile m p) q = tell-task (takes (E.Profile m p) s) (later q) m (H.Profile p) refl (firstFrom (bears m) 0 names) refl
-          go E.Tariff q = all-task (takes E.Tariff s) (later q) H.Tariff refl
-          go (E.Release m c) q = tell-task (takes (E.Release m c) s) (later q) m (H.Release c) refl (firstFrom (bears m) 0 names) refl
-          go E.Tick q = all-task (takes E.Tick s) (later q) H.Tick refl
-          go (E.Management m) q = tell-task (takes (E.Management m) s) (later q) m H.Management refl (firstFrom (bears m) 0 names) refl
+          go (E.Traffic m up down) q = tell-task (takes (E.Traffic m up down) s) (later q) m (M.Traffic up down) refl (firstFrom (bears m) 0 names) refl
+          go (E.Qos m p) q = tell-task (takes (E.Qos m p) s) (later q) m (M.Qos p) refl (firstFrom (bears m) 0 names) refl
+          go E.Tariff q = all-task (takes E.Tariff s) (later q) M.Tariff refl
+          go (E.Release m c) q = tell-task (takes (E.Release m c) s) (later q) m (M.Release c) refl (firstFrom (bears m) 0 names) refl
+          go E.Tick q = all-task (takes E.Tick s) (later q) M.Tick refl
+          go (E.Management m) q = tell-task (takes (E.Management m) s) (later q) m M.Management refl (firstFrom (bears m) 0 names) refl
 
   module _ (ok : sound n ≡ true) (t : ℕ) (e : Event) (q : decoded s ≡ D.Said t e) where
-    abbrev w : Said (Unit {0}) Name Brought Heard
+    abbrev w : Said (Unit {0}) Name Brought Message
     w = takes e s
 
     timely-task : Tasked n s b (timelyTask (n .clock) (n .accepted) (map slotOf (n .contexts)) t e)
@@ -212,13 +215,14 @@ module _ (n : Node) (s b : List ℕ) where
   unfolding doneBy
   steps-refused {j} {a} {k} {m} x p q r = let y : _≡_ {A = ℕ × (Node × (ℕ × List ℕ))} (a, (m, (k, b))) (j, (n, (0, b))) = (λ i. (p i, (q i, (r i, b)))) in record { is = y ∙ sym (x .done) }
 
-  pub steps-one : {i t : ℕ} {h : Heard} (d : Context) → length (n .contexts) ≡ 16 → {b′ : List ℕ} {a k a′ k′ : ℕ} {c : Context} {m : Node} → Tasked n s b (K.One i t h)
+  pub steps-one : {i t : ℕ} {h : Message} (d : Context) → length (n .contexts) ≡ 16 → {b′ : List ℕ} {a k a′ k′ : ℕ} {c : Context} {m : Node}
+      → Tasked n s b (K.One i t h)
       → Tries (n .profile) t h (getD (n .contexts) i d) b b′ a c k
       → (a′ ≡ a) × ((m ≡ cond (eqb a 0) (advanced n t (set (n .contexts) i c)) n) × (k′ ≡ cond (eqb a 0) k 0)) → Steps n s b b′ a′ m k′
   unfolding doneBy
   steps-one {i} {t} {h} d whole x w p = record { is = served-one n i t h d (omega (arith, x .fit .0)) w (p .0) (p .1 .0) (p .1 .1) .is ∙ sym (x .done) }
 
-  pub steps-all : {t : ℕ} {h : Heard} {b′ : List ℕ} {a k : ℕ} {m : Node} → Tasked n s b (K.All t h) → Serves n 0 16 t h b b′ a m k → Steps n s b b′ a m k
+  pub steps-all : {t : ℕ} {h : Message} {b′ : List ℕ} {a k : ℕ} {m : Node} → Tasked n s b (K.All t h) → Serves n 0 16 t h b b′ a m k → Steps n s b b′ a m k
   unfolding doneBy
   steps-all x w = record { is = w .is ∙ sym (x .done) }
 

@@ -8,7 +8,7 @@ use borrow.Author.Tests.{le-leb, lt-leb}
 use Rattle.history.specs.Lists.{test}
 use Rattle.node.specs.declared.closing.Told.{Told}
 use Rattle.node.specs.declared.closing.Told.the-variants.{With, Not}
-use Rattle.node.specs.Told.{toldBy}
+use Rattle.node.specs.Private.Told.{toldBy}
 
 module _ (limit count k : ℕ) where
   pub told-met : limit ≤ count → With k ≡ toldBy (test (leb limit count) k)

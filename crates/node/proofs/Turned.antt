@@ -14,10 +14,10 @@ use Rattle.container.proofs.Opens.{padded-more}
 use Rattle.profile.specs.declared.Profile.{Profile}
 use Rattle.context.specs.declared.Context.{Context}
 use Rattle.context.specs.Context.{used}
-use Rattle.node.specs.declared.Heard.{Heard}
-use Rattle.node.specs.declared.Heard.the-variants as H
+use Rattle.node.specs.declared.Message.{Message}
+use Rattle.node.specs.declared.Message.the-variants as M
 use Rattle.node.specs.Hear.{reported, numberFor, ended, endedAll}
-use Rattle.node.specs.Told.{Roomy, Ample}
+use Rattle.node.specs.Private.Told.{Roomy, Ample}
 
 -- ---- one container more
 
@@ -33,14 +33,14 @@ module _ (p : Profile) (c : Context) (t k : ℕ) (r : Roomy c) (l : length (c .c
 
 -- ---- a report leaves what is not counted
 
-pub roomy-reported : (c : Context) (h : Heard) → Roomy c → Roomy (reported c h)
+pub roomy-reported : (c : Context) (h : Message) → Roomy c → Roomy (reported c h)
 unfolding reported
-roomy-reported c (H.Traffic up down) r = record { few = r .few; unused = r .unused; changes = r .changes; closed = r .closed }
-roomy-reported c (H.Profile q) r = r
-roomy-reported c H.Tariff r = r
-roomy-reported c (H.Release cause) r = r
-roomy-reported c H.Tick r = r
-roomy-reported c H.Management r = r
+roomy-reported c (M.Traffic up down) r = record { few = r .few; unused = r .unused; changes = r .changes; closed = r .closed }
+roomy-reported c (M.Qos q) r = r
+roomy-reported c M.Tariff r = r
+roomy-reported c (M.Release cause) r = r
+roomy-reported c M.Tick r = r
+roomy-reported c M.Management r = r
 
 -- ---- numbers
 

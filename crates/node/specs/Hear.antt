@@ -19,8 +19,8 @@ use Rattle.context.specs.declared.Context.{Context}
 use Rattle.context.specs.Context.{used}
 use Rattle.history.specs.Lists.{test}
 use Rattle.history.specs.Table.{Step}
-use Rattle.node.specs.declared.Heard.{Heard}
-use Rattle.node.specs.declared.Heard.the-variants as H
+use Rattle.node.specs.declared.Message.{Message}
+use Rattle.node.specs.declared.Message.the-variants as M
 
 -- ---- the fields that change
 
@@ -69,31 +69,31 @@ counted c up down = record {
 -- ---- reports, changes, closings
 
 -- "Traffic adds both volumes; a report is never divided."
-unfoldable pub reported : Context → Heard → Context
-reported c (H.Traffic up down) = counted c (c .uplink + up) (c .downlink + down)
-reported c (H.Profile q) = c
-reported c H.Tariff = c
-reported c (H.Release cause) = c
-reported c H.Tick = c
-reported c H.Management = c
+unfoldable pub reported : Context → Message → Context
+reported c (M.Traffic up down) = counted c (c .uplink + up) (c .downlink + down)
+reported c (M.Qos q) = c
+reported c M.Tariff = c
+reported c (M.Release cause) = c
+reported c M.Tick = c
+reported c M.Management = c
 
 -- the QoS in force afterwards
-unfoldable pub qosAfter : Context → Heard → Qos
-qosAfter c (H.Traffic up down) = c .qos
-qosAfter c (H.Profile q) = q
-qosAfter c H.Tariff = c .qos
-qosAfter c (H.Release cause) = c .qos
-qosAfter c H.Tick = c .qos
-qosAfter c H.Management = c .qos
+unfoldable pub qosAfter : Context → Message → Qos
+qosAfter c (M.Traffic up down) = c .qos
+qosAfter c (M.Qos q) = q
+qosAfter c M.Tariff = c .qos
+qosAfter c (M.Release cause) = c .qos
+qosAfter c M.Tick = c .qos
+qosAfter c M.Management = c .qos
 
 -- "QoS to a different profile ends the container, condition 0. To the same profile: no change. Tariff ends the container .. condition 1"
-unfoldable pub changeOf : Context → Heard → Option ℕ
-changeOf c (H.Traffic up down) = none
-changeOf c (H.Profile q) = cond (sameQos (c .qos) q) none (some 0)
-changeOf c H.Tariff = some 1
-changeOf c (H.Release cause) = none
-changeOf c H.Tick = none
-changeOf c H.Management = none
+unfoldable pub changeOf : Context → Message → Option ℕ
+changeOf c (M.Traffic up down) = none
+changeOf c (M.Qos q) = cond (sameQos (c .qos) q) none (some 0)
+changeOf c M.Tariff = some 1
+changeOf c (M.Release cause) = none
+changeOf c M.Tick = none
+changeOf c M.Management = none
 
 -- one change more reaches the limit
 unfoldable pub reached : Limits → Context → Option ℕ
@@ -102,21 +102,21 @@ reached l c = test (leb (l .changes) (c .changes + 1)) 19
 -- The five closing conditions, with their causes: "(16) after a traffic event, uplink plus downlink since the record opened is at least
 -- the volume limit; (17) at a tick, now minus opening is at least the time limit; (19) the record's QoS and tariff changes reach the
 -- change limit; (20) management; (0, 4, 18) release with that cause".
-unfoldable pub closing : Limits → Context → ℕ → Heard → Option ℕ
-closing l c t (H.Traffic up down) = test (leb (l .volume) (volumeOf (used c) + (c .uplink + up) + (c .downlink + down))) 16
-closing l c t (H.Profile q) = cond (sameQos (c .qos) q) none (reached l c)
-closing l c t H.Tariff = reached l c
-closing l c t (H.Release cause) = some cause
-closing l c t H.Tick = test (leb (l .seconds) (t - c .opening .seconds)) 17
-closing l c t H.Management = some 20
+unfoldable pub closing : Limits → Context → ℕ → Message → Option ℕ
+closing l c t (M.Traffic up down) = test (leb (l .volume) (volumeOf (used c) + (c .uplink + up) + (c .downlink + down))) 16
+closing l c t (M.Qos q) = cond (sameQos (c .qos) q) none (reached l c)
+closing l c t M.Tariff = reached l c
+closing l c t (M.Release cause) = some cause
+closing l c t M.Tick = test (leb (l .seconds) (t - c .opening .seconds)) 17
+closing l c t M.Management = some 20
 
-abbrev pub isRelease : Heard → Bool
-isRelease (H.Traffic up down) = false
-isRelease (H.Profile q) = false
-isRelease H.Tariff = false
-isRelease (H.Release cause) = true
-isRelease H.Tick = false
-isRelease H.Management = false
+abbrev pub isRelease : Message → Bool
+isRelease (M.Traffic up down) = false
+isRelease (M.Qos q) = false
+isRelease M.Tariff = false
+isRelease (M.Release cause) = true
+isRelease M.Tick = false
+isRelease M.Management = false
 
 -- ---- what then stands
 
@@ -170,20 +170,20 @@ recordOf p c t cause number = record {
 -- ---- hearing
 
 -- the context where nothing closes
-unfoldable pub goesOn : Profile → Context → ℕ → Heard → Option ℕ → Context
+unfoldable pub goesOn : Profile → Context → ℕ → Message → Option ℕ → Context
 goesOn p c t h none = reported c h
 goesOn p c t h (some condition) = changed p c t condition (qosAfter c h)
 
 -- the record that closes with a cause, and the context after it: none where it was released
-unfoldable pub closedBy : Profile → Context → ℕ → Heard → ℕ → Record
+unfoldable pub closedBy : Profile → Context → ℕ → Message → ℕ → Record
 closedBy p c t h cause = recordOf p (reported c h) t cause (numberFor c (isRelease h))
 
-unfoldable pub afterClosing : Profile → Context → ℕ → Heard → Option Context
+unfoldable pub afterClosing : Profile → Context → ℕ → Message → Option Context
 afterClosing p c t h = cond (isRelease h) none (some (opened p (reported c h) t (qosAfter c h)))
 
-unfoldable pub hearWith : Profile → Context → ℕ → Heard → Option ℕ → Step Context Record
+unfoldable pub hearWith : Profile → Context → ℕ → Message → Option ℕ → Step Context Record
 hearWith p c t h none = record { next = some (goesOn p c t h (changeOf c h)); out = [] }
 hearWith p c t h (some cause) = record { next = afterClosing p c t h; out = closedBy p c t h cause ∷ [] }
 
-unfoldable pub hear : Profile → Context → ℕ → Heard → Step Context Record
+unfoldable pub hear : Profile → Context → ℕ → Message → Step Context Record
 hear p c t h = hearWith p c t h (closing (p .limits) c t h)

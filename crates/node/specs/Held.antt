@@ -10,11 +10,16 @@ use Rattle.context.specs.declared.Context.{Context}
 use Rattle.history.specs.Lists.{All}
 use Rattle.node.specs.declared.Node.{Node}
 use Rattle.node.specs.Sound.{sound}
-use Rattle.node.specs.Shape.{Shaped}
 
 -- each is an octet
 abbrev pub Octets : List ℕ → Type 0
 Octets s = All (λ x. x < 256) s
+
+-- so many octets and places
+pub record Shaped (c : Context) : Type 0 where
+  pub imsi : length (c .imsi) ≡ 8
+  pub apn : length (c .apn) ≡ 63
+  pub containers : length (c .containers) ≡ 15
 
 pub record HeldContext (c : Context) : Type 0 where
   pub shape : Shaped c

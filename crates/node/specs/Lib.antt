@@ -1,10 +1,7 @@
 pub mod Hear
 pub mod Sound
 pub mod Step
-pub mod Told
-pub mod Range
-pub mod Task
-pub mod Shape
 pub mod Sample
 pub mod Held
 pub mod Run
+pub mod Private

@@ -27,14 +27,14 @@ abbrev pub named : List ℕ → List ℕ
 named rest = 0 ∷ 0 ∷ 0 ∷ 1 ∷ 10 ∷ 0 ∷ 0 ∷ 2 ∷ rest
 
 -- a session goes on with a room of 2,000 octets at each call: what it answers and writes, call by call
-unfoldable pub written : Node → List (List ℕ) → List (ℕ × List ℕ)
-written n [] = []
-written n (s ∷ ss) =
+unfoldable pub answers : Node → List (List ℕ) → List (ℕ × List ℕ)
+answers n [] = []
+answers n (s ∷ ss) =
     let r = stepOf n s (replicate 2000 0) in
-    (r .0, take (r .1 .1 .0) (r .1 .1 .1)) ∷ written (r .1 .0) ss
+    (r .0, take (r .1 .1 .0) (r .1 .1 .1)) ∷ answers (r .1 .0) ss
 
 abbrev pub session : List (List ℕ) → List (ℕ × List ℕ)
-session ss = written (freshNode profile) ss
+session ss = answers (freshNode profile) ss
 
 -- ---- the second session: what its records must be, set down from 01 by hand and by an independent program
 

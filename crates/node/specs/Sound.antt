@@ -1,13 +1,12 @@
 -- "A sound node" (01), and a fresh one. Assumes nothing.
 use mathlib.Core.Path.{_≡_}
 use mathlib.Core.Bool.{Bool, cond, _&&_}
-use mathlib.Core.List.{[], map}
+use mathlib.Core.List.{map}
 use Prim.Native.Nat.{ℕ, _^_}
 use lib.Dec.{leb}
 use lib.ListN.{replicate}
-use Rattle.scdr.specs.Layout.{fillTo}
 use Rattle.profile.specs.declared.Profile.{Profile}
-use Rattle.profile.specs.Profile.{profileOk}
+use Rattle.profile.specs.Profile.{profileOk, noProfile}
 use Rattle.context.specs.Context.{noContext}
 use Rattle.context.specs.Sound.{slotsOk}
 use Rattle.context.specs.Slots.{slotOf, distinct}
@@ -33,9 +32,6 @@ sound n =
 -- "Fresh node: clock 0, no contexts, no accepted events."
 abbrev pub freshNode : Profile → Node
 freshNode p = record { profile = p; clock = 0; accepted = 0; contexts = replicate 16 noContext }
-
-abbrev pub noProfile : Profile
-noProfile = record { sgsn = 0; limits = record { volume = 0; seconds = 0; changes = 0 }; zone = 0; nodeid = fillTo 20 0 []; nodelen = 0 }
 
 -- all zero, which is unsound
 abbrev pub noNode : Node

@@ -15,8 +15,8 @@ use Rattle.event.specs.declared.Name.{Name}
 use Rattle.event.specs.declared.Activation.{Activation}
 use Rattle.event.specs.declared.Event.{Event}
 use Rattle.event.specs.declared.Event.the-variants as E
-use Rattle.event.specs.Fields.{kindOf, timeOf, flagsOf, imsiOf, apnOf}
-use Rattle.event.specs.Rows.{Row, row, firstFit, rows}
+use Rattle.event.specs.Fields.{kindOf, timeOf, flagsOf, imsiOf, apnOf, fieldsOk}
+use Rattle.event.specs.Rows.{Row, row, firstFit, marked, known, measured}
 use Rattle.event.specs.Event.{eventOf}
 use Rattle.context.specs.declared.Context.{Context}
 use Rattle.context.specs.Context.{noContext}
@@ -25,8 +25,8 @@ use Rattle.history.specs.Lists.{each}
 use Rattle.history.specs.Log.{Said, activates, tells, tellsAll, nothing}
 use Rattle.history.specs.Table.{Handling, free, active, slotsAfter, writes}
 use Rattle.node.specs.declared.Node.{Node}
-use Rattle.node.specs.declared.Heard.{Heard}
-use Rattle.node.specs.declared.Heard.the-variants as H
+use Rattle.node.specs.declared.Message.{Message}
+use Rattle.node.specs.declared.Message.the-variants as M
 use Rattle.node.specs.Hear.{timeAt, hear}
 use Rattle.node.specs.Sound.{sound, latest, mostAccepted}
 
@@ -45,14 +45,14 @@ abbrev pub broughtBy : Activation → List ℕ → Brought
 broughtBy a s = record { flags = flagsOf s; imsi = imsiOf s; apn = apnOf s; pdptype = a .pdptype; address = a .address; qos = a .qos }
 
 -- An activate names a context that is to be; traffic, QoS, release and management name one; a tariff and a tick are for all.
-abbrev pub takes : Event → List ℕ → Said (Unit {0}) Name Brought Heard
+abbrev pub takes : Event → List ℕ → Said (Unit {0}) Name Brought Message
 takes (E.Activate a) s = activates (a .name) (λ g. broughtBy a s)
-takes (E.Traffic n up down) s = tells n (H.Traffic up down)
-takes (E.Profile n q) s = tells n (H.Profile q)
-takes E.Tariff s = tellsAll H.Tariff
-takes (E.Release n cause) s = tells n (H.Release cause)
-takes E.Tick s = tellsAll H.Tick
-takes (E.Management n) s = tells n H.Management
+takes (E.Traffic n up down) s = tells n (M.Traffic up down)
+takes (E.Qos n q) s = tells n (M.Qos q)
+takes E.Tariff s = tellsAll M.Tariff
+takes (E.Release n cause) s = tells n (M.Release cause)
+takes E.Tick s = tellsAll M.Tick
+takes (E.Management n) s = tells n M.Management
 
 -- "opens a record now with empty counters, no containers, change count 0"
 unfoldable pub activated : Profile → ℕ → Name → Brought → Context
@@ -77,7 +77,7 @@ activated p t n b = record {
 
 -- How the node handles contexts: a named event is heard by the context of that name, a tariff and a tick by all in slot order,
 -- "activation takes the lowest free slot", "a freed slot is used again" (`slotsAfter`, `writes` of history's specs/Table.antt).
-abbrev pub handling : Profile → Handling (Unit {0}) Name Brought Heard (Event × List ℕ) Context Record
+abbrev pub handling : Profile → Handling (Unit {0}) Name Brought Message (Event × List ℕ) Context Record
 handling p = record {
   same = sameName;
   name = λ c. c .name;
@@ -108,7 +108,7 @@ octetsOf rs = each markedOctets rs
 
 -- ---- an event that is accepted
 
-module _ (n : Node) (t : ℕ) (w : Said (Unit {0}) Name Brought Heard) where
+module _ (n : Node) (t : ℕ) (w : Said (Unit {0}) Name Brought Message) where
   unfoldable pub nodeAfter : Node
   nodeAfter = record {
     profile = n .profile;
@@ -126,54 +126,64 @@ module _ (n : Node) (t : ℕ) (w : Said (Unit {0}) Name Brought Heard) where
 -- ---- the refusal table
 
 -- of kinds 2, 3, 5, 7: name not active
-unfoldable pub notActive : Profile → Said (Unit {0}) Name Brought Heard → List (Option Context) → Bool
+unfoldable pub notActive : Profile → Said (Unit {0}) Name Brought Message → List (Option Context) → Bool
 notActive p (activates m b) os = false
 notActive p (tells m h) os = not (active (handling p) m os)
 notActive p (tellsAll h) os = false
 notActive p nothing os = false
 
 -- of kind 1: name active
-unfoldable pub isActive : Profile → Said (Unit {0}) Name Brought Heard → List (Option Context) → Bool
+unfoldable pub isActive : Profile → Said (Unit {0}) Name Brought Message → List (Option Context) → Bool
 isActive p (activates m b) os = active (handling p) m os
 isActive p (tells m h) os = false
 isActive p (tellsAll h) os = false
 isActive p nothing os = false
 
 -- of kind 1: all 16 slots taken
-unfoldable pub allTaken : Said (Unit {0}) Name Brought Heard → List (Option Context) → Bool
+unfoldable pub allTaken : Said (Unit {0}) Name Brought Message → List (Option Context) → Bool
 allTaken (activates m b) os = not (free os)
 allTaken (tells m h) os = false
 allTaken (tellsAll h) os = false
 allTaken nothing os = false
 
--- 8 to 11
-unfoldable pub tableRows : Node → ℕ → Said (Unit {0}) Name Brought Heard → List ℕ → List Row
-tableRows n t w b =
-    row 8 (notActive (n .profile) w (slots n))
-    ∷ row 9 (isActive (n .profile) w (slots n))
-    ∷ row 10 (allTaken w (slots n))
-    ∷ row 11 (ltb (length b) (length (output n t w)))
-    ∷ []
-
--- 6 and 7, and what follows
-unfoldable pub laterRows : Node → ℕ → Said (Unit {0}) Name Brought Heard → List ℕ → List Row
-laterRows n t w b =
-    row 6 (ltb latest t || ltb t (n .clock))
-    ∷ row 7 (leb mostAccepted (n .accepted))
-    ∷ tableRows n t w b
-
 -- what the octets of an event say, as they stand
-abbrev pub saidOf : List ℕ → Said (Unit {0}) Name Brought Heard
+abbrev pub saidOf : List ℕ → Said (Unit {0}) Name Brought Message
 saidOf s = takes (eventOf (kindOf s) s) s
 
--- 13, then 1 to 5 of the event's octets, then 6 to 11
+-- 01's "Refusal numbers, tried in this order", all that a call gives, each with 01's words. (12 is a fresh node's, 20 the reader's and 24 the
+-- writer's.) Each condition is true or false of any node, octets and buffer.
 unfoldable pub refusals : Node → List ℕ → List ℕ → List Row
-refusals n s b = row 13 (not (sound n)) ∷ (rows s ++ laterRows n (timeOf s) (saidOf s) b)
+refusals n s b =
+    -- "node breaks a rule under 'A sound node'"
+    row 13 (not (sound n))
+    -- "event under 7 octets, empty too"
+    ∷ row 1 (ltb (length s) 7)
+    -- "mark"
+    ∷ row 2 (not (marked s))
+    -- "kind not 1..7"
+    ∷ row 3 (not (known s))
+    -- "length not the kind's; activate under 36"
+    ∷ row 4 (not (measured s))
+    -- "a field out of range"
+    ∷ row 5 (not (fieldsOk (kindOf s) s))
+    -- "time above 3,155,759,999 or below the clock"
+    ∷ row 6 (ltb latest (timeOf s) || ltb (timeOf s) (n .clock))
+    -- "1,000,000,000,000,000 events accepted already"
+    ∷ row 7 (leb mostAccepted (n .accepted))
+    -- "kinds 2, 3, 5, 7: name not active"
+    ∷ row 8 (notActive (n .profile) (saidOf s) (slots n))
+    -- "kind 1: name active"
+    ∷ row 9 (isActive (n .profile) (saidOf s) (slots n))
+    -- "kind 1: all 16 slots taken"
+    ∷ row 10 (allTaken (saidOf s) (slots n))
+    -- "this event's output .. longer than the output buffer"
+    ∷ row 11 (ltb (length b) (length (output n (timeOf s) (saidOf s))))
+    ∷ []
 
 -- ---- the whole call: answer, node, written length, buffer
 
 -- with the number of a refusal, or 0 where none fits
-unfoldable pub outcome : ℕ → Node → ℕ → Said (Unit {0}) Name Brought Heard → List ℕ → ℕ × (Node × (ℕ × List ℕ))
+unfoldable pub outcome : ℕ → Node → ℕ → Said (Unit {0}) Name Brought Message → List ℕ → ℕ × (Node × (ℕ × List ℕ))
 outcome k n t w b =
     cond (eqb k 0)
     (0, (nodeAfter n t w, (length (output n t w), output n t w ++ drop (length (output n t w)) b)))

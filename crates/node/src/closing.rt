@@ -1,5 +1,5 @@
 // What an event is to a context that hears it: a report, a change, a closing.
-use crate::Heard;
+use crate::Message;
 use container::Qos;
 use container::open;
 use container::profile as qos;
@@ -12,7 +12,7 @@ ghost use Rattle.container.specs.Open.{volumeOf};
 ghost use Rattle.context.specs.Context.{used};
 ghost use Rattle.history.specs.Lists.{test};
 ghost use Rattle.node.specs.Hear.{counted, reported, qosAfter, changeOf, reached, closing, isRelease};
-ghost use Rattle.node.specs.Told.{toldBy, Ample};
+ghost use Rattle.node.specs.Private.Told.{toldBy, Ample};
 
 // A condition or a cause, if there is one.
 pub enum Told {
@@ -32,52 +32,52 @@ fn counted(c: Context, up: u32, down: u32) -> Context
 }
 
 // The context after the report, if the event is one.
-pub fn reported(c: Context, h: Heard) -> Context
+pub fn reported(c: Context, h: Message) -> Context
     requires { ⌜ Ample c ⌝ }
     ensures { λ r. ⌜ r ≡ reported c h ⌝ }
 {
     match h {
-        Heard::Traffic(up, down) => counted(c, up, down),
-        Heard::Profile(_) => c,
-        Heard::Tariff => c,
-        Heard::Release(_) => c,
-        Heard::Tick => c,
-        Heard::Management => c,
+        Message::Traffic(up, down) => counted(c, up, down),
+        Message::Qos(_) => c,
+        Message::Tariff => c,
+        Message::Release(_) => c,
+        Message::Tick => c,
+        Message::Management => c,
     }
 }
 
 // The QoS in force after it.
-pub fn qos_after(c: Context, h: Heard) -> Qos
+pub fn qos_after(c: Context, h: Message) -> Qos
     ensures { λ r. ⌜ r ≡ qosAfter c h ⌝ }
 {
     let old = c.qos;
     match h {
-        Heard::Traffic(_, _) => old,
-        Heard::Profile(q) => q,
-        Heard::Tariff => old,
-        Heard::Release(_) => old,
-        Heard::Tick => old,
-        Heard::Management => old,
+        Message::Traffic(_, _) => old,
+        Message::Qos(q) => q,
+        Message::Tariff => old,
+        Message::Release(_) => old,
+        Message::Tick => old,
+        Message::Management => old,
     }
 }
 
 // The condition with which it ends the container, if it is a change.
-pub fn change_of(c: Context, h: Heard) -> Told
+pub fn change_of(c: Context, h: Message) -> Told
     ensures { λ r. ⌜ r ≡ toldBy (changeOf c h) ⌝ }
 {
     let old = c.qos;
     match h {
-        Heard::Traffic(_, _) => Told::Not,
-        Heard::Profile(q) => {
+        Message::Traffic(_, _) => Told::Not,
+        Message::Qos(q) => {
             if qos::same_qos(old, q) {
                 return Told::Not;
             }
             Told::With(0)
         }
-        Heard::Tariff => Told::With(1),
-        Heard::Release(_) => Told::Not,
-        Heard::Tick => Told::Not,
-        Heard::Management => Told::Not,
+        Message::Tariff => Told::With(1),
+        Message::Release(_) => Told::Not,
+        Message::Tick => Told::Not,
+        Message::Management => Told::Not,
     }
 }
 
@@ -118,35 +118,35 @@ fn by_changes(l: Limits, c: Context) -> Told
 }
 
 // The cause with which it closes the record, if it does.
-pub fn cause_of(l: Limits, c: Context, t: u32, h: Heard) -> Told
+pub fn cause_of(l: Limits, c: Context, t: u32, h: Message) -> Told
     ensures { λ r. ⌜ r ≡ toldBy (closing l c t h) ⌝ }
 {
     let old = c.qos;
     match h {
-        Heard::Traffic(up, down) => by_volume(l, c, up, down),
-        Heard::Profile(q) => {
+        Message::Traffic(up, down) => by_volume(l, c, up, down),
+        Message::Qos(q) => {
             if qos::same_qos(old, q) {
                 return Told::Not;
             }
             by_changes(l, c)
         }
-        Heard::Tariff => by_changes(l, c),
-        Heard::Release(cause) => Told::With(cause),
-        Heard::Tick => by_time(l, c, t),
-        Heard::Management => Told::With(20),
+        Message::Tariff => by_changes(l, c),
+        Message::Release(cause) => Told::With(cause),
+        Message::Tick => by_time(l, c, t),
+        Message::Management => Told::With(20),
     }
 }
 
 // Does it release the context?
-pub fn is_release(h: Heard) -> bool
+pub fn is_release(h: Message) -> bool
     ensures { λ r. ⌜ r ≡ isRelease h ⌝ }
 {
     match h {
-        Heard::Traffic(_, _) => false,
-        Heard::Profile(_) => false,
-        Heard::Tariff => false,
-        Heard::Release(_) => true,
-        Heard::Tick => false,
-        Heard::Management => false,
+        Message::Traffic(_, _) => false,
+        Message::Qos(_) => false,
+        Message::Tariff => false,
+        Message::Release(_) => true,
+        Message::Tick => false,
+        Message::Management => false,
     }
 }

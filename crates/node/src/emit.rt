@@ -1,5 +1,5 @@
 // What a context writes when it hears something: nothing, or one record after its mark.
-use crate::Heard;
+use crate::Message;
 use crate::closing;
 use crate::closing::Told;
 use crate::turn;
@@ -16,8 +16,8 @@ ghost use Rattle.ber.proofs.Writers.{Put};
 ghost use Rattle.scdr.specs.Rules.{within};
 ghost use Rattle.node.specs.Hear.{hear};
 ghost use Rattle.node.specs.Step.{stood, markedOctets, octetsOf};
-ghost use Rattle.node.specs.Told.{Fair, Apt, Slotted};
-ghost use Rattle.node.specs.Range.{Counts, Turns, Tries, slotNext, slotOut};
+ghost use Rattle.node.specs.Private.Told.{Fair, Apt, Slotted};
+ghost use Rattle.node.specs.Private.Range.{Counts, Turns, Tries, slotNext, slotOut};
 
 // What stands in a slot, and the place after what was written.
 pub struct Turned {
@@ -37,7 +37,7 @@ fn put_record(r: Record, out: &mut [u8], at: usize) -> usize
 }
 
 // How many octets an active context writes.
-fn size_of(p: Profile, c: Context, t: u32, h: Heard) -> usize
+fn size_of(p: Profile, c: Context, t: u32, h: Message) -> usize
     requires { ⌜ Apt p t c ⌝ }
     requires { ⌜ Fair h ⌝ }
     ensures { λ r. ⌜ Counts (octetsOf (hear p c t h .out)) r ⌝ }
@@ -51,7 +51,7 @@ fn size_of(p: Profile, c: Context, t: u32, h: Heard) -> usize
 }
 
 // An active context hears something, and writes at a place.
-fn hear(p: Profile, c: Context, t: u32, h: Heard, out: &mut [u8], at: usize) -> Turned
+fn hear(p: Profile, c: Context, t: u32, h: Message, out: &mut [u8], at: usize) -> Turned
     requires { ⌜ Apt p t c ⌝ }
     requires { ⌜ Fair h ⌝ }
     requires { ⌜ at + length (octetsOf (hear p c t h .out)) ≤ length (now out) ⌝ }
@@ -74,7 +74,7 @@ fn hear(p: Profile, c: Context, t: u32, h: Heard, out: &mut [u8], at: usize) -> 
 }
 
 // The same of a slot, which may be free.
-pub fn slot_size(p: Profile, c: Context, t: u32, h: Heard) -> usize
+pub fn slot_size(p: Profile, c: Context, t: u32, h: Message) -> usize
     requires { ⌜ Slotted p t c ⌝ }
     requires { ⌜ Fair h ⌝ }
     ensures { λ r. ⌜ Counts (slotOut p t h c) r ⌝ }
@@ -85,7 +85,7 @@ pub fn slot_size(p: Profile, c: Context, t: u32, h: Heard) -> usize
     0
 }
 
-pub fn hear_slot(p: Profile, c: Context, t: u32, h: Heard, out: &mut [u8], at: usize) -> Turned
+pub fn hear_slot(p: Profile, c: Context, t: u32, h: Message, out: &mut [u8], at: usize) -> Turned
     requires { ⌜ Slotted p t c ⌝ }
     requires { ⌜ Fair h ⌝ }
     requires { ⌜ at + length (slotOut p t h c) ≤ length (now out) ⌝ }
@@ -106,7 +106,7 @@ pub struct Tried {
 }
 
 // A slot hears something alone, and writes from the start of out: first the room is looked for.
-pub fn try_slot(p: Profile, c: Context, t: u32, h: Heard, out: &mut [u8]) -> Tried
+pub fn try_slot(p: Profile, c: Context, t: u32, h: Message, out: &mut [u8]) -> Tried
     requires { ⌜ Slotted p t c ⌝ }
     requires { ⌜ Fair h ⌝ }
     ensures { λ r. ⌜ Tries p t h c (now (out .entry)) (now (out .exit)) (r .answer) (r .context) (r .written) ⌝ }

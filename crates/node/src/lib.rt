@@ -29,10 +29,11 @@ pub struct Node {
 }
 
 // What a context hears of an event: one that names it, or one that all hear.
-pub enum Heard {
+pub enum Message {
     // octets up and down
     Traffic(u32, u32),
-    Profile(Qos),
+    // the QoS profile from now on
+    Qos(Qos),
     Tariff,
     // the cause
     Release(u8),

@@ -3,7 +3,6 @@ use crate::Node;
 use context::slots;
 use context::slots::Slot;
 use context::sound;
-use profile::Limits;
 use profile::Profile;
 ghost use mathlib.Core.Path.{_≡_};
 ghost use mathlib.Core.Bool.{_&&_};
@@ -39,19 +38,7 @@ pub fn no_node() -> Node
 {
     let free = context::no_context();
     let contexts = [free; 16];
-    let limits = Limits {
-        volume: 0,
-        seconds: 0,
-        changes: 0,
-    };
-    let nodeid = [0u8; 20];
-    let profile = Profile {
-        sgsn: 0,
-        limits,
-        zone: 0,
-        nodeid,
-        nodelen: 0,
-    };
+    let profile = profile::no_profile();
     Node {
         profile,
         clock: 0,

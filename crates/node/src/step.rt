@@ -1,5 +1,5 @@
 // One call: an event's octets, a lent buffer, and the node that the last call handed back.
-use crate::Heard;
+use crate::Message;
 use crate::Node;
 use crate::emit;
 use crate::emit::Tried;
@@ -20,12 +20,12 @@ ghost use Prim.Native.Nat.{_≤_, _<_};
 ghost use lib.Dec.{eqb};
 ghost use lib.ListN.{length, set};
 ghost use Rattle.event.specs.Fields.{imsiOf, apnOf};
-ghost use Rattle.event.proofs.Theorems.{Activated};
+ghost use Rattle.event.specs.Private.Activated.{Activated};
 ghost use Rattle.scdr.specs.Layout.{fillTo};
 ghost use Rattle.node.specs.Sound.{mostAccepted};
 ghost use Rattle.node.specs.Step.{Steps, broughtBy, activated};
-ghost use Rattle.node.specs.Told.{Fair, Ready};
-ghost use Rattle.node.specs.Range.{advanced, Serves};
+ghost use Rattle.node.specs.Private.Told.{Fair, Ready};
+ghost use Rattle.node.specs.Private.Range.{advanced, Serves};
 
 // The answer, the node, and how many octets were written.
 pub struct Stepped {
@@ -63,7 +63,7 @@ fn accepted(node: Node, t: u32, contexts: [Context; 16], written: usize) -> Step
 }
 
 // All slots hear h: first the room is looked for, then each writes where the last ended.
-fn serve(node: Node, t: u32, h: Heard, out: &mut [u8]) -> Stepped
+fn serve(node: Node, t: u32, h: Message, out: &mut [u8]) -> Stepped
     requires { ⌜ Ready (node .profile) t (node .contexts) ⌝ }
     requires { ⌜ Fair h ⌝ }
     requires { ⌜ node .accepted < mostAccepted ⌝ }

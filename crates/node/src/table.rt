@@ -1,13 +1,13 @@
 // The table: all its slots hear something, one after another, each writing where the last ended.
-use crate::Heard;
+use crate::Message;
 use crate::emit;
 use context::Context;
 use profile::Profile;
 ghost use mathlib.Core.Path.{_≡_};
 ghost use Prim.Native.Nat.{_≤_};
 ghost use lib.ListN.{length};
-ghost use Rattle.node.specs.Told.{Fair, Ready};
-ghost use Rattle.node.specs.Range.{across, along, slotNext, slotOut, Turns};
+ghost use Rattle.node.specs.Private.Told.{Fair, Ready};
+ghost use Rattle.node.specs.Private.Range.{across, along, slotNext, slotOut, Turns};
 
 // The table after it, and the place after what was written.
 pub struct Heard16 {
@@ -16,7 +16,7 @@ pub struct Heard16 {
 }
 
 // How many octets they write.
-pub fn size_all(p: Profile, cs: [Context; 16], t: u32, h: Heard) -> usize
+pub fn size_all(p: Profile, cs: [Context; 16], t: u32, h: Message) -> usize
     requires { ⌜ Ready p t cs ⌝ }
     requires { ⌜ Fair h ⌝ }
     ensures { λ r. ⌜ r ≡ length (along 0 16 (slotOut p t h) cs) ⌝ }
@@ -32,7 +32,7 @@ pub fn size_all(p: Profile, cs: [Context; 16], t: u32, h: Heard) -> usize
 }
 
 // They hear h at t, and write from the start of out.
-pub fn hear_all(p: Profile, cs: [Context; 16], t: u32, h: Heard, out: &mut [u8]) -> Heard16
+pub fn hear_all(p: Profile, cs: [Context; 16], t: u32, h: Message, out: &mut [u8]) -> Heard16
     requires { ⌜ Ready p t cs ⌝ }
     requires { ⌜ Fair h ⌝ }
     requires { ⌜ length (along 0 16 (slotOut p t h) cs) ≤ length (now out) ⌝ }

@@ -1,6 +1,6 @@
 // What a call is to do, by the names of the slots and the event. Nothing here has the table in hand: a node has 12,232 octets, and each
 // function that takes it copies it.
-use crate::Heard;
+use crate::Message;
 use context::slots;
 use context::slots::Found;
 use context::slots::Slot;
@@ -10,22 +10,22 @@ use event::Event;
 use event::Name;
 ghost use mathlib.Core.Path.{_≡_};
 ghost use Rattle.event.specs.Event.{decoded};
-ghost use Rattle.node.specs.Told.{Fair};
-ghost use Rattle.node.specs.Task.{namedTask, openTask, taskOf, timelyTask, taskFor, FairEvent, FairTask};
+ghost use Rattle.node.specs.Private.Told.{Fair};
+ghost use Rattle.node.specs.Private.Task.{namedTask, openTask, taskOf, timelyTask, taskFor, FairEvent, FairTask};
 
 pub enum Task {
     // the number of a refusal
     Refuse(u8),
     // the context in a slot hears something, at a time
-    One(usize, u32, Heard),
+    One(usize, u32, Message),
     // all contexts do
-    All(u32, Heard),
+    All(u32, Message),
     // an activation fills a free slot, at a time
     Open(usize, u32, Activation),
 }
 
 // The context of a name hears h.
-fn named(names: [Slot; 16], t: u32, name: Name, h: Heard) -> Task
+fn named(names: [Slot; 16], t: u32, name: Name, h: Message) -> Task
     requires { ⌜ Fair h ⌝ }
     ensures { λ r. ⌜ (r ≡ namedTask names t name h) × FairTask r ⌝ }
 {
@@ -58,12 +58,12 @@ fn task_of(names: [Slot; 16], t: u32, e: Event) -> Task
 {
     match e {
         Event::Activate(a) => open(names, t, a),
-        Event::Traffic(name, up, down) => named(names, t, name, Heard::Traffic(up, down)),
-        Event::Profile(name, q) => named(names, t, name, Heard::Profile(q)),
-        Event::Tariff => Task::All(t, Heard::Tariff),
-        Event::Release(name, cause) => named(names, t, name, Heard::Release(cause)),
-        Event::Tick => Task::All(t, Heard::Tick),
-        Event::Management(name) => named(names, t, name, Heard::Management),
+        Event::Traffic(name, up, down) => named(names, t, name, Message::Traffic(up, down)),
+        Event::Qos(name, q) => named(names, t, name, Message::Qos(q)),
+        Event::Tariff => Task::All(t, Message::Tariff),
+        Event::Release(name, cause) => named(names, t, name, Message::Release(cause)),
+        Event::Tick => Task::All(t, Message::Tick),
+        Event::Management(name) => named(names, t, name, Message::Management),
     }
 }
 

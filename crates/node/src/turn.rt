@@ -1,5 +1,5 @@
 // What stands of a context after it heard something: the record that goes on, the record that closed, the next one.
-use crate::Heard;
+use crate::Message;
 use crate::closing;
 use crate::closing::Told;
 use calendar::Stamp;
@@ -12,7 +12,7 @@ use scdr::Record;
 ghost use mathlib.Core.Path.{_≡_};
 ghost use Rattle.node.specs.Hear.{ended, changed, opened, numberFor, recordOf, goesOn, closedBy, afterClosing, changeOf, isRelease};
 ghost use Rattle.node.specs.Step.{stood};
-ghost use Rattle.node.specs.Told.{Roomy, Ample};
+ghost use Rattle.node.specs.Private.Told.{Roomy, Ample};
 
 // The running container, ended now with a condition.
 fn ended(p: Profile, c: Context, t: u32, condition: u8) -> Container
@@ -117,7 +117,7 @@ fn record_of(p: Profile, c: Context, t: u32, cause: u8, number: u64) -> Record
 }
 
 // The context where nothing closes.
-pub fn goes_on(p: Profile, c: Context, t: u32, h: Heard) -> Context
+pub fn goes_on(p: Profile, c: Context, t: u32, h: Message) -> Context
     requires { ⌜ Roomy c ⌝ }
     requires { ⌜ Ample c ⌝ }
     ensures { λ r. ⌜ r ≡ goesOn p c t h (changeOf c h) ⌝ }
@@ -130,7 +130,7 @@ pub fn goes_on(p: Profile, c: Context, t: u32, h: Heard) -> Context
 }
 
 // The record that closes with a cause.
-pub fn closed_by(p: Profile, c: Context, t: u32, h: Heard, cause: u8) -> Record
+pub fn closed_by(p: Profile, c: Context, t: u32, h: Message, cause: u8) -> Record
     requires { ⌜ Roomy c ⌝ }
     requires { ⌜ Ample c ⌝ }
     ensures { λ r. ⌜ r ≡ closedBy p c t h cause ⌝ }
@@ -140,7 +140,7 @@ pub fn closed_by(p: Profile, c: Context, t: u32, h: Heard, cause: u8) -> Record
 }
 
 // What stands in the slot after a closing.
-pub fn after_closing(p: Profile, c: Context, t: u32, h: Heard) -> Context
+pub fn after_closing(p: Profile, c: Context, t: u32, h: Message) -> Context
     requires { ⌜ Roomy c ⌝ }
     requires { ⌜ Ample c ⌝ }
     ensures { λ r. ⌜ r ≡ stood (afterClosing p c t h) ⌝ }

@@ -19,8 +19,8 @@ use Rattle.history.specs.Lists.{All}
 use Rattle.history.specs.Log.{Said, activates, tells, tellsAll, nothing}
 use Rattle.history.specs.Table as table
 use Rattle.history.proofs.Tables.{Bears, NextIs, Sound}
-use Rattle.node.specs.declared.Heard as node
-use Rattle.node.specs.declared.Heard.the-variants as N
+use Rattle.node.specs.declared.Message as node
+use Rattle.node.specs.declared.Message.the-variants as N
 use Rattle.node.specs.Hear.{reported, qosAfter, changed, opened, recordOf, changeOf, closing, goesOn, closedBy, afterClosing, isRelease, hearWith, hear}
 use Rattle.node.specs.Step as step
 use Rattle.node.proofs.Heards.{same-name}
@@ -40,7 +40,7 @@ brings s = record {
   qos = s .qos;
 }
 
-abbrev pub said : Said (Unit {0}) Name Force Heard → Said (Unit {0}) Name step.Brought node.Heard
+abbrev pub said : Said (Unit {0}) Name Force Heard → Said (Unit {0}) Name step.Brought node.Message
 said (activates m s) = activates m (λ g. brings (s g))
 said (tells m e) = tells m (nodes e)
 said (tellsAll e) = tellsAll (nodes e)
@@ -60,7 +60,7 @@ module _ (p : Profile) where
   abbrev K : table.Handling (Unit {0}) Name Force Heard (List ℕ) Context scdr.Record
   K = handling p
 
-  abbrev K′ : table.Handling (Unit {0}) Name step.Brought node.Heard (Event × List ℕ) Context scdr.Record
+  abbrev K′ : table.Handling (Unit {0}) Name step.Brought node.Message (Event × List ℕ) Context scdr.Record
   K′ = step.handling p
 
   -- a slot hears the same
@@ -119,16 +119,16 @@ module _ (p : Profile) where
     name : d .name ≡ c .name
     active : d .active ≡ c .active
 
-  reports : (c : Context) (h : node.Heard) → Named c (reported c h)
+  reports : (c : Context) (h : node.Message) → Named c (reported c h)
   unfolding reported
   reports c (N.Traffic u d) = record { name = refl; active = refl }
-  reports c (N.Profile q) = record { name = refl; active = refl }
+  reports c (N.Qos q) = record { name = refl; active = refl }
   reports c N.Tariff = record { name = refl; active = refl }
   reports c (N.Release x) = record { name = refl; active = refl }
   reports c N.Tick = record { name = refl; active = refl }
   reports c N.Management = record { name = refl; active = refl }
 
-  module _ (c : Context) (t : ℕ) (h : node.Heard) where
+  module _ (c : Context) (t : ℕ) (h : node.Message) where
     goes-on : (k : Option ℕ) → Named c (goesOn p c t h k)
     unfolding goesOn changed
     goes-on none = reports c h

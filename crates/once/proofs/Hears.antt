@@ -28,16 +28,16 @@ use Rattle.history.specs.Records.{Rules, Stretch, whole, number, inForce, cause
 use Rattle.history.proofs.Lists.{map-append, none≢some}
 use Rattle.history.proofs.Records.{inForce-open, inForce-running, every-open}
 use Rattle.history.proofs.Tables.{told, told-closing, told-change, told-plain}
-use Rattle.node.specs.declared.Heard as node
-use Rattle.node.specs.declared.Heard.the-variants as N
+use Rattle.node.specs.declared.Message as node
+use Rattle.node.specs.declared.Message.the-variants as N
 use Rattle.node.specs.Hear.{reported, qosAfter, changeOf, reached, closing, changed, opened, numberFor, recordOf, goesOn, closedBy, afterClosing, hearWith, hear}
 use Rattle.once.specs.Charging.{Force, Heard, up, down, after, change, releases, volume, changesOf, rules, timeIn, container, first, bit0, bit1, forms}
 
 -- ---- what the node calls what is heard
 
-abbrev pub nodes : Heard → node.Heard
+abbrev pub nodes : Heard → node.Message
 nodes (Heard.traffic u d) = N.Traffic u d
-nodes (Heard.qos q) = N.Profile q
+nodes (Heard.qos q) = N.Qos q
 nodes Heard.tariff = N.Tariff
 nodes (Heard.release cause) = N.Release cause
 nodes Heard.tick = N.Tick
@@ -205,7 +205,8 @@ module _ (p : Profile) (n : Name) (h : History Force Heard) (t : ℕ) where
   counted u d = rw (take-padded held) (omega (arith, volumes p (stretches R past), every-open R up h, every-open R down h))
 
   -- the closing conditions
-  closes-qos : (q : Qos) (b : Bool) → sameQos (inForce R h .qos) q ≡ b → closing (p .limits) (stands (inForce R h)) t (N.Profile q) ≡ causeFor R past t (Heard.qos q)
+  closes-qos : (q : Qos) (b : Bool) → sameQos (inForce R h .qos) q ≡ b → closing (p .limits) (stands (inForce R h)) t (N.Qos q)
+      ≡ causeFor R past t (Heard.qos q)
   unfolding closing reached
   closes-qos q true e = rw (inForce-open R h, e)
   closes-qos q false e = rw (inForce-open R h, e, add-one)

@@ -5,7 +5,7 @@ use mathlib.Core.List.{List, [], _∷_, _++_, map}
 use Prim.Native.Nat.{ℕ}
 use lib.ListN.{take, replicate}
 use Rattle.format.proofs.Formats.{eqs-eq}
-use Rattle.ber.specs.Int.{intEnc, lowest}
+use Rattle.ber.specs.Int.{intEnc, spelt, octetsFrom, numberIn, lowest}
 use Rattle.ber.specs.Length.{lenEnc}
 use Rattle.ber.specs.Tlv.{tlvEnc}
 use Rattle.ber.specs.Imsi.{halves, leading, allF, imsiOk, imsiEnc}
@@ -25,7 +25,6 @@ use Rattle.scdr.specs.Layout as layout
 use Rattle.profile.specs.Sample.{session}
 use Rattle.profile.specs.Profile.{limitsOk, profileOk}
 use Rattle.event.specs.declared.Name.{Name}
-use Rattle.event.specs.Number.{be}
 use Rattle.event.specs.Sample.{activate, traffic, released}
 use Rattle.event.specs.Fields as fields
 use Rattle.event.specs.Fields.{wholeLength, activateOk}
@@ -63,11 +62,11 @@ abbrev short : List (Accepted (List ℕ))
 short = at 0 activate ∷ at 5 traffic ∷ at 6 (released 0) ∷ []
 
 short-history : histories R meaning name tt short ≡ (start 0 (activation activate) ▸ 5 ∶ Heard.traffic 400 599 ▸ 6 ∶ Heard.release 0) ∷ []
-unfolding activate traffic released says be
+unfolding activate traffic released says spelt octetsFrom numberIn
 short-history = refl
 
 short-records : map (written session name) (records R (start 0 (activation activate) ▸ 5 ∶ Heard.traffic 400 599 ▸ 6 ∶ Heard.release 0)) ≡ sample ∷ []
-unfolding activate sample only be fillTo noContainers
+unfolding activate sample only spelt octetsFrom numberIn fillTo noContainers
 short-records = refl
 
 -- the 113 octets that 01 prints
@@ -117,9 +116,10 @@ abbrev calls : List Call
 calls = call activate ∷ call traffic ∷ call (released 0) ∷ []
 
 pub session-run : (log (machine wrote) (freshNode session) calls ≡ short) × (outputs (freshNode session) calls ≡ 0xC3 ∷ 0x5A ∷ printed)
-unfolding activate traffic released printed be fillTo noContainers
-    step.stepOf step.outcome step.refusals step.laterRows step.tableRows step.notActive step.isActive step.allTaken step.output step.recordsOf step.octetsOf step.markedOctets step.nodeAfter step.activated
-    firstFit rows.rows rows.marked known measured wholeLength fields.fieldsOk activateOk eventOf
+unfolding activate traffic released printed spelt octetsFrom numberIn fillTo noContainers
+    step.stepOf step.outcome step.refusals step.notActive step.isActive step.allTaken step.output step.recordsOf step.octetsOf step.markedOctets
+    step.nodeAfter step.activated
+    firstFit rows.marked known measured wholeLength fields.fieldsOk activateOk eventOf
     imsiOk halves leading allF qosOk allOf apnChar release nodeChar
     sound profileOk limitsOk nodeOk apnOk stampOk distinct slots.isActive isFree bears noneBears sameName
     context.fieldsOk unusedOk closedOk countOk containersOk volumeOk contextOk zeroOk slotOk slotsOk openOk eachOk midway oneOffset timesTo qosRun volumeOf isBlank blanks sameQos

@@ -14,7 +14,7 @@ use Rattle.scdr.specs.declared.Record as scdr
 use Rattle.profile.specs.declared.Profile.{Profile}
 use Rattle.event.specs.declared.Name.{Name}
 use Rattle.event.specs.Fields.{kindOf, timeOf}
-use Rattle.event.specs.Rows.{Row, row, firstFit, known, rows}
+use Rattle.event.specs.Rows.{Row, row, firstFit, known}
 use Rattle.event.specs.Event.{eventOf}
 use Rattle.context.specs.declared.Context.{Context}
 use Rattle.history.specs.Log.{Said, activates, tells, tellsAll, nothing}
@@ -66,7 +66,7 @@ or-false true b e = absurd (let z : _≡_ {A = ℕ} 0 1 = cc in omega arith)
 or-false false b e = e
 
 fits : (n : Node) (s b : List ℕ) → firstFit (step.refusals n s b) ≡ 0 → Fits n s b
-unfolding step.refusals step.laterRows step.tableRows rows
+unfolding step.refusals
 fits n s b e =
     let a13 = peel _ _ _ (λ z. omega arith) e in
     let a1 = peel _ _ _ (λ z. omega arith) (a13 .1) in

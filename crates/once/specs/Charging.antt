@@ -8,6 +8,7 @@ use mathlib.Core.List.{List, map}
 use Prim.Native.Nat.{ℕ, _+_, _-_, _/_, _%_, _≤_}
 use lib.Dec.{leb, eqb}
 use lib.ListN.{length}
+use Rattle.ber.specs.Int.{numberIn}
 use Rattle.calendar.specs.declared.Stamp.{Stamp}
 use Rattle.container.specs.declared.Qos.{Qos}
 use Rattle.container.specs.declared.Container.{Container}
@@ -18,7 +19,6 @@ use Rattle.scdr.specs.Layout.{fillTo, orZero}
 use Rattle.profile.specs.declared.Limits.{Limits}
 use Rattle.profile.specs.declared.Profile.{Profile}
 use Rattle.event.specs.declared.Name.{Name}
-use Rattle.event.specs.Number.{be}
 use Rattle.event.specs.Fields.{kindOf, nameOf, qosAt, flagsOf, imsiOf, apnOf, causeOf}
 use Rattle.context.specs.declared.Context.{Context}
 use Rattle.history.specs.Lists.{isSome, test}
@@ -54,7 +54,7 @@ pub data Heard : Type 0 where
 -- "flags 1, IMSI 8, PDP type 2, PDP address 4, QoS 5, n 1, APN n"
 abbrev pub activation : List ℕ → Force
 activation s = record {
-  brought = record { flags = flagsOf s; imsi = imsiOf s; apn = apnOf s; pdptype = be 2 24 s; address = be 4 26 s };
+  brought = record { flags = flagsOf s; imsi = imsiOf s; apn = apnOf s; pdptype = numberIn 2 24 s; address = numberIn 4 26 s };
   qos = qosAt 30 s;
 }
 
@@ -62,7 +62,7 @@ activation s = record {
 unfoldable pub says : List ℕ → Said (Unit {0}) Name Force Heard
 says s =
     cond (eqb (kindOf s) 1) (activates (nameOf s) (λ g. activation s))
-    (cond (eqb (kindOf s) 2) (tells (nameOf s) (Heard.traffic (be 4 15 s) (be 4 19 s)))
+    (cond (eqb (kindOf s) 2) (tells (nameOf s) (Heard.traffic (numberIn 4 15 s) (numberIn 4 19 s)))
     (cond (eqb (kindOf s) 3) (tells (nameOf s) (Heard.qos (qosAt 15 s)))
     (cond (eqb (kindOf s) 4) (tellsAll Heard.tariff)
     (cond (eqb (kindOf s) 5) (tells (nameOf s) (Heard.release (causeOf s)))

@@ -25,7 +25,8 @@ badly n f = record { line = n; fault = f; profile = noProfile }
 -- ---- "One session, whole"
 
 pub session-read : readOf sessionText ≡ record { line = 0; fault = None; profile = session }
-unfolding readOf readBy firstBad orBad unless lineFault has upTo past begins numberFault allOf numeral atMost octetOk westFault offsetFault profileOf linesPast octetOf zoneOf east west nodeOctets
+unfolding readOf readBy firstBad orBad unless lineFault has upTo past begins numberFault allOf numeral atMost octetOk westFault offsetFault
+    profileOf linesPast octetOf zoneOf east west nodeOctets
 session-read = refl
 
 pub session-text : textOf session ≡ sessionText

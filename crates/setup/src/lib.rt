@@ -4,8 +4,6 @@
 // No contract can say what is read or written: each function is proved safe and ending.
 use libc::STDERR_FILENO;
 use node::sound::Made;
-use profile::Limits;
-use profile::Profile;
 use words::fault;
 
 // Says what failed last, and why.
@@ -33,19 +31,7 @@ pub fn open(program: &[u8], argument: usize) -> i32 {
 
 // No node.
 fn none() -> Made {
-    let limits = Limits {
-        volume: 0,
-        seconds: 0,
-        changes: 0,
-    };
-    let nodeid = [0u8; 20];
-    node::sound::fresh(Profile {
-        sgsn: 0,
-        limits,
-        zone: 0,
-        nodeid,
-        nodelen: 0,
-    })
+    node::sound::fresh(profile::no_profile())
 }
 
 // The node that a text sets up.

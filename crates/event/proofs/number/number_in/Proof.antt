@@ -37,7 +37,9 @@ loop-less : tie.Need-loop-less Inv-loop μ-loop
 loop-less c = search needs
 
 loop-again : tie.Need-loop-again Inv-loop μ-loop
-loop-again c = spelling-more (c .before .before .before .loop .inv) (c .before .before .loop-test .taken) (c .wide .ensures .0) (c .before .octet .ensures) (c .wide .ensures .1)
+loop-again c =
+    spelling-more (c .before .before .before .loop .inv) (c .before .before .loop-test .taken) (c .wide .ensures .0) (c .before .octet .ensures)
+    (c .wide .ensures .1)
 
 returns : tie.Need-returns Inv-loop μ-loop
 returns c = spelling-end (c .before .loop .inv) (c .loop-test .left)

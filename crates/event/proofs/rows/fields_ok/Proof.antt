@@ -31,7 +31,8 @@ returns-2 : tie.Need-returns-2
 returns-2 c =
     let s = c .before .before .before .before .before .before .args .s .now in
     let o = c .before .before .before .before .octet in
-    c .qos-ok .ensures ∙ ap qosOk (c .before .qos-at .ensures) ∙ fields-qos (o .result) s (c .before .before .if2 .taken) ∙ ap (λ (k : ℕ). fieldsOk k s) (o .ensures)
+    c .qos-ok .ensures ∙ ap qosOk (c .before .qos-at .ensures) ∙ fields-qos (o .result) s (c .before .before .if2 .taken)
+    ∙ ap (λ (k : ℕ). fieldsOk k s) (o .ensures)
 
 octet-requires-2 : tie.Need-octet-requires-2
 octet-requires-2 c κs = search needs

@@ -5,9 +5,9 @@ use native.Mathlib.Omega.{arith}
 use lib.ListN.{length}
 use Rattle.scdr.proofs.Tails.{length-of-map}
 use Rattle.history.specs.Lists.{All}
-use Rattle.node.specs.declared.Heard.the-variants as H
+use Rattle.node.specs.declared.Message.the-variants as M
 use Rattle.node.specs.declared.task.Task.{Task}
-use Rattle.node.specs.Shape.{Shaped}
+use Rattle.node.specs.Held.{Shaped}
 use Rattle.node.proofs.Shapes.{all-shaped}
 use Rattle.node.proofs.Ranges.{slotted}
 use Rattle.node.proofs.Served.{ready}
@@ -89,7 +89,12 @@ element-copy-out-c-2 : tie.Need-element-copy-out-c-2 Inv-loop μ-loop
 element-copy-out-c-2 c = let t = the-task (c .before .before .before) _ (c .before .k2 .given .1) in omega (arith, t .fit .0, whole (c .before .before .before .before .before .before .before .before .before .before .before))
 
 try-slot-requires : tie.Need-try-slot-requires Inv-loop μ-loop
-try-slot-requires c κs = let s = c .before .before .before .before .before .before .before .before .before .before .before .before .before in let t = the-task (c .before .before .before .before .before) _ (c .before .before .before .k2 .given .1) in (slotted (s .args .t1 .profile) _ H.Tick 0 16 (s .args .t1 .contexts) _ (t .fit .0) (omega (arith, whole s)) (ready (s .args .t1) _ (t .fit .1)), rw (c .before .before .before .k2 .given .1) at (c .before .before .before .before .before .task-for .ensures .1))
+try-slot-requires c κs =
+    let s = c .before .before .before .before .before .before .before .before .before .before .before .before .before in
+    let t = the-task (c .before .before .before .before .before) _ (c .before .before .before .k2 .given .1) in (
+      slotted (s .args .t1 .profile) _ M.Tick 0 16 (s .args .t1 .contexts) _ (t .fit .0) (omega (arith, whole s)) (ready (s .args .t1) _ (t .fit .1)),
+      rw (c .before .before .before .k2 .given .1) at (c .before .before .before .before .before .task-for .ensures .1),
+    )
 
 placed-requires : tie.Need-placed-requires Inv-loop μ-loop
 placed-requires c κs = let t = the-task (c .before .before .before .before .before .before .before .before) _ (c .before .before .before .before .before .before .k2 .given .1) in (t .fit .0, t .fit .1 .few)

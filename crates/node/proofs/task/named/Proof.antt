@@ -1,6 +1,6 @@
 -- `node::task::named` meets its contract. Assumes nothing.
 use mathlib.Core.Path.{sym, _∙_}
-use Rattle.node.specs.Task.{namedTask}
+use Rattle.node.specs.Private.Task.{namedTask}
 use borrow.Author.Needs.{needs}
 use Rattle.node.proofs.task.named.Statement.{statement}
 use Rattle.node.proofs.task.named.Tie as tie

@@ -1,6 +1,6 @@
 -- `node::task::open` meets its contract. Assumes nothing.
 use mathlib.Core.Path.{sym, _∙_}
-use Rattle.node.specs.Task.{openTask}
+use Rattle.node.specs.Private.Task.{openTask}
 use borrow.Author.Needs.{needs}
 use Rattle.node.proofs.task.open.Statement.{statement}
 use Rattle.node.proofs.task.open.Tie as tie

@@ -1,7 +1,7 @@
 -- `node::task::task_for` meets its contract. Assumes nothing.
 use mathlib.Core.Path.{sym, _∙_}
 use borrow.Author.Tests.{not-true, not-false}
-use Rattle.node.specs.Task.{taskFor}
+use Rattle.node.specs.Private.Task.{taskFor}
 use Rattle.node.proofs.Tasks.{fair-event}
 use borrow.Author.Needs.{needs}
 use Rattle.node.proofs.task.task_for.Statement.{statement}

@@ -1,5 +1,5 @@
 -- `node::task::task_of` meets its contract. Assumes nothing.
-use Rattle.node.specs.Task.{taskOf}
+use Rattle.node.specs.Private.Task.{taskOf}
 use borrow.Author.Needs.{needs}
 use Rattle.node.proofs.task.task_of.Statement.{statement}
 use Rattle.node.proofs.task.task_of.Tie as tie

@@ -1,7 +1,7 @@
 -- `node::task::timely` meets its contract. Assumes nothing.
 use borrow.Author.Tests.{le-leb, lt-leb, le-ltb, lt-ltb}
 use Rattle.node.specs.Sound.{latest, mostAccepted}
-use Rattle.node.specs.Task.{timelyTask}
+use Rattle.node.specs.Private.Task.{timelyTask}
 use borrow.Author.Needs.{needs}
 use Rattle.node.proofs.task.timely.Statement.{statement}
 use Rattle.node.proofs.task.timely.Tie as tie

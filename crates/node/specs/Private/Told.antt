@@ -12,8 +12,8 @@ use Rattle.profile.specs.declared.Profile.{Profile}
 use Rattle.profile.specs.Profile.{profileOk}
 use Rattle.context.specs.declared.Context.{Context}
 use Rattle.context.specs.Sound.{contextOk, slotOk, slotsOk}
-use Rattle.node.specs.declared.Heard.{Heard}
-use Rattle.node.specs.declared.Heard.the-variants as H
+use Rattle.node.specs.declared.Message.{Message}
+use Rattle.node.specs.declared.Message.the-variants as M
 use Rattle.node.specs.declared.closing.Told.{Told}
 use Rattle.node.specs.declared.closing.Told.the-variants.{With, Not}
 use Rattle.node.specs.Sound.{sound, latest, mostAccepted}
@@ -24,13 +24,13 @@ toldBy none = Not
 toldBy (some k) = With k
 
 -- what an event in range tells a context
-abbrev pub Fair : Heard → Type 0
-Fair (H.Traffic up down) = (up < 2 ^ 32) × (down < 2 ^ 32)
-Fair (H.Profile q) = qosOk q ≡ true
-Fair H.Tariff = Unit {0}
-Fair (H.Release cause) = release cause ≡ true
-Fair H.Tick = Unit {0}
-Fair H.Management = Unit {0}
+abbrev pub Fair : Message → Type 0
+Fair (M.Traffic up down) = (up < 2 ^ 32) × (down < 2 ^ 32)
+Fair (M.Qos q) = qosOk q ≡ true
+Fair M.Tariff = Unit {0}
+Fair (M.Release cause) = release cause ≡ true
+Fair M.Tick = Unit {0}
+Fair M.Management = Unit {0}
 
 -- a place for one container more, and numbers that can grow
 pub record Roomy (c : Context) : Type 0 where

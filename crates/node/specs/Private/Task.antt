@@ -18,23 +18,23 @@ use Rattle.context.specs.declared.slots.Found.{Found}
 use Rattle.context.specs.declared.slots.Found.the-variants.{At, Nothing}
 use Rattle.context.specs.Slots.{isFree, bears, firstFrom}
 use Rattle.node.specs.declared.Node.{Node}
-use Rattle.node.specs.declared.Heard.{Heard}
-use Rattle.node.specs.declared.Heard.the-variants as H
+use Rattle.node.specs.declared.Message.{Message}
+use Rattle.node.specs.declared.Message.the-variants as M
 use Rattle.node.specs.declared.task.Task.{Task}
 use Rattle.node.specs.declared.task.Task.the-variants.{Refuse, One, All, Open}
 use Rattle.node.specs.Sound.{latest, mostAccepted}
 use Rattle.node.specs.Step.{broughtBy, activated}
-use Rattle.node.specs.Told.{Fair}
-use Rattle.node.specs.Range.{advanced, servedOf}
+use Rattle.node.specs.Private.Told.{Fair}
+use Rattle.node.specs.Private.Range.{advanced, servedOf}
 
 -- ---- what is to be done
 
 -- 8, or the slot of the name
-abbrev pub oneAt : ℕ → Heard → Found → Task
+abbrev pub oneAt : ℕ → Message → Found → Task
 oneAt t h (At i) = One i t h
 oneAt t h Nothing = Refuse 8
 
-unfoldable pub namedTask : List Slot → ℕ → Name → Heard → Task
+unfoldable pub namedTask : List Slot → ℕ → Name → Message → Task
 namedTask names t m h = oneAt t h (firstFrom (bears m) 0 names)
 
 -- 9, then 10, or the lowest free slot
@@ -51,12 +51,12 @@ openTask names t a = openAt t a (firstFrom (bears (a .name)) 0 names) (firstFrom
 
 unfoldable pub taskOf : List Slot → ℕ → Event → Task
 taskOf names t (E.Activate a) = openTask names t a
-taskOf names t (E.Traffic n up down) = namedTask names t n (H.Traffic up down)
-taskOf names t (E.Profile n q) = namedTask names t n (H.Profile q)
-taskOf names t E.Tariff = All t H.Tariff
-taskOf names t (E.Release n cause) = namedTask names t n (H.Release cause)
-taskOf names t E.Tick = All t H.Tick
-taskOf names t (E.Management n) = namedTask names t n H.Management
+taskOf names t (E.Traffic n up down) = namedTask names t n (M.Traffic up down)
+taskOf names t (E.Qos n q) = namedTask names t n (M.Qos q)
+taskOf names t E.Tariff = All t M.Tariff
+taskOf names t (E.Release n cause) = namedTask names t n (M.Release cause)
+taskOf names t E.Tick = All t M.Tick
+taskOf names t (E.Management n) = namedTask names t n M.Management
 
 -- 6, then 7
 unfoldable pub timelyTask : ℕ → ℕ → List Slot → ℕ → Event → Task
@@ -81,7 +81,7 @@ doneBy n s b (Open i t a) = (0, (advanced n t (set (n .contexts) i (activated (n
 abbrev pub FairEvent : Event → Type 0
 FairEvent (E.Activate a) = Unit {0}
 FairEvent (E.Traffic n up down) = Unit {0}
-FairEvent (E.Profile n q) = qosOk q ≡ true
+FairEvent (E.Qos n q) = qosOk q ≡ true
 FairEvent E.Tariff = Unit {0}
 FairEvent (E.Release n cause) = release cause ≡ true
 FairEvent E.Tick = Unit {0}

@@ -9,7 +9,7 @@ use Rattle.ber.proofs.Writers.{Put}
 use Rattle.profile.specs.declared.Profile.{Profile}
 use Rattle.context.specs.declared.Context.{Context}
 use Rattle.node.specs.declared.Node.{Node}
-use Rattle.node.specs.declared.Heard.{Heard}
+use Rattle.node.specs.declared.Message.{Message}
 use Rattle.node.specs.Hear.{hear}
 use Rattle.node.specs.Step.{stood, octetsOf}
 
@@ -28,10 +28,10 @@ along zero (suc b) g (x ∷ xs) = g x ++ along zero b g xs
 along (suc a) (suc b) g (x ∷ xs) = along a b g xs
 
 -- a slot whose context, if it has one, hears h at t: what then stands in it, and what it writes
-unfoldable pub slotNext : Profile → ℕ → Heard → Context → Context
+unfoldable pub slotNext : Profile → ℕ → Message → Context → Context
 slotNext p t h c = cond (eqb (c .active) 1) (stood (hear p c t h .next)) c
 
-unfoldable pub slotOut : Profile → ℕ → Heard → Context → List ℕ
+unfoldable pub slotOut : Profile → ℕ → Message → Context → List ℕ
 slotOut p t h c = cond (eqb (c .active) 1) (octetsOf (hear p c t h .out)) []
 
 -- a number of octets, few enough to add up
@@ -45,12 +45,12 @@ pub record Turns {A : Type 0} (want : A) (x b b′ : List ℕ) (at : ℕ) (got :
   pub written : Put x b b′ at next
 
 -- what comes of a slot that hears h alone: 11 where there is no room for what it writes
-unfoldable pub triedOf : Profile → ℕ → Heard → Context → List ℕ → ℕ × (Context × (ℕ × List ℕ))
+unfoldable pub triedOf : Profile → ℕ → Message → Context → List ℕ → ℕ × (Context × (ℕ × List ℕ))
 triedOf p t h c b =
     let x = slotOut p t h c in
     cond (leb (length x) (length b)) (0, (slotNext p t h c, (length x, x ++ drop (length x) b))) (11, (c, (0, b)))
 
-pub record Tries (p : Profile) (t : ℕ) (h : Heard) (c : Context) (b b′ : List ℕ) (answer : ℕ) (c′ : Context) (written : ℕ) : Type 0 where
+pub record Tries (p : Profile) (t : ℕ) (h : Message) (c : Context) (b b′ : List ℕ) (answer : ℕ) (c′ : Context) (written : ℕ) : Type 0 where
   pub is : _≡_ {A = ℕ × (Context × (ℕ × List ℕ))} (answer, (c′, (written, b′))) (triedOf p t h c b)
 
 -- the node at a time, one event on, with this table
@@ -58,12 +58,12 @@ abbrev pub advanced : Node → ℕ → List Context → Node
 advanced n t cs = record { profile = n .profile; clock = t; accepted = n .accepted + 1; contexts = cs }
 
 -- what is answered where the slots from one place up to another hear h: 11 where there is no room for what they write
-unfoldable pub servedOf : Node → ℕ → ℕ → ℕ → Heard → List ℕ → ℕ × (Node × (ℕ × List ℕ))
+unfoldable pub servedOf : Node → ℕ → ℕ → ℕ → Message → List ℕ → ℕ × (Node × (ℕ × List ℕ))
 servedOf n from to t h b =
     let x = along from to (slotOut (n .profile) t h) (n .contexts) in
     cond (leb (length x) (length b))
     (0, (advanced n t (across from to (slotNext (n .profile) t h) (n .contexts)), (length x, x ++ drop (length x) b)))
     (11, (n, (0, b)))
 
-pub record Serves (n : Node) (from to t : ℕ) (h : Heard) (b b′ : List ℕ) (answer : ℕ) (n′ : Node) (written : ℕ) : Type 0 where
+pub record Serves (n : Node) (from to t : ℕ) (h : Message) (b b′ : List ℕ) (answer : ℕ) (n′ : Node) (written : ℕ) : Type 0 where
   pub is : _≡_ {A = ℕ × (Node × (ℕ × List ℕ))} (answer, (n′, (written, b′))) (servedOf n from to t h b)
