@@ -6,14 +6,14 @@ use Prim.Native.Nat.{ℕ, zero, suc, _+_, _-_, _*_, _/_, _%_, _^_, _≤_, _<_}
 use native.Mathlib.Omega.{arith}
 use lib.Dec.{leb, ltb, eqb}
 use lib.ListN.{length, getD, length-append, List·getD-append}
-use borrow.Author.Tests.{leb-true, leb-false, ltb-true, ltb-false, le-leb, lt-ltb, le-ltb, eq-eqb, ne-eqb}
+use borrow.Author.Tests.{leb-true, leb-false, ltb-true, ltb-false, le-leb, lt-ltb, le-ltb, eq-eqb, ne-eqb, not-true}
 use Rattle.scdr.specs.Rules.{allOf}
 use Rattle.profile.specs.Fault.{unless}
-use Rattle.profile.specs.Number.{digit, padded, numberFault, numeral}
+use Rattle.profile.specs.Number.{digit, padded, digits, numberFault, numeral}
 use Rattle.profile.specs.Print.{digitsIn, numberText}
 use Rattle.profile.specs.declared.text.Fault.the-variants.{None, Number, Zero}
 use Rattle.profile.proofs.Numbers.{by, numeral-le}
-use Rattle.profile.proofs.Firsts.{both, both-is, or-none, unless-met, met-unless, none-or}
+use Rattle.profile.proofs.Firsts.{clash, both, both-is, unless-met, met-unless}
 
 -- ---- one digit more at the end
 
@@ -39,11 +39,9 @@ front-same : (v : List ℕ) (x : ℕ) → 1 ≤ length v → getD (v ++ x ∷ []
 front-same v x h = List·getD-append v (x ∷ []) 0 0 h
 
 digit-is : (x : ℕ) → 48 ≤ x → x ≤ 57 → digit x ≡ true
-unfolding digit
 digit-is x h k = rw (le-leb 48 x h, le-leb x 57 k)
 
 digit-low : (x : ℕ) → digit x ≡ true → (48 ≤ x) × (x ≤ 57)
-unfolding digit
 digit-low x e = let (a, b) = both (leb 48 x) (leb x 57) e in (leb-true 48 x a, leb-true x 57 b)
 
 -- ---- digits without a leading zero
@@ -54,14 +52,18 @@ pub record Plain (v : List ℕ) : Type 0 where
   pub some : 1 ≤ length v
   pub lead : 2 ≤ length v → getD v 0 0 ≡ 48 → ⊥
 
+pub plain-digits : {v : List ℕ} → Plain v → digits v ≡ true
+plain-digits f = both-is (f .each) (le-leb 1 _ (f .some))
+
 pub plain-fault : {v : List ℕ} → Plain v → numberFault v ≡ None
-unfolding numberFault padded
+unfolding numberFault
 plain-fault {v} f =
-    or-none (unless-met _ (both-is (f .each) (le-leb 1 _ (f .some))))
-    (unless-met _
+    unless-met Number (plain-digits f)
+    (unless-met Zero
     (by (ltb 1 (length v))
     (λ t. rw (ne-eqb (getD v 0 0) 48 (f .lead (ltb-true 1 (length v) t))))
-    (λ t. let z : (eqb (getD v 0 0) 48 && false) ≡ false = and-false (eqb (getD v 0 0) 48) in rw (t, z))))
+    (λ t. rw (t, and-false (eqb (getD v 0 0) 48))))
+    refl)
   where
     and-false : (b : Bool) → (b && false) ≡ false
     and-false true = refl
@@ -116,21 +118,15 @@ number-spells n h = spells 19 n (omega arith)
 
 -- ---- what reads is what is printed
 
+pub digits-plain : (v : List ℕ) → digits v ≡ true → (2 ≤ length v → getD v 0 0 ≡ 48 → ⊥) → Plain v
+digits-plain v d l = let (a, b) = both (allOf digit v) (leb 1 (length v)) d in record { each = a; some = leb-true 1 (length v) b; lead = l }
+
 pub fault-plain : (v : List ℕ) → numberFault v ≡ None → Plain v
-unfolding numberFault padded
+unfolding numberFault
 fault-plain v e =
-    let (f, g) = none-or (unless (allOf digit v && leb 1 (length v)) Number) (unless (not (eqb (getD v 0 0) 48 && ltb 1 (length v))) Zero) e in
-    let (a, b) = both (allOf digit v) (leb 1 (length v)) (met-unless (allOf digit v && leb 1 (length v)) Number refl f) in
-    let n = not-not (eqb (getD v 0 0) 48 && ltb 1 (length v)) (met-unless (not (eqb (getD v 0 0) 48 && ltb 1 (length v))) Zero refl g) in
-    record {
-      each = a;
-      some = leb-true 1 (length v) b;
-      lead = λ h z. let y : (eqb (getD v 0 0) 48 && ltb 1 (length v)) ≡ true = both-is (eq-eqb (getD v 0 0) 48 z) (lt-ltb 1 (length v) h) in let w : true ≡ false = sym y ∙ n in let o : _≡_ {A = ℕ} 0 1 = cc in omega arith;
-    }
-  where
-    not-not : (b : Bool) → not b ≡ true → b ≡ false
-    not-not true e = sym e
-    not-not false e = refl
+    let (d, g) = met-unless (digits v) Number (unless (not (padded v)) Zero None) refl e in
+    let n = not-true (padded v) (met-unless (not (padded v)) Zero None refl g .0) in
+    digits-plain v d (λ h z. clash (both-is (eq-eqb (getD v 0 0) 48 z) (lt-ltb 1 (length v) h)) n)
 
 -- what holds of no octets, and of s and one more where it holds of s, holds of all
 snoc-elim : (P : List ℕ → Type 0) → P [] → ((s : List ℕ) (y : ℕ) → P s → P (s ++ y ∷ [])) → (s : List ℕ) → P s

@@ -1,9 +1,6 @@
-pub mod Cuts
 pub mod Firsts
 pub mod Numbers
 pub mod Nodes
-pub mod Octets
-pub mod Zones
 pub mod Readings
 pub mod Digits
 pub mod Marks

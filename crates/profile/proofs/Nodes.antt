@@ -1,50 +1,36 @@
--- A node ID copied octet by octet. Assumes nothing.
-use mathlib.Core.Path.{_≡_, refl, sym, ap, _∙_}
+-- The octets of a node ID, copied over zeros. Assumes nothing.
+use mathlib.Core.Path.{_≡_, refl, ap, _∙_}
 use mathlib.Core.List.{List, [], _∷_, _++_}
-use Prim.Native.Nat.{ℕ, zero, suc, _+_, _≤_, _<_}
-use native.Mathlib.Numerals.{add-one}
+use Prim.Native.Nat.{ℕ, zero, suc, _≤_}
 use native.Mathlib.Omega.{arith}
-use lib.ListN.{length, take, getD, set, replicate, length-append, length-replicate, length-set}
-use lib.Seq.{take-suc, take-suc-set, take-all}
+use lib.ListN.{length, take, drop, replicate}
+use lib.Seq.{take-all}
 use Rattle.profile.specs.Node.{nodeOctets}
 
-zero-at : (n i : ℕ) → _≡_ {A = ℕ} (getD (replicate n 0) i 0) 0
-zero-at zero i = refl
-zero-at (suc n) zero = refl
-zero-at (suc n) (suc i) = zero-at n i
+zeros-front : (n w : ℕ) → n ≤ w → replicate {A = ℕ} n 0 ≡ take n (replicate w 0)
+zeros-front zero w h = refl
+zeros-front (suc n) zero h = absurd (omega arith)
+zeros-front (suc n) (suc w) h = ap (_∷_ 0) (zeros-front n w (omega arith))
 
--- what stands past the end is zero
-zeros-after : (v : List ℕ) (n i : ℕ) → getD (v ++ replicate n 0) i 0 ≡ getD v i 0
-zeros-after [] n i = zero-at n i
-zeros-after (x ∷ v) n zero = refl
-zeros-after (x ∷ v) n (suc i) = zeros-after v n i
+filled : (v : List ℕ) (n w : ℕ) → length v ≤ n → n ≤ w → v ++ drop (length v) (replicate n 0) ≡ take n (v ++ replicate w 0)
+filled [] n w h k = zeros-front n w k
+filled (x ∷ v) zero w h k = absurd (omega arith)
+filled (x ∷ v) (suc n) w h k = ap (_∷_ x) (filled v n w (omega arith) (omega arith))
 
--- the first i octets are copied
-pub record Copied (v out : List ℕ) (i : ℕ) : Type 0 where
-  pub size : length out ≡ 20
-  pub most : i ≤ 20
-  pub front : take i out ≡ take i (v ++ replicate 20 0)
+front-front : (v u : List ℕ) (n : ℕ) → take n (take n v ++ u) ≡ take n (v ++ u)
+front-front v u zero = refl
+front-front [] u (suc n) = refl
+front-front (x ∷ v) u (suc n) = ap (_∷_ x) (front-front v u n)
 
-pub copied-none : (v out : List ℕ) → length out ≡ 20 → Copied v out 0
-copied-none v out h = record { size = h; most = omega arith; front = refl }
+pub front-le : (n : ℕ) (v : List ℕ) → length (take n v) ≤ n
+front-le zero v = omega arith
+front-le (suc n) [] = omega arith
+front-le (suc n) (x ∷ v) = omega (arith, front-le n v)
 
-module _ (v out : List ℕ) (i : ℕ) (f : Copied v out i) where
-  pub copied-more : i < 20 → (x : ℕ) → x ≡ getD v i 0 → Copied v (set out i x) (i + 1)
-  copied-more h x e =
-      let k : i < length out = omega (arith, f .size) in
-      let l : i < length (v ++ replicate 20 0) = omega (arith, length-append v (replicate 20 0), length-replicate {A = ℕ} 20 0) in
-      record {
-        size = length-set out i x ∙ f .size;
-        most = omega arith;
-        front =
-            ap (λ (n : ℕ). take n (set out i x)) (add-one i)
-            ∙ take-suc-set out i x k
-            ∙ rw (f .front, e, sym (zeros-after v 20 i)) (sym (take-suc (v ++ replicate 20 0) i 0 l))
-            ∙ ap (λ (n : ℕ). take n (v ++ replicate 20 0)) (sym (add-one i));
-      }
-
-  pub copied-end : 20 ≤ i → out ≡ nodeOctets v
-  unfolding nodeOctets
-  copied-end h =
-      let e : i ≡ 20 = omega (arith, f .most) in
-      sym (take-all 20 out (omega (arith, f .size))) ∙ rw e at (f .front)
+pub copied : (v : List ℕ) {w out : List ℕ} → w ≡ take 20 v → out ≡ take (length w) w ++ drop (length w) (replicate 20 0) → out ≡ nodeOctets v
+unfolding nodeOctets
+copied v {w} e g =
+    g ∙ ap (λ (l : List ℕ). l ++ drop (length w) (replicate 20 0)) (take-all (length w) w (omega arith))
+    ∙ filled w 20 20 (rw e (front-le 20 v)) (omega arith)
+    ∙ ap (λ (l : List ℕ). take 20 (l ++ replicate 20 0)) e
+    ∙ front-front v (replicate 20 0) 20

@@ -1,15 +1,19 @@
--- Numbers in decimal digits, kept below a largest one. Assumes nothing.
+-- Numbers in decimal digits, kept below a largest one, and what does not see that one. Assumes nothing.
 use mathlib.Core.Path.{_≡_, refl, sym, ap, _∙_}
-use mathlib.Core.Bool.{Bool, true, false}
+use mathlib.Core.Bool.{Bool, true, false, _&&_}
 use mathlib.Core.List.{List, [], _∷_}
-use Prim.Native.Nat.{ℕ, suc, _+_, _-_, _*_, _≤_, _<_}
+use Prim.Native.Nat.{ℕ, suc, _+_, _-_, _*_, _^_, _≤_, _<_}
 use native.Mathlib.Numerals.{add-one}
 use native.Mathlib.Omega.{arith}
 use lib.Dec.{leb}
 use lib.ListN.{length, drop, getD, drop-of-length-le}
 use lib.Seq.{drop-cons}
 use borrow.Author.Tests.{leb-true, leb-false, le-leb, lt-leb}
-use Rattle.profile.specs.Number.{numeral, atMost}
+use Rattle.profile.specs.Fault.{isNone}
+use Rattle.profile.specs.Number.{numberFault, numeral, atMost}
+use Rattle.profile.specs.Address.{octetOk}
+use Rattle.profile.specs.Offset.{east, west}
+use Rattle.profile.specs.declared.text.Fault.{Fault}
 
 pub by : {X : Type 0} (t : Bool) → (t ≡ true → X) → (t ≡ false → X) → X
 by true f g = f refl
@@ -32,7 +36,10 @@ module _ (m n : ℕ) where
 
 -- a smaller largest number hides a larger one
 pub most-most : (k m n : ℕ) → k ≤ m → atMost k (atMost m n) ≡ atMost k n
-most-most k m n h = by (leb n m) (λ t. ap (atMost k) (sym (most-is m n (leb-true n m t)))) (λ t. let l = leb-false n m t in ap (atMost k) (sym (most-over m n (omega arith))) ∙ sym (most-over k m h) ∙ most-over k n (omega arith))
+most-most k m n h =
+    by (leb n m)
+    (λ t. ap (atMost k) (sym (most-is m n (leb-true n m t))))
+    (λ t. let l = leb-false n m t in ap (atMost k) (sym (most-over m n (omega arith))) ∙ sym (most-over k m h) ∙ most-over k n (omega arith))
 
 -- ---- digits
 
@@ -81,3 +88,24 @@ most-leb k m n h =
     by (leb n m)
     (λ t. ap (λ (x : ℕ). leb x k) (sym (most-is m n (leb-true n m t))))
     (λ t. let l = leb-false n m t in ap (λ (x : ℕ). leb x k) (sym (most-over m n (omega arith))) ∙ lt-leb m k h ∙ sym (lt-leb n k (omega arith)))
+
+-- nor does a test of an octet, as the code makes it
+pub octet-test : (v : List ℕ) {n : ℕ} {f : Fault} {t : Bool} → t ≡ isNone f → f ≡ numberFault v → n ≡ atMost (2 ^ 64 - 1) (numeral 0 v) → (t && leb n 255) ≡ octetOk v
+unfolding octetOk
+octet-test v p q r = let h : 255 < 2 ^ 64 - 1 = omega arith in rw (p, q, r, most-leb 255 (2 ^ 64 - 1) (numeral 0 v) h)
+
+-- ---- a zone does not see the largest number
+
+pub west-most : (m n : ℕ) → 720 < m → west (atMost m n) ≡ west n
+unfolding west
+west-most m n h =
+    by (leb n m)
+    (λ t. ap west (sym (most-is m n (leb-true n m t))))
+    (λ t. let l = leb-false n m t in ap west (sym (most-over m n (omega arith))) ∙ rw (lt-leb m 720 h, lt-leb n 720 (omega arith)))
+
+pub east-most : (m n : ℕ) → 65535 < m → east (atMost m n) ≡ east n
+unfolding east
+east-most m n h =
+    by (leb n m)
+    (λ t. ap east (sym (most-is m n (leb-true n m t))))
+    (λ t. let l = leb-false n m t in ap east (sym (most-over m n (omega arith))) ∙ sym (most-over 65535 (m + 720) (omega arith)) ∙ most-over 65535 (n + 720) (omega arith))

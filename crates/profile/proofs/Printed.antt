@@ -4,16 +4,16 @@ use mathlib.Core.List.{[], _∷_, _++_}
 use Prim.Native.Nat.{ℕ, _-_, _^_}
 use lib.ListN.{take}
 use Rattle.scdr.specs.Rules.{allOf}
-use Rattle.profile.specs.Fault.{unless, orElse, orBad}
+use Rattle.profile.specs.Fault.{unless, orBad}
 use Rattle.profile.specs.Cut.{has, upTo, past, begins}
-use Rattle.profile.specs.Number.{digit, padded, numberFault, numeral, atMost}
-use Rattle.profile.specs.Address.{octetOk, octetOf, addressOk, addressOf}
-use Rattle.profile.specs.Offset.{minus, westFault, offsetFault, east, west, zoneOf}
+use Rattle.profile.specs.Number.{numberFault, numeral, atMost}
+use Rattle.profile.specs.Address.{octetOk, octetOf}
+use Rattle.profile.specs.Offset.{westFault, offsetFault, east, west, zoneOf}
 use Rattle.profile.specs.Node.{nodeOctets}
-use Rattle.profile.specs.Line.{headFault, tailOf, valueOf, oneSpace, nodeSpace, valueFault, numberLine, addressLine, offsetLine, nodeLine}
+use Rattle.profile.specs.Line.{linesPast, lineFault}
 use Rattle.profile.specs.Profile.{noProfile}
-use Rattle.profile.specs.Text.{sgsnName, volumeName, timeName, changeName, offsetName, nodeName, badFrom3, firstBad, limitsOf, profileOf, readBy, readOf}
-use Rattle.profile.specs.Print.{digitsIn, addressText, offsetText, lineText, nodeText, textOf}
+use Rattle.profile.specs.Text.{sgsnName, volumeName, timeName, changeName, offsetName, nodeName, firstBad, profileOf, readBy, readOf}
+use Rattle.profile.specs.Print.{digitsIn, addressText, offsetText, nodeText, linesOf, textOf}
 use Rattle.profile.specs.Sample.{line1, line2, line3, line4, line5, line6, sessionText, session}
 use Rattle.profile.specs.declared.text.Fault.{Fault}
 use Rattle.profile.specs.declared.text.Fault.the-variants.{None, Missing, End, Name, Space, Number, Zero, Address, More}
@@ -25,13 +25,12 @@ badly n f = record { line = n; fault = f; profile = noProfile }
 -- ---- "One session, whole"
 
 pub session-read : readOf sessionText ≡ record { line = 0; fault = None; profile = session }
-unfolding readOf readBy firstBad badFrom3 orBad orElse unless addressLine numberLine offsetLine nodeLine valueFault headFault tailOf valueOf
-    oneSpace nodeSpace has upTo past begins numberFault padded digit allOf numeral atMost addressOk octetOk minus westFault offsetFault
-    profileOf limitsOf addressOf octetOf zoneOf east west nodeOctets
+unfolding readOf readBy firstBad orBad unless lineFault has upTo past begins numberFault allOf numeral atMost octetOk westFault offsetFault
+    profileOf linesPast octetOf zoneOf east west nodeOctets
 session-read = refl
 
 pub session-text : textOf session ≡ sessionText
-unfolding textOf lineText addressText offsetText nodeText digitsIn
+unfolding textOf linesOf addressText offsetText nodeText digitsIn
 session-text = refl
 
 -- ---- faults
@@ -75,8 +74,7 @@ pub record Faults : Type 0 where
   pub octet-leading-zero : readOf ((sgsnName ++ 0x20 ∷ 0x31 ∷ 0x30 ∷ 0x2E ∷ 0x30 ∷ 0x2E ∷ 0x30 ∷ 0x2E ∷ 0x30 ∷ 0x31 ∷ 10 ∷ []) ++ line2 ++ line3 ++ line4 ++ line5 ++ line6) ≡ badly 1 Address
 
 pub faults : Faults
-unfolding readOf readBy firstBad badFrom3 orBad orElse unless addressLine numberLine offsetLine nodeLine valueFault headFault tailOf valueOf
-    oneSpace nodeSpace has upTo past begins numberFault padded digit allOf numeral atMost addressOk octetOk minus westFault offsetFault
+unfolding readOf readBy firstBad orBad unless lineFault has upTo past begins numberFault allOf numeral atMost octetOk westFault offsetFault
 faults =
     record {
       nothing = refl;
@@ -103,11 +101,11 @@ faults =
 
 -- -90 and -721
 pub offset-90 : zoneOf (0x2D ∷ 0x39 ∷ 0x30 ∷ []) ≡ 630
-unfolding zoneOf minus west numeral
+unfolding zoneOf west numeral
 offset-90 = refl
 
 pub offset-721 : zoneOf (0x2D ∷ 0x37 ∷ 0x32 ∷ 0x31 ∷ []) ≡ 65535
-unfolding zoneOf minus west numeral
+unfolding zoneOf west numeral
 offset-721 = refl
 
 -- 256 changes in one octet, and 2 ^ 64 octets in eight

@@ -9,18 +9,20 @@ use lib.ListN.{length, take, drop, getD, replicate, take-append-drop, length-dro
 use lib.Seq.{take-at, length-take-le}
 use borrow.Author.Tests.{leb-true, leb-false, le-leb, eqb-true, eqb-false, ne-eqb}
 use Rattle.scdr.specs.Rules.{allOf, nodeChar, isZero, nodeOk}
-use Rattle.profile.specs.Cut.{has, upTo, past}
+use Rattle.profile.specs.Cut.{has, past}
 use Rattle.profile.specs.Number.{digit, numeral, atMost}
 use Rattle.profile.specs.Address.{dot, octetOk, octetOf, addressOk, addressOf}
-use Rattle.profile.specs.Offset.{minus, westFault, offsetFault, east, west, zoneOf}
+use Rattle.profile.specs.Offset.{westFault, offsetFault, east, west, zoneOf}
 use Rattle.profile.specs.Node.{nodeOctets}
-use Rattle.profile.specs.Line.{feed, space, nodeSpace}
+use Rattle.profile.specs.Line.{feed, space}
 use Rattle.profile.specs.Print.{numberText, addressText, offsetText, nodeText}
-use Rattle.profile.specs.declared.text.Fault.the-variants.{None, Zero}
-use Rattle.profile.proofs.Firsts.{both, unless-met, or-none}
+use Rattle.profile.specs.declared.line.Kind.the-variants.{Rest}
+use Rattle.profile.specs.declared.text.Fault.the-variants.{None, Number, Zero}
+use Rattle.profile.proofs.Firsts.{clash, both, unless-met}
 use Rattle.profile.proofs.Numbers.{by, most-is}
 use Rattle.profile.proofs.Marks.{absent, absent-both, up-to-here, past-here}
-use Rattle.profile.proofs.Digits.{Plain, plain-fault, Spells, number-spells}
+use Rattle.profile.proofs.Digits.{Plain, plain-digits, plain-fault, Spells, number-spells}
+use Rattle.profile.proofs.Lines.{Value, Tail}
 
 -- ---- digits have no mark among them
 
@@ -30,11 +32,14 @@ digit-first [] a h = absurd (omega arith)
 digit-first (x ∷ v) a h = both (digit x) (allOf digit v) a .0
 
 module _ {v : List ℕ} (f : Plain v) where
-  pub no-mark : (x : ℕ) → digit x ≡ false → has x v ≡ false
+  no-mark : (x : ℕ) → digit x ≡ false → has x v ≡ false
   no-mark x e = absent x digit v e (f .each)
 
-  pub first-is-not : (x : ℕ) → digit x ≡ false → getD v 0 0 ≡ x → ⊥
-  first-is-not x e g = let b : true ≡ false = sym (digit-first v (f .each) (f .some)) ∙ ap digit g ∙ e in let z : _≡_ {A = ℕ} 0 1 = cc in omega arith
+  first-is-not : (x : ℕ) → digit x ≡ false → getD v 0 0 ≡ x → ⊥
+  first-is-not x e g = clash (digit-first v (f .each) (f .some)) (ap digit g ∙ e)
+
+  pub plain-value : Value v
+  plain-value = record { clear = no-mark feed refl; first = first-is-not space refl }
 
 -- ---- numbers
 
@@ -52,119 +57,70 @@ module _ {v : List ℕ} {n : ℕ} (f : Spells v n) where
 
 -- ---- addresses
 
-not-dot : digit dot ≡ false
-unfolding digit
-not-dot = refl
+pub record Address (n : ℕ) (v : List ℕ) : Type 0 where
+  pub ok : addressOk v ≡ true
+  pub same : addressOf v ≡ n
+  pub value : Value v
 
-pub not-feed : digit feed ≡ false
-unfolding digit
-not-feed = refl
-
-pub not-space : digit space ≡ false
-unfolding digit
-not-space = refl
-
-module _ {p q r t : List ℕ} {a b c d : ℕ} (fp : Spells p a) (fq : Spells q b) (fr : Spells r c) (ft : Spells t d) where
-  past-1 : past dot (p ++ dot ∷ (q ++ dot ∷ (r ++ dot ∷ t))) ≡ q ++ dot ∷ (r ++ dot ∷ t)
-  past-1 = past-here dot (q ++ dot ∷ (r ++ dot ∷ t)) p (no-mark (fp .plain) dot not-dot)
-
-  past-2 : past dot (q ++ dot ∷ (r ++ dot ∷ t)) ≡ r ++ dot ∷ t
-  past-2 = past-here dot (r ++ dot ∷ t) q (no-mark (fq .plain) dot not-dot)
-
-  past-3 : past dot (r ++ dot ∷ t) ≡ t
-  past-3 = past-here dot t r (no-mark (fr .plain) dot not-dot)
-
-  up-1 : upTo dot (p ++ dot ∷ (q ++ dot ∷ (r ++ dot ∷ t))) ≡ p
-  up-1 = up-to-here dot (q ++ dot ∷ (r ++ dot ∷ t)) p (no-mark (fp .plain) dot not-dot)
-
-  up-2 : upTo dot (q ++ dot ∷ (r ++ dot ∷ t)) ≡ q
-  up-2 = up-to-here dot (r ++ dot ∷ t) q (no-mark (fq .plain) dot not-dot)
-
-  up-3 : upTo dot (r ++ dot ∷ t) ≡ r
-  up-3 = up-to-here dot t r (no-mark (fr .plain) dot not-dot)
-
-  module _ (ha : a ≤ 255) (hb : b ≤ 255) (hc : c ≤ 255) (hd : d ≤ 255) where
-    dotted-ok : addressOk (p ++ dot ∷ (q ++ dot ∷ (r ++ dot ∷ t))) ≡ true
-    unfolding addressOk
-    dotted-ok = rw (past-1, past-2, past-3, up-1, up-2, up-3, octet-ok fp ha, octet-ok fq hb, octet-ok fr hc, octet-ok ft hd)
-
-    dotted-same : addressOf (p ++ dot ∷ (q ++ dot ∷ (r ++ dot ∷ t))) ≡ ((a * 256 + b) * 256 + c) * 256 + d
-    unfolding addressOf
-    dotted-same = rw (past-1, past-2, past-3, up-1, up-2, up-3, octet-same fp ha, octet-same fq hb, octet-same fr hc, octet-same ft hd)
-
-  dotted-feed : has feed (p ++ dot ∷ (q ++ dot ∷ (r ++ dot ∷ t))) ≡ false
+module _ (n : ℕ) {p q r t : List ℕ} {a b c d : ℕ} (fp : Spells p a) (fq : Spells q b) (fr : Spells r c) (ft : Spells t d) where
+  dotted : a ≤ 255 → b ≤ 255 → c ≤ 255 → d ≤ 255 → ((a * 256 + b) * 256 + c) * 256 + d ≡ n → Address n (p ++ dot ∷ (q ++ dot ∷ (r ++ dot ∷ t)))
   unfolding has
-  dotted-feed =
-      absent-both feed p (dot ∷ (q ++ dot ∷ (r ++ dot ∷ t))) (no-mark (fp .plain) feed not-feed)
-      (absent-both feed q (dot ∷ (r ++ dot ∷ t)) (no-mark (fq .plain) feed not-feed)
-      (absent-both feed r (dot ∷ t) (no-mark (fr .plain) feed not-feed) (no-mark (ft .plain) feed not-feed)))
+  dotted ha hb hc hd e =
+      let x = r ++ dot ∷ t in
+      let w = q ++ dot ∷ x in
+      let p1 = past-here dot w p (no-mark (fp .plain) dot refl) in
+      let p2 = past-here dot x q (no-mark (fq .plain) dot refl) in
+      let p3 = past-here dot t r (no-mark (fr .plain) dot refl) in
+      let u1 = up-to-here dot w p (no-mark (fp .plain) dot refl) in
+      let u2 = up-to-here dot x q (no-mark (fq .plain) dot refl) in
+      let u3 = up-to-here dot t r (no-mark (fr .plain) dot refl) in
+      let first = List·getD-append p (dot ∷ w) 0 0 (fp .plain .some) in
+      record {
+        ok = rw (p1, p2, p3, u1, u2, u3, octet-ok fp ha, octet-ok fq hb, octet-ok fr hc, octet-ok ft hd);
+        same = rw (p1, p2, p3, u1, u2, u3, octet-same fp ha, octet-same fq hb, octet-same fr hc, octet-same ft hd) e;
+        value =
+            record {
+              clear =
+                  absent-both feed p (dot ∷ w) (no-mark (fp .plain) feed refl)
+                  (absent-both feed q (dot ∷ x) (no-mark (fq .plain) feed refl)
+                  (absent-both feed r (dot ∷ t) (no-mark (fr .plain) feed refl) (no-mark (ft .plain) feed refl)));
+              first = λ g. first-is-not (fp .plain) space refl (sym first ∙ g);
+            };
+      }
 
-  dotted-first : (getD (p ++ dot ∷ (q ++ dot ∷ (r ++ dot ∷ t))) 0 0 ≡ space) → ⊥
-  dotted-first e = first-is-not (fp .plain) space not-space (sym (List·getD-append p (dot ∷ (q ++ dot ∷ (r ++ dot ∷ t))) 0 0 (fp .plain .some)) ∙ e)
-
--- an address that is printed
-module _ (n : ℕ) (h : n < 2 ^ 32) where
-  octets-1 : Spells (numberText (n / 2 ^ 24)) (n / 2 ^ 24)
-  octets-1 = number-spells (n / 2 ^ 24) (omega arith)
-
-  octets-2 : Spells (numberText (n / 2 ^ 16 % 256)) (n / 2 ^ 16 % 256)
-  octets-2 = number-spells (n / 2 ^ 16 % 256) (omega arith)
-
-  octets-3 : Spells (numberText (n / 2 ^ 8 % 256)) (n / 2 ^ 8 % 256)
-  octets-3 = number-spells (n / 2 ^ 8 % 256) (omega arith)
-
-  octets-4 : Spells (numberText (n % 256)) (n % 256)
-  octets-4 = number-spells (n % 256) (omega arith)
-
-  pub address-ok : addressOk (addressText n) ≡ true
-  unfolding addressText
-  address-ok = dotted-ok octets-1 octets-2 octets-3 octets-4 (omega arith) (omega arith) (omega arith) (omega arith)
-
-  pub address-same : addressOf (addressText n) ≡ n
-  unfolding addressText
-  address-same = dotted-same octets-1 octets-2 octets-3 octets-4 (omega arith) (omega arith) (omega arith) (omega arith) ∙ omega arith
-
-  pub address-feed : has feed (addressText n) ≡ false
-  unfolding addressText
-  address-feed = dotted-feed octets-1 octets-2 octets-3 octets-4
-
-  pub address-first : getD (addressText n) 0 0 ≡ space → ⊥
-  unfolding addressText
-  address-first = dotted-first octets-1 octets-2 octets-3 octets-4
+pub address-is : (n : ℕ) → n < 2 ^ 32 → Address n (addressText n)
+unfolding addressText
+address-is n h =
+    dotted n (number-spells (n / 2 ^ 24) (omega arith)) (number-spells (n / 2 ^ 16 % 256) (omega arith))
+    (number-spells (n / 2 ^ 8 % 256) (omega arith)) (number-spells (n % 256) (omega arith))
+    (omega arith) (omega arith) (omega arith) (omega arith) (omega arith)
 
 -- ---- offsets
 
 pub record Offset (z : ℕ) (v : List ℕ) : Type 0 where
   pub fault : offsetFault v ≡ None
   pub zone : zoneOf v ≡ z
-  pub clear : has feed v ≡ false
-  pub first : getD v 0 0 ≡ space → ⊥
-
-not-minus : digit 45 ≡ false
-unfolding digit
-not-minus = refl
+  pub value : Value v
 
 ahead-of : (z : ℕ) (v : List ℕ) → z ≤ 1560 → 720 ≤ z → Spells v (z - 720) → Offset z v
-unfolding offsetFault zoneOf minus east
+unfolding offsetFault zoneOf east
 ahead-of z v h k f =
-    let m = ne-eqb (getD v 0 0) 45 (first-is-not (f .plain) 45 not-minus) in
+    let m = ne-eqb (getD v 0 0) 45 (first-is-not (f .plain) 45 refl) in
     let e : z - 720 + 720 ≡ z = omega arith in
     record {
       fault = rw (m, plain-fault (f .plain));
       zone = rw (m, f .same, e, sym (most-is 65535 z (omega arith)));
-      clear = no-mark (f .plain) feed not-feed;
-      first = first-is-not (f .plain) space not-space;
+      value = plain-value (f .plain);
     }
 
 behind : (z : ℕ) (v : List ℕ) → z < 720 → Spells v (720 - z) → Offset z (45 ∷ v)
-unfolding offsetFault zoneOf minus westFault west has
+unfolding offsetFault zoneOf westFault west has
 behind z v h f =
     let b : leb (720 - z) 720 ≡ true = le-leb (720 - z) 720 (omega arith) in
     record {
-      fault = or-none (plain-fault (f .plain)) (unless-met Zero (rw (ne-eqb (getD v 0 0) 48 (f .first (omega arith)))));
+      fault = unless-met Number (plain-digits (f .plain)) (unless-met Zero (rw (ne-eqb (getD v 0 0) 48 (f .first (omega arith)))) refl);
       zone = rw (f .same, b) (omega arith);
-      clear = no-mark (f .plain) feed not-feed;
-      first = λ e. omega arith;
+      value = record { clear = no-mark (f .plain) feed refl; first = λ e. omega arith };
     }
 
 pub offset-is : (z : ℕ) → z ≤ 1560 → Offset z (offsetText z)
@@ -187,9 +143,8 @@ zeros-are (x ∷ l) e =
     ap (λ (y : ℕ). y ∷ l) (eqb-true x 0 a) ∙ ap (_∷_ 0) (zeros-are l b)
 
 pub record Node (node : List ℕ) (n : ℕ) (t : List ℕ) : Type 0 where
-  pub spaced : nodeSpace t ≡ true
-  pub clear : has feed t ≡ false
-  pub value : drop 1 t ≡ take n node
+  pub tail : Tail Rest t
+  pub value : past space t ≡ take n node
   pub octets : nodeOctets (take n node) ≡ node
   pub many : length (take n node) ≡ n
 
@@ -216,7 +171,7 @@ or-true true = refl
 or-true false = refl
 
 pub node-is : (node : List ℕ) (n : ℕ) → length node ≡ 20 → nodeOk node n ≡ true → Node node n (nodeText node n)
-unfolding nodeOk nodeText nodeSpace has
+unfolding nodeOk nodeText has past
 node-is node n l e =
     let (f, z) = both (leb n 20 && allOf nodeChar (take n node)) (allOf isZero (drop n node)) e in
     let (g, k) = both (leb n 20) (allOf nodeChar (take n node)) f in
@@ -224,8 +179,13 @@ node-is node n l e =
     let m : length (take n node) ≡ n = length-take-le n node (omega arith) in
     let o = octets-are node n l h z in
     by (eqb n 0)
-    (λ t. rw t (record { spaced = refl; clear = refl; value = ap (λ (i : ℕ). take i node) (sym (eqb-true n 0 t)); octets = o; many = m }))
+    (λ t.
+    let v = ap (λ (i : ℕ). take i node) (sym (eqb-true n 0 t)) in
+    rw t (record { tail = record { clear = refl; lead = refl; fault = refl }; value = v; octets = o; many = m }))
     (λ t.
     let w = eqb-false n 0 t in
-    let q : leb 2 (length (space ∷ take n node)) ≡ true = le-leb 2 (length (space ∷ take n node)) (by (leb 1 n) (λ u. omega (arith, leb-true 1 n u)) (λ u. absurd (w (omega (arith, leb-false 1 n u))))) in
-    rw t (record { spaced = rw q (or-true (eqb (length (space ∷ take n node)) 0)); clear = absent feed nodeChar (take n node) not-char k; value = refl; octets = o; many = m }))
+    let some : 1 ≤ n = by (leb 1 n) (λ u. leb-true 1 n u) (λ u. absurd (w (omega (arith, leb-false 1 n u)))) in
+    let q : leb 2 (length (space ∷ take n node)) ≡ true = le-leb 2 (length (space ∷ take n node)) (omega arith) in
+    let clear = absent feed nodeChar (take n node) not-char k in
+    let lead = or-true (eqb (length (space ∷ take n node)) 0) in
+    rw t (record { tail = record { clear = clear; lead = rw q lead; fault = refl }; value = refl; octets = o; many = m }))

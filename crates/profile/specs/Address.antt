@@ -18,14 +18,14 @@ unfoldable pub octetOf : List ℕ → ℕ
 octetOf v = atMost 255 (numeral 0 v)
 
 -- What follows the third dot is the fourth number: one more dot in it is no digit. Where a dot is missing, what follows is empty.
-unfoldable pub addressOk : List ℕ → Bool
+abbrev pub addressOk : List ℕ → Bool
 addressOk v =
     octetOk (upTo dot v)
     && octetOk (upTo dot (past dot v))
     && octetOk (upTo dot (past dot (past dot v)))
     && octetOk (past dot (past dot (past dot v)))
 
-unfoldable pub addressOf : List ℕ → ℕ
+abbrev pub addressOf : List ℕ → ℕ
 addressOf v =
     ((octetOf (upTo dot v) * 256
     + octetOf (upTo dot (past dot v))) * 256

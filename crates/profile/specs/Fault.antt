@@ -1,4 +1,4 @@
--- What is wrong, and which of two faults is the first. Assumes nothing.
+-- What is wrong, and what is wrong first. Assumes nothing.
 use mathlib.Core.Bool.{Bool, true, false, cond}
 use Prim.Native.Nat.{ℕ}
 use Rattle.profile.specs.declared.text.Fault.{Fault}
@@ -16,13 +16,9 @@ isNone Zero = false
 isNone Address = false
 isNone More = false
 
--- the fault, unless the test is met
-unfoldable pub unless : Bool → Fault → Fault
-unless met f = cond met None f
-
--- a fault, and where there is none another
-unfoldable pub orElse : Fault → Fault → Fault
-orElse f g = cond (isNone f) g f
+-- the fault, unless the test is met, and then what else is wrong
+unfoldable pub unless : Bool → Fault → Fault → Fault
+unless met f g = cond met g f
 
 -- the line of that number where something is wrong with it, and otherwise what is bad after it
 unfoldable pub orBad : ℕ → Fault → Bad → Bad

@@ -2,16 +2,18 @@
 -- Assumes nothing.
 use mathlib.Core.Bool.{Bool, not, _&&_, _||_}
 use mathlib.Core.List.{List}
-use Prim.Native.Nat.{ℕ}
+use Prim.Native.Nat.{ℕ, zero, suc}
 use lib.Dec.{leb, eqb}
 use lib.ListN.{length, getD, drop}
-use Rattle.profile.specs.Cut.{has, upTo, begins}
-use Rattle.profile.specs.Fault.{unless, orElse}
+use Rattle.profile.specs.Cut.{has, upTo, past, begins}
+use Rattle.profile.specs.Fault.{unless}
 use Rattle.profile.specs.Number.{numberFault}
 use Rattle.profile.specs.Address.{addressOk}
 use Rattle.profile.specs.Offset.{offsetFault}
+use Rattle.profile.specs.declared.line.Kind.{Kind}
+use Rattle.profile.specs.declared.line.Kind.the-variants.{Dotted, Digits, Signed, Rest}
 use Rattle.profile.specs.declared.text.Fault.{Fault}
-use Rattle.profile.specs.declared.text.Fault.the-variants.{Missing, End, Name, Space, Address}
+use Rattle.profile.specs.declared.text.Fault.the-variants.{None, Missing, End, Name, Space, Address}
 
 abbrev pub feed : ℕ
 feed = 10
@@ -19,36 +21,49 @@ feed = 10
 abbrev pub space : ℕ
 space = 32
 
--- the line is there, it has a line feed, it begins with its name
-unfoldable pub headFault : List ℕ → List ℕ → Fault
-headFault name s = orElse (unless (leb 1 (length s)) Missing) (orElse (unless (has feed s) End) (unless (begins name (upTo feed s)) Name))
+-- what follows the name in the line; and its value, which follows the first space: no name has one
+abbrev pub tailOf : List ℕ → List ℕ → List ℕ
+tailOf name s = drop (length name) (upTo feed s)
 
--- what follows a name of n octets, and what follows the space after it
-unfoldable pub tailOf : ℕ → List ℕ → List ℕ
-tailOf n s = drop n (upTo feed s)
-
-unfoldable pub valueOf : ℕ → List ℕ → List ℕ
-valueOf n s = drop 1 (tailOf n s)
+abbrev pub valueOf : List ℕ → List ℕ
+valueOf s = past space (upTo feed s)
 
 -- one space, and not another
-unfoldable pub oneSpace : List ℕ → Bool
+abbrev pub oneSpace : List ℕ → Bool
 oneSpace t = eqb (getD t 0 0) space && not (eqb (getD t 1 0) space)
 
-unfoldable pub valueFault : List ℕ → List ℕ → Fault
-valueFault name s = orElse (headFault name s) (unless (oneSpace (tailOf (length name) s)) Space)
+-- Before the rest of the line, which may be any octets. An empty one has no space before it.
+abbrev pub restSpace : List ℕ → Bool
+restSpace t = eqb (length t) 0 || (eqb (getD t 0 0) space && leb 2 (length t))
 
-unfoldable pub numberLine : List ℕ → List ℕ → Fault
-numberLine name s = orElse (valueFault name s) (numberFault (valueOf (length name) s))
+-- the space before a value of each kind, and what is wrong with the value
+abbrev pub spaced : Kind → List ℕ → Bool
+spaced Dotted t = oneSpace t
+spaced Digits t = oneSpace t
+spaced Signed t = oneSpace t
+spaced Rest t = restSpace t
 
-unfoldable pub addressLine : List ℕ → List ℕ → Fault
-addressLine name s = orElse (valueFault name s) (unless (addressOk (valueOf (length name) s)) Address)
+abbrev pub valueFault : Kind → List ℕ → Fault
+valueFault Dotted v = unless (addressOk v) Address None
+valueFault Digits v = numberFault v
+valueFault Signed v = offsetFault v
+valueFault Rest v = None
 
-unfoldable pub offsetLine : List ℕ → List ℕ → Fault
-offsetLine name s = orElse (valueFault name s) (offsetFault (valueOf (length name) s))
+-- the line is there, it has a line feed, it begins with its name, and after it come the space and the value
+unfoldable pub lineFault : List ℕ → Kind → List ℕ → Fault
+lineFault name kind s =
+    unless (leb 1 (length s)) Missing
+    (unless (has feed s) End
+    (unless (begins name (upTo feed s)) Name
+    (unless (spaced kind (tailOf name s)) Space
+    (valueFault kind (valueOf s)))))
 
--- A node ID is the rest of the line, any octets. An empty one has no space before it.
-unfoldable pub nodeSpace : List ℕ → Bool
-nodeSpace t = eqb (length t) 0 || (eqb (getD t 0 0) space && leb 2 (length t))
+-- ---- the lines after it
 
-unfoldable pub nodeLine : List ℕ → List ℕ → Fault
-nodeLine name s = orElse (headFault name s) (unless (nodeSpace (tailOf (length name) s)) Space)
+-- what is left of the text after n lines, and the value of the line that is there
+unfoldable pub linesPast : ℕ → List ℕ → List ℕ
+linesPast zero s = s
+linesPast (suc n) s = linesPast n (past feed s)
+
+abbrev pub valueAt : ℕ → List ℕ → List ℕ
+valueAt n s = valueOf (linesPast n s)

@@ -5,21 +5,25 @@ use Prim.Native.Nat.{ℕ, _+_, _-_, _*_}
 use lib.Dec.{leb, ltb, eqb}
 use lib.ListN.{length, getD}
 use Rattle.scdr.specs.Rules.{allOf}
-use Rattle.profile.specs.Fault.{unless, orElse}
+use Rattle.profile.specs.Fault.{unless}
 use Rattle.profile.specs.declared.text.Fault.{Fault}
-use Rattle.profile.specs.declared.text.Fault.the-variants.{Number, Zero}
+use Rattle.profile.specs.declared.text.Fault.the-variants.{None, Number, Zero}
 
 -- '0' to '9'
-unfoldable pub digit : ℕ → Bool
+abbrev pub digit : ℕ → Bool
 digit x = leb 48 x && leb x 57
 
 -- a zero before another digit
-unfoldable pub padded : List ℕ → Bool
+abbrev pub padded : List ℕ → Bool
 padded v = eqb (getD v 0 0) 48 && ltb 1 (length v)
 
--- one digit or more and nothing else, without a leading zero
+-- one digit or more and nothing else
+abbrev pub digits : List ℕ → Bool
+digits v = allOf digit v && leb 1 (length v)
+
+-- without a leading zero
 unfoldable pub numberFault : List ℕ → Fault
-numberFault v = orElse (unless (allOf digit v && leb 1 (length v)) Number) (unless (not (padded v)) Zero)
+numberFault v = unless (digits v) Number (unless (not (padded v)) Zero None)
 
 -- the number that digits spell, after n
 unfoldable pub numeral : ℕ → List ℕ → ℕ

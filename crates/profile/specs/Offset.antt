@@ -4,17 +4,17 @@ use mathlib.Core.List.{List}
 use Prim.Native.Nat.{ℕ, _+_, _-_}
 use lib.Dec.{leb, eqb}
 use lib.ListN.{getD, drop}
-use Rattle.profile.specs.Fault.{unless, orElse}
-use Rattle.profile.specs.Number.{numberFault, numeral, atMost}
+use Rattle.profile.specs.Fault.{unless}
+use Rattle.profile.specs.Number.{digits, numberFault, numeral, atMost}
 use Rattle.profile.specs.declared.text.Fault.{Fault}
-use Rattle.profile.specs.declared.text.Fault.the-variants.{Zero}
+use Rattle.profile.specs.declared.text.Fault.the-variants.{None, Number, Zero}
 
 -- '-' at the front
-unfoldable pub minus : List ℕ → Bool
+abbrev pub minus : List ℕ → Bool
 minus v = eqb (getD v 0 0) 45
 
 unfoldable pub westFault : List ℕ → Fault
-westFault v = orElse (numberFault v) (unless (not (eqb (getD v 0 0) 48)) Zero)
+westFault v = unless (digits v) Number (unless (not (eqb (getD v 0 0) 48)) Zero None)
 
 unfoldable pub offsetFault : List ℕ → Fault
 offsetFault v = cond (minus v) (westFault (drop 1 v)) (numberFault v)

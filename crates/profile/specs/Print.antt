@@ -6,7 +6,7 @@ use lib.Dec.{leb, ltb, eqb}
 use lib.ListN.{take}
 use Rattle.profile.specs.Address.{dot}
 use Rattle.profile.specs.Line.{feed, space}
-use Rattle.profile.specs.Text.{sgsnName, volumeName, timeName, changeName, offsetName, nodeName}
+use Rattle.profile.specs.Text.{Row, rows}
 use Rattle.profile.specs.declared.Profile.{Profile}
 
 -- the decimal digits of a number below 10 ^ k, without leading zeros
@@ -29,19 +29,25 @@ addressText a =
 unfoldable pub offsetText : ℕ → List ℕ
 offsetText z = cond (leb 720 z) (numberText (z - 720)) (45 ∷ numberText (720 - z))
 
--- a line, and the text after it
-unfoldable pub lineText : List ℕ → List ℕ → List ℕ → List ℕ
-lineText name v r = name ++ space ∷ v ++ feed ∷ r
-
 -- an empty node ID has no space before it
 unfoldable pub nodeText : List ℕ → ℕ → List ℕ
 nodeText node n = cond (eqb n 0) [] (space ∷ take n node)
 
+-- a line for each row: its name, what follows it, and a line feed
+unfoldable pub linesOf : List Row → List (List ℕ) → List ℕ
+linesOf [] ts = []
+linesOf (r ∷ rs) [] = []
+linesOf (r ∷ rs) (t ∷ ts) = (r .name ++ t) ++ feed ∷ linesOf rs ts
+
+abbrev pub tailsOf : Profile → List (List ℕ)
+tailsOf p =
+    (space ∷ addressText (p .sgsn))
+    ∷ (space ∷ numberText (p .limits .volume))
+    ∷ (space ∷ numberText (p .limits .seconds))
+    ∷ (space ∷ numberText (p .limits .changes))
+    ∷ (space ∷ offsetText (p .zone))
+    ∷ nodeText (p .nodeid) (p .nodelen)
+    ∷ []
+
 unfoldable pub textOf : Profile → List ℕ
-textOf p =
-    lineText sgsnName (addressText (p .sgsn))
-    (lineText volumeName (numberText (p .limits .volume))
-    (lineText timeName (numberText (p .limits .seconds))
-    (lineText changeName (numberText (p .limits .changes))
-    (lineText offsetName (offsetText (p .zone))
-    (nodeName ++ nodeText (p .nodeid) (p .nodelen) ++ feed ∷ [])))))
+textOf p = linesOf rows (tailsOf p)

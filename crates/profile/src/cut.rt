@@ -1,8 +1,10 @@
 // Octets up to a mark, and past it.
+use bytes::scan;
 ghost use mathlib.Core.Path.{_≡_};
-ghost use lib.ListN.{getD, drop};
-ghost use Rattle.profile.specs.Cut.{upTo, past, begins};
-ghost use Rattle.profile.specs.Private.Ahead.{ahead};
+ghost use Prim.Native.Nat.{_≤_};
+ghost use lib.ListN.{length, getD, take, drop};
+ghost use Rattle.bytes.specs.Bytes.{indexOf};
+ghost use Rattle.profile.specs.Cut.{has, upTo, past, begins};
 
 // The octet at a place, and 0 past the end.
 pub fn octet(s: &[u8], at: usize) -> u8
@@ -15,17 +17,17 @@ pub fn octet(s: &[u8], at: usize) -> u8
 }
 
 // How many octets stand before the first x; all of them where there is none.
-pub fn ahead(s: &[u8], x: u8) -> usize
-    ensures { λ r. ⌜ r ≡ ahead x (now (s .entry)) ⌝ }
+fn ahead(s: &[u8], x: u8) -> usize
+    ensures { λ r. ⌜ (r ≡ indexOf x (now (s .entry))) × (r ≤ length (now (s .entry))) ⌝ }
 {
-    let mut i = 0;
-    while i < s.len() {
-        if s[i] == x {
-            return i;
-        }
-        i += 1;
-    }
-    i
+    scan::find(s, 0, s.len(), x)
+}
+
+// Is there an x in s?
+pub fn has(s: &[u8], x: u8) -> bool
+    ensures { λ r. ⌜ r ≡ has x (now (s .entry)) ⌝ }
+{
+    ahead(s, x) < s.len()
 }
 
 // What is left after n octets.
@@ -37,6 +39,17 @@ pub fn rest(s: &[u8], n: usize) -> &[u8]
     }
     let e = s.len();
     &s[e..]
+}
+
+// The first n octets; all of them where there are fewer.
+pub fn front(s: &[u8], n: usize) -> &[u8]
+    ensures { λ r. ⌜ now r ≡ take n (now (s .entry)) ⌝ }
+{
+    if n < s.len() {
+        return &s[..n];
+    }
+    let e = s.len();
+    &s[..e]
 }
 
 // What stands before the first x.
@@ -59,15 +72,5 @@ pub fn past(s: &[u8], x: u8) -> &[u8]
 pub fn begins(s: &[u8], name: &[u8]) -> bool
     ensures { λ r. ⌜ r ≡ begins (now (name .entry)) (now (s .entry)) ⌝ }
 {
-    let mut i = 0;
-    while i < name.len() {
-        if s.len() <= i {
-            return false;
-        }
-        if s[i] != name[i] {
-            return false;
-        }
-        i += 1;
-    }
-    true
+    check::same(front(s, name.len()), name)
 }

@@ -1,7 +1,7 @@
 // The first fault.
 use crate::text::Fault;
 ghost use mathlib.Core.Path.{_≡_};
-ghost use Rattle.profile.specs.Fault.{isNone, unless, orElse, orBad};
+ghost use Rattle.profile.specs.Fault.{isNone, unless};
 
 // A line's number and what is wrong there; 0 where no line is bad.
 pub struct Bad {
@@ -26,32 +26,12 @@ pub fn is_none(f: Fault) -> bool
     }
 }
 
-// The fault f, unless the test is met.
-pub fn unless(met: bool, f: Fault) -> Fault
-    ensures { λ r. ⌜ r ≡ unless met f ⌝ }
+// The fault f, unless the test is met, and then g.
+pub fn unless(met: bool, f: Fault, g: Fault) -> Fault
+    ensures { λ r. ⌜ r ≡ unless met f g ⌝ }
 {
     if met {
-        return Fault::None;
-    }
-    f
-}
-
-// The first of two faults.
-pub fn or_else(f: Fault, g: Fault) -> Fault
-    ensures { λ r. ⌜ r ≡ orElse f g ⌝ }
-{
-    if is_none(f) {
         return g;
     }
     f
-}
-
-// The line n, where f is wrong with it; otherwise what is bad after it.
-pub fn or_bad(n: u8, f: Fault, b: Bad) -> Bad
-    ensures { λ r. ⌜ r ≡ orBad n f b ⌝ }
-{
-    if is_none(f) {
-        return b;
-    }
-    Bad { line: n, fault: f }
 }

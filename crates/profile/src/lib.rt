@@ -1,7 +1,7 @@
 // The profile of a node: what it is set up with, and the text that says it.
 //
-// text reads the text; fault has what can be wrong, line the six lines, number, address and offset their values, cut the octets
-// up to a mark and past it.
+// text has the rows of the text, a name and a kind of value each, and reads the lines by them; line is one line, number, address and
+// offset are its values, fault is what can be wrong, and cut the octets up to a mark and past it.
 //
 // No public function has a `requires`: each answers for every input.
 mod address;

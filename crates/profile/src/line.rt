@@ -1,4 +1,4 @@
-// The line at the front of a text.
+// The line at the front of a text, and the lines after it.
 use crate::address;
 use crate::cut;
 use crate::fault;
@@ -6,101 +6,78 @@ use crate::number;
 use crate::offset;
 use crate::text::Fault;
 ghost use mathlib.Core.Path.{_≡_};
-ghost use Rattle.profile.specs.Cut.{has};
-ghost use Rattle.profile.specs.Line.{headFault, tailOf, valueOf, oneSpace, nodeSpace, valueFault, numberLine, addressLine, offsetLine, nodeLine};
+ghost use Rattle.profile.specs.Line.{linesPast, valueAt, spaced, valueFault, lineFault};
 
-// Is there an x in s?
-fn has(s: &[u8], x: u8) -> bool
-    ensures { λ r. ⌜ r ≡ has x (now (s .entry)) ⌝ }
-{
-    cut::ahead(s, x) < s.len()
+// The kind of a line's value.
+pub enum Kind {
+    // four numbers with dots between them
+    Dotted,
+    // a number
+    Digits,
+    // a number, with a minus sign where it is below zero
+    Signed,
+    // the rest of the line, any octets
+    Rest,
 }
 
-// What is wrong with the line before what follows its name.
-fn head_fault(s: &[u8], name: &[u8]) -> Fault
-    ensures { λ r. ⌜ r ≡ headFault (now (name .entry)) (now (s .entry)) ⌝ }
+// What is left of the text after n lines.
+pub fn lines_past(s: &[u8], n: u8) -> &[u8]
+    ensures { λ r. ⌜ now r ≡ linesPast n (now (s .entry)) ⌝ }
+{
+    let mut t = s;
+    let mut i = 0;
+    while i < n {
+        let u = cut::past(t, b'\n');
+        t = u;
+        i += 1;
+    }
+    t
+}
+
+// The value of the line after n lines: what follows its first space.
+pub fn value(s: &[u8], n: u8) -> &[u8]
+    ensures { λ r. ⌜ now r ≡ valueAt n (now (s .entry)) ⌝ }
+{
+    cut::past(cut::up_to(lines_past(s, n), b'\n'), b' ')
+}
+
+// The space before a value, of what follows the name.
+fn spaced(kind: Kind, t: &[u8]) -> bool
+    ensures { λ r. ⌜ r ≡ spaced kind (now (t .entry)) ⌝ }
+{
+    let first = cut::octet(t, 0) == b' ';
+    let second = cut::octet(t, 1) == b' ';
+    match kind {
+        Kind::Dotted => return first & !second,
+        Kind::Digits => return first & !second,
+        Kind::Signed => return first & !second,
+        Kind::Rest => return (t.len() == 0) | (first & (2 <= t.len())),
+    }
+}
+
+// What is wrong with a value.
+fn value_fault(kind: Kind, v: &[u8]) -> Fault
+    ensures { λ r. ⌜ r ≡ valueFault kind (now (v .entry)) ⌝ }
+{
+    match kind {
+        Kind::Dotted => return fault::unless(address::address_ok(v), Fault::Address, Fault::None),
+        Kind::Digits => return number::number_fault(v),
+        Kind::Signed => return offset::offset_fault(v),
+        Kind::Rest => return Fault::None,
+    }
+}
+
+// What is wrong with the line.
+pub fn line_fault(s: &[u8], name: &[u8], kind: Kind) -> Fault
+    ensures { λ r. ⌜ r ≡ lineFault (now (name .entry)) kind (now (s .entry)) ⌝ }
 {
     let there = 1 <= s.len();
-    let ended = has(s, b'\n');
-    let named = cut::begins(cut::up_to(s, b'\n'), name);
-    fault::or_else(
-        fault::unless(there, Fault::Missing),
-        fault::or_else(
-            fault::unless(ended, Fault::End),
-            fault::unless(named, Fault::Name),
-        ),
-    )
-}
-
-// What follows the n octets of its name in the line.
-fn tail(s: &[u8], n: usize) -> &[u8]
-    ensures { λ r. ⌜ now r ≡ tailOf n (now (s .entry)) ⌝ }
-{
-    cut::rest(cut::up_to(s, b'\n'), n)
-}
-
-// The value in the line, whose name has n octets.
-pub fn value(s: &[u8], n: usize) -> &[u8]
-    ensures { λ r. ⌜ now r ≡ valueOf n (now (s .entry)) ⌝ }
-{
-    cut::rest(tail(s, n), 1)
-}
-
-// One space before a number.
-fn one_space(t: &[u8]) -> bool
-    ensures { λ r. ⌜ r ≡ oneSpace (now (t .entry)) ⌝ }
-{
-    (cut::octet(t, 0) == b' ') & !(cut::octet(t, 1) == b' ')
-}
-
-// Nothing, or a space and something after it.
-fn node_space(t: &[u8]) -> bool
-    ensures { λ r. ⌜ r ≡ nodeSpace (now (t .entry)) ⌝ }
-{
-    (t.len() == 0) | ((cut::octet(t, 0) == b' ') & (2 <= t.len()))
-}
-
-// What is wrong with the line before its value.
-fn value_fault(s: &[u8], name: &[u8]) -> Fault
-    ensures { λ r. ⌜ r ≡ valueFault (now (name .entry)) (now (s .entry)) ⌝ }
-{
-    let f = head_fault(s, name);
-    let spaced = one_space(tail(s, name.len()));
-    fault::or_else(f, fault::unless(spaced, Fault::Space))
-}
-
-// What is wrong with a line that has a number.
-pub fn number_line(s: &[u8], name: &[u8]) -> Fault
-    ensures { λ r. ⌜ r ≡ numberLine (now (name .entry)) (now (s .entry)) ⌝ }
-{
-    let f = value_fault(s, name);
-    let g = number::number_fault(value(s, name.len()));
-    fault::or_else(f, g)
-}
-
-// What is wrong with a line that has an address.
-pub fn address_line(s: &[u8], name: &[u8]) -> Fault
-    ensures { λ r. ⌜ r ≡ addressLine (now (name .entry)) (now (s .entry)) ⌝ }
-{
-    let f = value_fault(s, name);
-    let met = address::address_ok(value(s, name.len()));
-    fault::or_else(f, fault::unless(met, Fault::Address))
-}
-
-// What is wrong with a line that has an offset.
-pub fn offset_line(s: &[u8], name: &[u8]) -> Fault
-    ensures { λ r. ⌜ r ≡ offsetLine (now (name .entry)) (now (s .entry)) ⌝ }
-{
-    let f = value_fault(s, name);
-    let g = offset::offset_fault(value(s, name.len()));
-    fault::or_else(f, g)
-}
-
-// What is wrong with a line that has a node ID.
-pub fn node_line(s: &[u8], name: &[u8]) -> Fault
-    ensures { λ r. ⌜ r ≡ nodeLine (now (name .entry)) (now (s .entry)) ⌝ }
-{
-    let f = head_fault(s, name);
-    let spaced = node_space(tail(s, name.len()));
-    fault::or_else(f, fault::unless(spaced, Fault::Space))
+    let ended = cut::has(s, b'\n');
+    let line = cut::up_to(s, b'\n');
+    let named = cut::begins(line, name);
+    let spaced = spaced(kind, cut::rest(line, name.len()));
+    let f = value_fault(kind, cut::past(line, b' '));
+    let g = fault::unless(spaced, Fault::Space, f);
+    let h = fault::unless(named, Fault::Name, g);
+    fault::unless(there, Fault::Missing, fault::unless(ended, Fault::End, h))
 }

@@ -5,7 +5,7 @@ use crate::text::Fault;
 ghost use mathlib.Core.Path.{_≡_};
 ghost use Prim.Native.Nat.{_+_, _-_, _*_, _^_};
 ghost use Rattle.scdr.specs.Rules.{allOf};
-ghost use Rattle.profile.specs.Number.{atMost, digit, padded, numeral, numberFault};
+ghost use Rattle.profile.specs.Number.{atMost, digit, numeral, numberFault};
 
 // A digit 0 to 9.
 fn is_digit(x: u8) -> bool
@@ -15,7 +15,7 @@ fn is_digit(x: u8) -> bool
 }
 
 // Are all of v digits?
-fn digits(v: &[u8]) -> bool
+pub fn digits(v: &[u8]) -> bool
     ensures { λ r. ⌜ r ≡ allOf digit (now (v .entry)) ⌝ }
 {
     let mut i = 0;
@@ -28,22 +28,16 @@ fn digits(v: &[u8]) -> bool
     true
 }
 
-// A zero before another digit.
-fn is_padded(v: &[u8]) -> bool
-    ensures { λ r. ⌜ r ≡ padded (now (v .entry)) ⌝ }
-{
-    (cut::octet(v, 0) == b'0') & (1 < v.len())
-}
-
 // What is wrong with v as a number.
 pub fn number_fault(v: &[u8]) -> Fault
     ensures { λ r. ⌜ r ≡ numberFault (now (v .entry)) ⌝ }
 {
     let whole = digits(v) & (1 <= v.len());
-    let plain = !is_padded(v);
-    fault::or_else(
-        fault::unless(whole, Fault::Number),
-        fault::unless(plain, Fault::Zero),
+    let padded = (cut::octet(v, 0) == b'0') & (1 < v.len());
+    fault::unless(
+        whole,
+        Fault::Number,
+        fault::unless(!padded, Fault::Zero, Fault::None),
     )
 }
 

@@ -17,9 +17,13 @@ fn is_minus(v: &[u8]) -> bool
 fn west_fault(v: &[u8]) -> Fault
     ensures { λ r. ⌜ r ≡ westFault (now (v .entry)) ⌝ }
 {
-    let f = number::number_fault(v);
+    let whole = number::digits(v) & (1 <= v.len());
     let nonzero = !(cut::octet(v, 0) == b'0');
-    fault::or_else(f, fault::unless(nonzero, Fault::Zero))
+    fault::unless(
+        whole,
+        Fault::Number,
+        fault::unless(nonzero, Fault::Zero, Fault::None),
+    )
 }
 
 // What is wrong with v as an offset.

@@ -6,11 +6,13 @@ use crate::cut;
 use crate::fault;
 use crate::fault::Bad;
 use crate::line;
+use crate::line::Kind;
 use crate::number;
 use crate::offset;
 ghost use mathlib.Core.Path.{_≡_};
 ghost use Rattle.profile.specs.Node.{nodeOctets};
-ghost use Rattle.profile.specs.Text.{badFrom3, firstBad, limitsOf, profileOf, readOf};
+ghost use Rattle.profile.specs.Text.{rows, firstBad, profileOf, readOf};
+ghost use Rattle.profile.specs.Private.Rows.{rowFault};
 
 // What is wrong with a line.
 pub enum Fault {
@@ -46,58 +48,51 @@ fn node_octets(v: &[u8]) -> [u8; 20]
     ensures { λ r. ⌜ r ≡ nodeOctets (now (v .entry)) ⌝ }
 {
     let mut out = [0u8; 20];
-    let mut i = 0;
-    while i < 20 {
-        out[i] = cut::octet(v, i);
-        i += 1;
-    }
+    bytes::copy(cut::front(v, 20), &mut out);
     out
 }
 
-// The first bad line from the third on.
-fn bad_from_3(s: &[u8]) -> Bad
-    ensures { λ r. ⌜ r ≡ badFrom3 (now (s .entry)) ⌝ }
+// What is wrong with the line of row i at the front of s: its name, and the kind of its value.
+fn row_fault(s: &[u8], i: u8) -> Fault
+    ensures { λ r. ⌜ r ≡ rowFault i (now (s .entry)) ⌝ }
 {
-    let t = cut::past(s, b'\n');
-    let u = cut::past(t, b'\n');
-    let v = cut::past(u, b'\n');
-    let w = cut::past(v, b'\n');
-    let e = fault::unless(w.len() == 0, Fault::More);
-    let none = Bad {
-        line: 0,
-        fault: Fault::None,
-    };
-    let g = fault::or_bad(7, e, none);
-    let f = fault::or_bad(6, line::node_line(v, b"node-id"), g);
-    let d = fault::or_bad(5, line::offset_line(u, b"offset"), f);
-    let c = fault::or_bad(4, line::number_line(t, b"change-limit"), d);
-    fault::or_bad(3, line::number_line(s, b"time-limit"), c)
+    match i {
+        0 => return line::line_fault(s, b"sgsn", Kind::Dotted),
+        1 => return line::line_fault(s, b"volume-limit", Kind::Digits),
+        2 => return line::line_fault(s, b"time-limit", Kind::Digits),
+        3 => return line::line_fault(s, b"change-limit", Kind::Digits),
+        4 => return line::line_fault(s, b"offset", Kind::Signed),
+        _ => return line::line_fault(s, b"node-id", Kind::Rest),
+    }
 }
 
 // The first bad line.
 fn first_bad(s: &[u8]) -> Bad
-    ensures { λ r. ⌜ r ≡ firstBad (now (s .entry)) ⌝ }
+    ensures { λ r. ⌜ r ≡ firstBad rows 1 (now (s .entry)) ⌝ }
 {
-    let t = cut::past(s, b'\n');
-    let u = cut::past(t, b'\n');
-    let c = bad_from_3(u);
-    let b = fault::or_bad(2, line::number_line(t, b"volume-limit"), c);
-    fault::or_bad(1, line::address_line(s, b"sgsn"), b)
-}
-
-// The limits of lines 2 to 4. Each value stands after the octets of its name and a space.
-fn limits_of(s: &[u8]) -> Limits
-    ensures { λ r. ⌜ r ≡ limitsOf (now (s .entry)) ⌝ }
-{
-    let t = cut::past(s, b'\n');
-    let u = cut::past(t, b'\n');
-    let volume = number::number(line::value(s, 12));
-    let seconds = number::number(line::value(t, 10));
-    let changes = number::number(line::value(u, 12));
-    Limits {
-        volume,
-        seconds: number::at_most(4294967295, seconds) as u32,
-        changes: number::at_most(255, changes) as u8,
+    let mut t = s;
+    let mut i: u8 = 0;
+    while i < 6 {
+        let f = row_fault(t, i);
+        if !fault::is_none(f) {
+            return Bad {
+                line: i + 1,
+                fault: f,
+            };
+        }
+        let u = cut::past(t, b'\n');
+        t = u;
+        i += 1;
+    }
+    if t.len() == 0 {
+        return Bad {
+            line: 0,
+            fault: Fault::None,
+        };
+    }
+    Bad {
+        line: 7,
+        fault: Fault::More,
     }
 }
 
@@ -105,14 +100,18 @@ fn limits_of(s: &[u8]) -> Limits
 fn profile_of(s: &[u8]) -> Profile
     ensures { λ r. ⌜ r ≡ profileOf (now (s .entry)) ⌝ }
 {
-    let t = cut::past(s, b'\n');
-    let u = cut::past(cut::past(cut::past(t, b'\n'), b'\n'), b'\n');
-    let v = cut::past(u, b'\n');
-    let sgsn = address::address(line::value(s, 4));
-    let limits = limits_of(t);
-    let zone = offset::zone(line::value(u, 6));
-    let id = line::value(v, 7);
+    let sgsn = address::address(line::value(s, 0));
+    let volume = number::number(line::value(s, 1));
+    let seconds = number::number(line::value(s, 2));
+    let changes = number::number(line::value(s, 3));
+    let zone = offset::zone(line::value(s, 4));
+    let id = line::value(s, 5);
     let nodeid = node_octets(id);
+    let limits = Limits {
+        volume,
+        seconds: number::at_most(4294967295, seconds) as u32,
+        changes: number::at_most(255, changes) as u8,
+    };
     Profile {
         sgsn,
         limits,

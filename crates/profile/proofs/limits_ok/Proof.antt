@@ -4,9 +4,6 @@ use Rattle.profile.specs.Profile.{limitsOk}
 use Rattle.profile.proofs.limits_ok.Statement.{statement}
 use Rattle.profile.proofs.limits_ok.Tie as tie
 
-returns : tie.Need-returns
-unfolding limitsOk
-returns c = refl
-
 pub limits-ok-spec : {M : Type 1} → statement M
-limits-ok-spec = tie.close (tie.spec returns)
+unfolding limitsOk
+limits-ok-spec = tie.close (tie.spec (λ c. refl))

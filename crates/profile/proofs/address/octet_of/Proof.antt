@@ -8,18 +8,16 @@ use borrow.Author.Needs.{needs}
 use Rattle.profile.proofs.address.octet_of.Statement.{statement}
 use Rattle.profile.proofs.address.octet_of.Tie as tie
 
-number-requires : tie.Need-number-requires
-number-requires c κs = search needs
-
-at-most-requires : tie.Need-at-most-requires
-at-most-requires c κs = search needs
-
-cast-result : tie.Need-cast-result
-cast-result c = omega (arith, most-le 255 (c .before .number .result))
-
 returns : tie.Need-returns
 unfolding octetOf
-returns c = let s = c .before .before .before .args .v .now in (rw (c .at-most .ensures, c .before .number .ensures) (most-most 255 (2 ^ 64 - 1) (numeral 0 s) (omega arith)), omega (arith, most-le 255 (c .before .number .result)))
+returns c =
+    let s = c .before .before .before .args .v .now in (
+      rw (c .at-most .ensures, c .before .number .ensures) (most-most 255 (2 ^ 64 - 1) (numeral 0 s) (omega arith)),
+      omega (arith, most-le 255 (c .before .number .result)),
+    )
 
 pub octet-of-spec : {M : Type 1} → statement M
-octet-of-spec = tie.close (tie.spec number-requires at-most-requires cast-result returns)
+octet-of-spec =
+    tie.close
+    (tie.spec
+    (λ c κs. search needs) (λ c κs. search needs) (λ c. omega (arith, most-le 255 (c .before .number .result))) returns)

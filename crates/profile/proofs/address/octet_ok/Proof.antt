@@ -1,20 +1,13 @@
 -- `profile::address::octet_ok` meets its contract. Assumes nothing.
-use Rattle.profile.proofs.Octets.{octet-test}
+use Rattle.profile.proofs.Numbers.{octet-test}
 use borrow.Author.Needs.{needs}
 use Rattle.profile.proofs.address.octet_ok.Statement.{statement}
 use Rattle.profile.proofs.address.octet_ok.Tie as tie
 
-number-requires : tie.Need-number-requires
-number-requires c κs = search needs
-
-number-fault-requires : tie.Need-number-fault-requires
-number-fault-requires c κs = search needs
-
-is-none-requires : tie.Need-is-none-requires
-is-none-requires c κs = search needs
-
 returns : tie.Need-returns
-returns c = octet-test (c .before .before .before .before .args .v .now) (c .is-none .ensures) (c .before .number-fault .ensures) (c .before .before .number .ensures)
+returns c =
+    octet-test (c .before .before .before .before .args .v .now)
+    (c .is-none .ensures) (c .before .number-fault .ensures) (c .before .before .number .ensures)
 
 pub octet-ok-spec : {M : Type 1} → statement M
-octet-ok-spec = tie.close (tie.spec number-requires number-fault-requires is-none-requires returns)
+octet-ok-spec = tie.close (tie.spec (λ c κs. search needs) (λ c κs. search needs) (λ c κs. search needs) returns)

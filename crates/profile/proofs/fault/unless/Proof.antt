@@ -3,13 +3,6 @@ use Rattle.profile.specs.Fault.{unless}
 use Rattle.profile.proofs.fault.unless.Statement.{statement}
 use Rattle.profile.proofs.fault.unless.Tie as tie
 
-returns : tie.Need-returns
-unfolding unless
-returns c = rw (c .if1 .taken)
-
-returns-2 : tie.Need-returns-2
-unfolding unless
-returns-2 c = rw (c .if1 .left)
-
 pub unless-spec : {M : Type 1} → statement M
-unless-spec = tie.close (tie.spec returns returns-2)
+unfolding unless
+unless-spec = tie.close (tie.spec (λ c. rw (c .if1 .taken)) (λ c. rw (c .if1 .left)))

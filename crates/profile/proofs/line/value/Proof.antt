@@ -1,18 +1,11 @@
--- `profile::line::value` meets its contract. Assumes nothing.
-use Rattle.profile.specs.Line.{valueOf}
+-- `profile::line::value` meets its contract.
 use borrow.Author.Needs.{needs}
 use Rattle.profile.proofs.line.value.Statement.{statement}
 use Rattle.profile.proofs.line.value.Tie as tie
 
-tail-requires : tie.Need-tail-requires
-tail-requires c κs = search needs
-
-rest-requires : tie.Need-rest-requires
-rest-requires c κs = search needs
-
-returns : tie.Need-returns
-unfolding valueOf
-returns c = rw (c .rest .ensures, c .before .tail .ensures)
-
 pub value-spec : {M : Type 1} → statement M
-value-spec = tie.close (tie.spec tail-requires rest-requires returns)
+value-spec =
+    tie.close
+    (tie.spec
+    (λ c κs. search needs) (λ c κs. search needs) (λ c κs. search needs)
+    (λ c. rw (c .past .ensures, c .before .up-to .ensures, c .before .before .lines-past .ensures)))

@@ -4,11 +4,5 @@ use native.Mathlib.Omega.{arith}
 use Rattle.profile.proofs.number.at_most.Statement.{statement}
 use Rattle.profile.proofs.number.at_most.Tie as tie
 
-returns : tie.Need-returns
-returns c = most-is _ _ (c .if1 .taken)
-
-returns-2 : tie.Need-returns-2
-returns-2 c = most-over _ _ (omega (arith, c .if1 .left))
-
 pub at-most-spec : {M : Type 1} → statement M
-at-most-spec = tie.close (tie.spec returns returns-2)
+at-most-spec = tie.close (tie.spec (λ c. most-is _ _ (c .if1 .taken)) (λ c. most-over _ _ (omega (arith, c .if1 .left))))

@@ -1,63 +1,49 @@
--- `profile::text::profile_of` meets its contract. Assumes nothing.
+-- `profile::text::profile_of` meets its contract.
+use Prim.Native.Nat.{_-_, _^_}
+use native.Mathlib.Omega.{arith}
+use Rattle.profile.specs.Number.{numeral}
+use Rattle.profile.specs.Line.{valueAt}
 use Rattle.profile.specs.Text.{profileOf}
+use Rattle.profile.proofs.Numbers.{most-most, most-le}
 use borrow.Author.Needs.{needs}
 use Rattle.profile.proofs.text.profile_of.Statement.{statement}
 use Rattle.profile.proofs.text.profile_of.Tie as tie
 
-past-requires : tie.Need-past-requires
-past-requires c κs = search needs
-
-past-requires-2 : tie.Need-past-requires-2
-past-requires-2 c κs = search needs
-
-past-requires-3 : tie.Need-past-requires-3
-past-requires-3 c κs = search needs
-
-past-requires-4 : tie.Need-past-requires-4
-past-requires-4 c κs = search needs
-
-past-requires-5 : tie.Need-past-requires-5
-past-requires-5 c κs = search needs
-
-value-requires : tie.Need-value-requires
-value-requires c κs = search needs
-
-address-requires : tie.Need-address-requires
-address-requires c κs = search needs
-
-limits-of-requires : tie.Need-limits-of-requires
-limits-of-requires c κs = search needs
-
-value-requires-2 : tie.Need-value-requires-2
-value-requires-2 c κs = search needs
-
-zone-requires : tie.Need-zone-requires
-zone-requires c κs = search needs
-
-value-requires-3 : tie.Need-value-requires-3
-value-requires-3 c κs = search needs
-
-node-octets-requires : tie.Need-node-octets-requires
-node-octets-requires c κs = search needs
-
 returns : tie.Need-returns
 unfolding profileOf
-returns c = rw (c .node-octets .ensures, c .before .value3 .ensures, c .before .before .zone .ensures, c .before .before .before .value2 .ensures, c .before .before .before .before .limits-of .ensures, c .before .before .before .before .before .address .ensures, c .before .before .before .before .before .before .value .ensures, c .before .before .before .before .before .before .before .past5 .ensures, c .before .before .before .before .before .before .before .before .past4 .ensures, c .before .before .before .before .before .before .before .before .before .past3 .ensures, c .before .before .before .before .before .before .before .before .before .before .past2 .ensures, c .before .before .before .before .before .before .before .before .before .before .before .past .ensures)
+returns c =
+    let c4 = c .before .before .before .before in
+    let c8 = c4 .before .before .before .before in
+    let c12 = c8 .before .before .before .before in
+    let s = c12 .before .before .before .args .s .now in
+    let a = most-most (2 ^ 32 - 1) (2 ^ 64 - 1) (numeral 0 (valueAt 2 s)) (omega arith) in
+    let b = most-most 255 (2 ^ 64 - 1) (numeral 0 (valueAt 3 s)) (omega arith) in
+    rw (
+      c .at-most2 .ensures,
+      c .before .at-most .ensures,
+      c .before .before .node-octets .ensures,
+      c .before .before .before .value6 .ensures,
+      c4 .zone .ensures,
+      c4 .before .value5 .ensures,
+      c4 .before .before .number3 .ensures,
+      c4 .before .before .before .value4 .ensures,
+      c8 .number2 .ensures,
+      c8 .before .value3 .ensures,
+      c8 .before .before .number .ensures,
+      c8 .before .before .before .value2 .ensures,
+      c12 .address .ensures,
+      c12 .before .value .ensures,
+      a,
+      b,
+    )
 
 pub profile-of-spec : {M : Type 1} → statement M
 profile-of-spec =
     tie.close
     (tie.spec
-    past-requires
-    past-requires-2
-    past-requires-3
-    past-requires-4
-    past-requires-5
-    value-requires
-    address-requires
-    limits-of-requires
-    value-requires-2
-    zone-requires
-    value-requires-3
-    node-octets-requires
+    (λ c κs. search needs) (λ c κs. search needs) (λ c κs. search needs) (λ c κs. search needs) (λ c κs. search needs)
+    (λ c κs. search needs) (λ c κs. search needs) (λ c κs. search needs) (λ c κs. search needs) (λ c κs. search needs)
+    (λ c κs. search needs) (λ c κs. search needs) (λ c κs. search needs)
+    (λ c. omega (arith, c .at-most .ensures, most-le (2 ^ 32 - 1) (c .before .before .before .before .before .before .before .number2 .result)))
+    (λ c κs. search needs) (λ c. omega (arith, c .at-most2 .ensures, most-le 255 (c .before .before .before .before .before .before .number3 .result)))
     returns)

@@ -4,17 +4,10 @@ use Rattle.profile.proofs.Readings.{read-good, read-bad}
 use Rattle.profile.proofs.text.read_profile.Statement.{statement}
 use Rattle.profile.proofs.text.read_profile.Tie as tie
 
-first-bad-requires : tie.Need-first-bad-requires
-first-bad-requires c κs = search needs
-
-profile-of-requires : tie.Need-profile-of-requires
-profile-of-requires c κs = search needs
-
 returns : tie.Need-returns
-returns c = read-good (c .before .before .before .before .before .args .s .now) (c .before .before .before .first-bad .result) (c .before .before .before .first-bad .ensures) (c .profile-of .ensures) (c .before .if1 .taken)
-
-no-profile-requires : tie.Need-no-profile-requires
-no-profile-requires c κs = search needs
+returns c =
+    read-good (c .before .before .before .before .before .args .s .now) (c .before .before .before .first-bad .result)
+    (c .before .before .before .first-bad .ensures) (c .profile-of .ensures) (c .before .if1 .taken)
 
 returns-2 : tie.Need-returns-2
 returns-2 c =
@@ -22,4 +15,7 @@ returns-2 c =
     read-bad (c .before .before .before .before .before .args .s .now) (b .result) (b .ensures) (c .no-profile .ensures) (c .before .if1 .left)
 
 pub read-profile-spec : {M : Type 1} → statement M
-read-profile-spec = tie.close (tie.spec first-bad-requires profile-of-requires returns no-profile-requires returns-2)
+read-profile-spec =
+    tie.close
+    (tie.spec
+    (λ c κs. search needs) (λ c κs. search needs) returns (λ c κs. search needs) returns-2)
