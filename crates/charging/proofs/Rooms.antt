@@ -1,6 +1,6 @@
 -- The room is enough: no event of a file is refused with 11, and a node that was sound stays so.
 use mathlib.Core.Path.{_≡_, refl, sym, ap, _∙_}
-use mathlib.Core.Bool.{Bool, true, false, not, _||_}
+use mathlib.Core.Bool.{Bool, true, false}
 use mathlib.Core.Option.{Option, none, some}
 use mathlib.Core.List.{List, [], _∷_, _++_, map}
 use Prim.Native.Nat.{ℕ, zero, suc, _+_, _*_, _≤_, _<_}
@@ -12,8 +12,8 @@ use Rattle.format.proofs.Tests.{by}
 use Rattle.scdr.specs.declared.Record.{Record}
 use Rattle.profile.specs.declared.Profile.{Profile}
 use Rattle.event.specs.declared.Name.{Name}
-use Rattle.event.specs.Fields.{kindOf, timeOf, fieldsOk}
-use Rattle.event.specs.Rows.{Row, row, firstFit, rows, marked, known, measured}
+use Rattle.event.specs.Fields.{timeOf}
+use Rattle.event.specs.Rows.{Row, row, firstFit}
 use Rattle.event.specs.Framing.{nextLength}
 use Rattle.context.specs.declared.Context.{Context}
 use Rattle.history.specs.Lists.{All}
@@ -21,7 +21,6 @@ use Rattle.history.specs.Log.{Said, activates, tells, tellsAll, nothing}
 use Rattle.history.specs.Table.{slot, slotsWrite, hears}
 use Rattle.node.specs.declared.Node.{Node}
 use Rattle.node.specs.declared.Message.{Message}
-use Rattle.node.specs.Sound.{sound, latest, mostAccepted}
 use Rattle.node.specs.Hear.{closing, hearWith, hear}
 use Rattle.node.specs.Step.{
   Brought,
@@ -32,9 +31,6 @@ use Rattle.node.specs.Step.{
   octetsOf,
   recordsOf,
   output,
-  notActive,
-  isActive,
-  allTaken,
   saidOf,
   refusals,
   stepOf,
@@ -101,20 +97,9 @@ last-row k (row j true ∷ rs) t z o e = absurd (o .0 e)
 last-row k (row j false ∷ rs) t z o e = last-row k rs t z (o .1) e
 
 module _ (n : Node) (s : List ℕ) where
+  -- the rows before the last, which alone asks for the room
   early : List Row
-  early =
-      row 13 (not (sound n))
-      ∷ row 1 (ltb (length s) 7)
-      ∷ row 2 (not (marked s))
-      ∷ row 3 (not (known s))
-      ∷ row 4 (not (measured s))
-      ∷ row 5 (not (fieldsOk (kindOf s) s))
-      ∷ row 6 (ltb latest (timeOf s) || ltb (timeOf s) (n .clock))
-      ∷ row 7 (leb mostAccepted (n .accepted))
-      ∷ row 8 (notActive (n .profile) (saidOf s) (slots n))
-      ∷ row 9 (isActive (n .profile) (saidOf s) (slots n))
-      ∷ row 10 (allTaken (saidOf s) (slots n))
-      ∷ []
+  early = take 11 (refusals n s [])
 
   abbrev x : List ℕ
   x = output n (timeOf s) (saidOf s)
@@ -124,7 +109,7 @@ module _ (n : Node) (s : List ℕ) where
   all-rows b = refl
 
   others : Other 11 early
-  unfolding early
+  unfolding refusals early
   others = (
     (λ e. omega arith),
     (
