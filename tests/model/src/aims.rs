@@ -3,7 +3,6 @@
 
 use crate::clock::{self, LAST_SECOND};
 use crate::event::{self, Name, What};
-use crate::fault::Fault;
 use crate::node::{Node, SLOTS};
 use crate::record::Record;
 use crate::step::{self, Step};
@@ -258,11 +257,11 @@ impl Aims {
             if *row >= 5 && *row != 6 {
                 readable = readable && event::whole_length(event) == Some(event.len());
             }
-            let time_right = !step::time_out_of_range(node, event, room, Fault::None);
+            let time_right = !step::time_out_of_range(node, event, room);
             let doable = || {
-                !step::name_not_active(node, event, room, Fault::None)
-                    && !step::name_active(node, event, room, Fault::None)
-                    && !step::all_slots_taken(node, event, room, Fault::None)
+                !step::name_not_active(node, event, room)
+                    && !step::name_active(node, event, room)
+                    && !step::all_slots_taken(node, event, room)
             };
             let can = match row {
                 2 | 3 | 6 | 7 => true,
@@ -275,12 +274,12 @@ impl Aims {
                         if !time_right {
                             other[3..7].copy_from_slice(&node.clock.to_be_bytes());
                         }
-                        !step::accept(node, &other, Fault::None).1.is_empty() && room < 64
+                        !step::accept(node, &other).1.is_empty() && room < 64
                     }
                 }
                 _ => readable,
             };
-            if can && (*row == 11 || applies(node, event, room, Fault::None)) {
+            if can && (*row == 11 || applies(node, event, room)) {
                 if let Some(count) = self.pairs.get_mut(&(answer, *row)) {
                     *count += 1;
                 }
@@ -331,8 +330,8 @@ impl Aims {
     }
 
     fn count_room(&mut self, node: &Node, event: &[u8], room: usize) {
-        let records = step::accept(node, event, Fault::None).1;
-        let needed = step::output(&records, Fault::None).len();
+        let records = step::accept(node, event).1;
+        let needed = step::output(&records).len();
         let some = !records.is_empty();
         let all = records.len() == SLOTS;
         self.met("room exact", some && room == needed);
@@ -342,7 +341,7 @@ impl Aims {
         self.met("room 0 and no output", !some && room == 0);
         self.met("room 0 for a record", some && room == 0);
         if records.len() > 1 && room < needed {
-            let first = step::output(&records[..1], Fault::None).len();
+            let first = step::output(&records[..1]).len();
             self.met("room for the first record but not for all", room >= first);
         }
         let bare = room < needed && room + 2 * records.len() >= needed;
@@ -356,7 +355,7 @@ impl Aims {
         let profile = &node.profile;
         let time = event::time(event);
         let closed = done.records.len();
-        let slot_of = |name| node.slots[node.find(name, Fault::None).unwrap()].as_ref().unwrap();
+        let slot_of = |name| node.slots[node.find(name).unwrap()].as_ref().unwrap();
         match event::what(event) {
             What::Activate(name, _) => {
                 self.met("released name activated again", self.released.contains(&name));
@@ -438,7 +437,7 @@ impl Aims {
         let volume = record.containers.iter().any(|c| big(c.uplink) || big(c.downlink));
         self.met("a volume of 2^32 or more in a container", volume);
         let time = last.time;
-        let (year, month, day) = clock::date(time / 86_400, Fault::None);
+        let (year, month, day) = clock::date(time / 86_400);
         self.met("record on 29 February 2000", (year, month, day) == (2000, 2, 29));
         self.met("record on another 29 February", year > 2000 && (month, day) == (2, 29));
         self.met("record on 1 March 2000", (year, month, day) == (2000, 3, 1));
@@ -473,7 +472,7 @@ impl Aims {
         self.met("network initiation", record.network_initiated);
         self.met("SGSN change in a sole record", sole && record.sgsn_change);
         self.met("SGSN change in record number 1", !sole && record.sgsn_change);
-        let flagged = node.find(record.name, Fault::None);
+        let flagged = node.find(record.name);
         let flags = flagged.map_or(0, |slot| node.slots[slot].as_ref().unwrap().start.flags);
         let later = flags & 2 != 0 && record.number.is_some_and(|n| n > 1);
         self.met("later record of an arrival by SGSN change", later);

@@ -1,7 +1,5 @@
 //! "Events (integers big-endian)": layout and the ranges of the fields.
 
-use crate::fault::Fault;
-
 pub const MARK: [u8; 2] = [0xC3, 0x5E];
 /// "the mark C3 5E, a kind, and a 4-octet time: 7 octets"
 pub const HEAD: usize = 7;
@@ -87,12 +85,8 @@ pub fn whole_length(event: &[u8]) -> Option<usize> {
 /// "reliability 0..5, delay 0..3, precedence 0..3, peak 0..9, mean 0..18"
 pub const QOS_HIGHEST: Qos = [5, 3, 3, 9, 18];
 
-pub fn qos_in_range(qos: &Qos, fault: Fault) -> bool {
-    let mut highest = QOS_HIGHEST;
-    if fault == Fault::MeanOf19 {
-        highest[4] = 19;
-    }
-    qos.iter().zip(highest).all(|(value, most)| *value <= most)
+pub fn qos_in_range(qos: &Qos) -> bool {
+    qos.iter().zip(QOS_HIGHEST).all(|(value, most)| *value <= most)
 }
 
 /// The sixteen halves of an IMSI, "low half first".
@@ -105,16 +99,14 @@ pub fn imsi_digits(imsi: &[u8; 8]) -> usize {
 }
 
 /// "IMSI 6..15 digits, low half first, all later halves F"
-pub fn imsi_in_range(imsi: &[u8; 8], fault: Fault) -> bool {
+pub fn imsi_in_range(imsi: &[u8; 8]) -> bool {
     let digits = imsi_digits(imsi);
-    let fewest = if fault == Fault::FiveDigits { 5 } else { 6 };
-    (fewest..=15).contains(&digits) && halves(imsi)[digits..].iter().all(|half| *half == 15)
+    (6..=15).contains(&digits) && halves(imsi)[digits..].iter().all(|half| *half == 15)
 }
 
 /// "n 1..63; APN letters, digits, '.', '-'"
-pub fn apn_in_range(apn: &[u8], fault: Fault) -> bool {
-    let most = if fault == Fault::Apn64 { 64 } else { 63 };
-    (1..=most).contains(&apn.len())
+pub fn apn_in_range(apn: &[u8]) -> bool {
+    (1..=63).contains(&apn.len())
         && apn.iter().all(|c| c.is_ascii_alphanumeric() || *c == b'.' || *c == b'-')
 }
 
@@ -124,22 +116,22 @@ pub fn flags_in_range(flags: u8) -> bool {
 }
 
 /// "cause 0, 4 or 18"
-pub fn cause_in_range(cause: u8, fault: Fault) -> bool {
-    matches!(cause, 0 | 4 | 18) || (fault == Fault::CauseOf16 && cause == 16)
+pub fn cause_in_range(cause: u8) -> bool {
+    matches!(cause, 0 | 4 | 18)
 }
 
 /// All fields but the time, which has a row of its own. "PDP type any"; names,
 /// addresses and volumes may be anything.
-pub fn fields_in_range(event: &[u8], fault: Fault) -> bool {
+pub fn fields_in_range(event: &[u8]) -> bool {
     match what(event) {
         What::Activate(_, start) => {
             flags_in_range(start.flags)
-                && imsi_in_range(&start.imsi, fault)
-                && qos_in_range(&start.qos, fault)
-                && apn_in_range(&start.apn, fault)
+                && imsi_in_range(&start.imsi)
+                && qos_in_range(&start.qos)
+                && apn_in_range(&start.apn)
         }
-        What::Qos(_, qos) => qos_in_range(&qos, fault),
-        What::Release(_, cause) => cause_in_range(cause, fault),
+        What::Qos(_, qos) => qos_in_range(&qos),
+        What::Release(_, cause) => cause_in_range(cause),
         What::Traffic(..) | What::Tariff | What::Tick | What::Management(_) => true,
     }
 }

@@ -5,7 +5,6 @@ pub mod aims;
 pub mod calls;
 pub mod clock;
 pub mod event;
-pub mod fault;
 pub mod node;
 pub mod nodes;
 pub mod profile;

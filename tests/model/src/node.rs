@@ -2,7 +2,6 @@
 
 use crate::clock::LAST_SECOND;
 use crate::event::{self, Name, Qos, Start};
-use crate::fault::Fault;
 use crate::profile::Profile;
 
 /// "keeps up to 16 active contexts"
@@ -40,8 +39,6 @@ pub struct Context {
     pub qos: Qos,
     pub uplink: u64,
     pub downlink: u64,
-    /// When the activation came; for planted faults only.
-    pub activated: u32,
 }
 
 #[derive(Clone, Debug, PartialEq, Eq)]
@@ -50,21 +47,16 @@ pub struct Node {
     pub clock: u32,
     pub accepted: u64,
     pub slots: Vec<Option<Context>>,
-    /// Records closed by each slot's last activation; for planted faults only.
-    pub left: [u64; SLOTS],
 }
 
 impl Node {
     /// "Fresh node: clock 0, no contexts, no accepted events."
     pub fn fresh(profile: Profile) -> Node {
-        Node { profile, clock: 0, accepted: 0, slots: vec![None; SLOTS], left: [0; SLOTS] }
+        Node { profile, clock: 0, accepted: 0, slots: vec![None; SLOTS] }
     }
 
-    pub fn find(&self, name: Name, fault: Fault) -> Option<usize> {
+    pub fn find(&self, name: Name) -> Option<usize> {
         self.slots.iter().position(|slot| match slot {
-            Some(context) if fault == Fault::NameByIdOnly => {
-                context.name.charging_id == name.charging_id
-            }
             Some(context) => context.name == name,
             None => false,
         })
@@ -95,13 +87,12 @@ impl Node {
 
     fn context_sound(&self, context: &Context) -> bool {
         let start = &context.start;
-        let none = Fault::None;
         // "stored fields in range"
         let fields = event::flags_in_range(start.flags)
-            && event::imsi_in_range(&start.imsi, none)
-            && event::apn_in_range(&start.apn, none)
-            && event::qos_in_range(&context.qos, none)
-            && context.containers.iter().all(|c| event::qos_in_range(&c.qos, none));
+            && event::imsi_in_range(&start.imsi)
+            && event::apn_in_range(&start.apn)
+            && event::qos_in_range(&context.qos)
+            && context.containers.iter().all(|c| event::qos_in_range(&c.qos));
         // "closed records below the accepted count"
         let closed = context.closed < self.accepted;
         // "container count equals change count and is below the change limit"

@@ -2,7 +2,6 @@
 
 use crate::clock::time_stamp;
 use crate::event::{imsi_digits, Name, Qos};
-use crate::fault::Fault;
 use crate::node::Container;
 
 /// A closed S-CDR.
@@ -22,8 +21,6 @@ pub struct Record {
     pub cause: u8,
     pub number: Option<u64>,
     pub node_id: Vec<u8>,
-    /// For planted faults only.
-    pub activated: u32,
 }
 
 /// "Integers: shortest two's complement." None here is below zero.
@@ -37,11 +34,11 @@ pub fn integer(value: u64) -> Vec<u8> {
 }
 
 /// "Lengths: shortest definite form."
-pub fn length(value: usize, fault: Fault) -> Vec<u8> {
+pub fn length(value: usize) -> Vec<u8> {
     if value < 0x80 {
         return vec![value as u8];
     }
-    if value < 0x100 && fault != Fault::LongLength {
+    if value < 0x100 {
         return vec![0x81, value as u8];
     }
     assert!(value < 0x1_0000);
@@ -49,132 +46,101 @@ pub fn length(value: usize, fault: Fault) -> Vec<u8> {
 }
 
 /// A tag, a length and the contents.
-pub fn field(tag: u8, contents: &[u8], fault: Fault) -> Vec<u8> {
+pub fn field(tag: u8, contents: &[u8]) -> Vec<u8> {
     let mut octets = vec![tag];
-    octets.extend(length(contents.len(), fault));
+    octets.extend(length(contents.len()));
     octets.extend_from_slice(contents);
     octets
 }
 
 /// "An IPv4 address is 80 04 and four octets."
-pub fn ipv4(address: &[u8; 4], fault: Fault) -> Vec<u8> {
-    field(0x80, address, fault)
+pub fn ipv4(address: &[u8; 4]) -> Vec<u8> {
+    field(0x80, address)
 }
 
 /// "83 IMSI, half the digits rounded up, odd ones filled with F": the event
 /// has the F there already.
-pub fn imsi(imsi: &[u8; 8], fault: Fault) -> Vec<u8> {
-    if fault == Fault::ImsiWhole {
-        return imsi.to_vec();
-    }
+pub fn imsi(imsi: &[u8; 8]) -> Vec<u8> {
     imsi[..imsi_digits(imsi).div_ceil(2)].to_vec()
 }
 
 /// "A2 (80..84, one octet each, the QoS)"
-fn qos(qos: &Qos, fault: Fault) -> Vec<u8> {
-    let parts: Vec<u8> =
-        (0x80..).zip(qos).flat_map(|(tag, value)| field(tag, &[*value], fault)).collect();
-    field(0xA2, &parts, fault)
+fn qos(qos: &Qos) -> Vec<u8> {
+    let parts: Vec<u8> = (0x80..).zip(qos).flat_map(|(tag, value)| field(tag, &[*value])).collect();
+    field(0xA2, &parts)
 }
 
 /// W1: "A later container carries A2 exactly when the one before ended with
 /// condition 0"; the first always does.
-fn has_qos(before: Option<&Container>, fault: Fault) -> bool {
-    match (before, fault) {
-        (None, _) | (_, Fault::QosEverywhere) => true,
-        (_, Fault::QosInFirstOnly) => false,
-        (Some(before), Fault::QosAfterTariff) => before.condition == 1,
-        (Some(before), _) => before.condition == 0,
-    }
+fn has_qos(before: Option<&Container>) -> bool {
+    before.map_or(true, |before| before.condition == 0)
 }
 
 /// "A container: 30; A2 ..; 83 uplink; 84 downlink; 85 condition; 86 time."
-fn container(
-    before: Option<&Container>,
-    container: &Container,
-    offset: i32,
-    fault: Fault,
-) -> Vec<u8> {
+fn container(before: Option<&Container>, container: &Container, offset: i32) -> Vec<u8> {
     let contents = [
-        if has_qos(before, fault) { qos(&container.qos, fault) } else { Vec::new() },
-        field(0x83, &integer(container.uplink), fault),
-        field(0x84, &integer(container.downlink), fault),
-        field(0x85, &[container.condition], fault),
-        field(0x86, &time_stamp(container.time, offset, fault), fault),
+        if has_qos(before) { qos(&container.qos) } else { Vec::new() },
+        field(0x83, &integer(container.uplink)),
+        field(0x84, &integer(container.downlink)),
+        field(0x85, &[container.condition]),
+        field(0x86, &time_stamp(container.time, offset)),
     ]
     .concat();
-    field(0x30, &contents, fault)
+    field(0x30, &contents)
 }
 
 /// "8A charging ID"
-fn charging_id(id: u32, fault: Fault) -> Vec<u8> {
-    if fault == Fault::ChargingIdInFour && id >= 0x8000_0000 {
-        return id.to_be_bytes().to_vec();
-    }
+fn charging_id(id: u32) -> Vec<u8> {
     integer(u64::from(id))
 }
 
 /// "95 sequence number"
-fn sequence_number(number: u64, fault: Fault) -> Vec<u8> {
-    match u16::try_from(number) {
-        Ok(number) if fault == Fault::NumberInTwo && number >= 0x8000 => {
-            number.to_be_bytes().to_vec()
-        }
-        _ => integer(number),
-    }
+fn sequence_number(number: u64) -> Vec<u8> {
+    integer(number)
 }
 
 /// "Duration: last container time minus opening."
-fn duration(record: &Record, fault: Fault) -> u64 {
-    let from =
-        if fault == Fault::DurationFromActivation { record.activated } else { record.opened };
-    u64::from(record.containers.last().expect("a closed record has a container").time - from)
+fn duration(record: &Record) -> u64 {
+    let last = record.containers.last().expect("a closed record has a container");
+    u64::from(last.time - record.opened)
 }
 
 /// "AE served address, an A0 around it"
-fn served_address(address: &[u8; 4], fault: Fault) -> Vec<u8> {
-    if fault == Fault::ServedAddressBare {
-        return ipv4(address, fault);
-    }
-    field(0xA0, &ipv4(address, fault), fault)
+fn served_address(address: &[u8; 4]) -> Vec<u8> {
+    field(0xA0, &ipv4(address))
 }
 
 /// "Outer A0; inside, ascending: .."; without the mark.
-pub fn octets(record: &Record, fault: Fault) -> Vec<u8> {
-    let f = |tag: u8, contents: &[u8]| field(tag, contents, fault);
-    let mut inside = f(0x80, &[18]);
+pub fn octets(record: &Record) -> Vec<u8> {
+    let mut inside = field(0x80, &[18]);
     if record.network_initiated {
-        inside.extend(f(0x81, &[0xFF]));
+        inside.extend(field(0x81, &[0xFF]));
     }
-    inside.extend(f(0x83, &imsi(&record.imsi, fault)));
-    if fault == Fault::AddressBare {
-        inside.extend(f(0xA5, &record.sgsn));
-    } else {
-        inside.extend(f(0xA5, &ipv4(&record.sgsn, fault)));
-    }
-    inside.extend(f(0x8A, &charging_id(record.name.charging_id, fault)));
-    inside.extend(f(0xAB, &ipv4(&record.name.ggsn, fault)));
-    inside.extend(f(0x8C, &record.apn));
-    inside.extend(f(0x8D, &record.pdp_type));
-    inside.extend(f(0xAE, &served_address(&record.address, fault)));
+    inside.extend(field(0x83, &imsi(&record.imsi)));
+    inside.extend(field(0xA5, &ipv4(&record.sgsn)));
+    inside.extend(field(0x8A, &charging_id(record.name.charging_id)));
+    inside.extend(field(0xAB, &ipv4(&record.name.ggsn)));
+    inside.extend(field(0x8C, &record.apn));
+    inside.extend(field(0x8D, &record.pdp_type));
+    inside.extend(field(0xAE, &served_address(&record.address)));
     let mut containers = Vec::new();
     let mut before = None;
     for each in &record.containers {
-        containers.extend(container(before, each, record.offset, fault));
+        containers.extend(container(before, each, record.offset));
         before = Some(each);
     }
-    inside.extend(f(0xAF, &containers));
-    inside.extend(f(0x90, &time_stamp(record.opened, record.offset, fault)));
-    inside.extend(f(0x91, &integer(duration(record, fault))));
+    inside.extend(field(0xAF, &containers));
+    inside.extend(field(0x90, &time_stamp(record.opened, record.offset)));
+    inside.extend(field(0x91, &integer(duration(record))));
     if record.sgsn_change {
-        inside.extend(f(0x92, &[0xFF]));
+        inside.extend(field(0x92, &[0xFF]));
     }
-    inside.extend(f(0x93, &integer(u64::from(record.cause))));
+    inside.extend(field(0x93, &integer(u64::from(record.cause))));
     if let Some(number) = record.number {
-        inside.extend(f(0x95, &sequence_number(number, fault)));
+        inside.extend(field(0x95, &sequence_number(number)));
     }
-    if !record.node_id.is_empty() || fault == Fault::EmptyNodeId {
-        inside.extend(f(0x96, &record.node_id));
+    if !record.node_id.is_empty() {
+        inside.extend(field(0x96, &record.node_id));
     }
-    f(0xA0, &inside)
+    field(0xA0, &inside)
 }

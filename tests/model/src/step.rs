@@ -2,7 +2,6 @@
 
 use crate::clock::LAST_SECOND;
 use crate::event::{self, Name, Qos, Start, What};
-use crate::fault::Fault;
 use crate::node::*;
 use crate::record::{self, Record};
 
@@ -18,7 +17,7 @@ pub const INTERVENTION: u8 = 20;
 
 // ---- "Refusal numbers, tried in this order" ----
 
-type Row = (u8, fn(&Node, &[u8], usize, Fault) -> bool);
+type Row = (u8, fn(&Node, &[u8], usize) -> bool);
 
 /// Each row may rely on the rows before it.
 pub const TABLE: [Row; 12] = [
@@ -37,99 +36,71 @@ pub const TABLE: [Row; 12] = [
 ];
 
 /// 13 "node breaks a rule under "A sound node""
-pub fn node_unsound(node: &Node, _: &[u8], _: usize, fault: Fault) -> bool {
-    fault == Fault::None && !node.sound()
+pub fn node_unsound(node: &Node, _: &[u8], _: usize) -> bool {
+    !node.sound()
 }
 
 /// 1 "event under 7 octets, empty too"
-pub fn under_seven(_: &Node, event: &[u8], _: usize, _: Fault) -> bool {
+pub fn under_seven(_: &Node, event: &[u8], _: usize) -> bool {
     event.len() < event::HEAD
 }
 
 /// 2 "mark"
-pub fn wrong_mark(_: &Node, event: &[u8], _: usize, _: Fault) -> bool {
+pub fn wrong_mark(_: &Node, event: &[u8], _: usize) -> bool {
     event[..2] != event::MARK
 }
 
 /// 3 "kind not 1..7"
-pub fn wrong_kind(_: &Node, event: &[u8], _: usize, _: Fault) -> bool {
+pub fn wrong_kind(_: &Node, event: &[u8], _: usize) -> bool {
     !(1..=7).contains(&event::kind(event))
 }
 
 /// 4 "length not the kind's; activate under 36"
-pub fn wrong_length(_: &Node, event: &[u8], _: usize, fault: Fault) -> bool {
-    if fault == Fault::ApnEmpty && event::kind(event) == event::ACTIVATE && event.len() == 37 {
-        return !matches!(event[35], 0 | 1);
-    }
+pub fn wrong_length(_: &Node, event: &[u8], _: usize) -> bool {
     event::whole_length(event) != Some(event.len())
 }
 
 /// 5 "a field out of range"
-pub fn field_out_of_range(_: &Node, event: &[u8], _: usize, fault: Fault) -> bool {
-    if fault == Fault::ApnEmpty && event.len() == 37 && event[35] == 0 {
-        return true;
-    }
-    !event::fields_in_range(event, fault)
+pub fn field_out_of_range(_: &Node, event: &[u8], _: usize) -> bool {
+    !event::fields_in_range(event)
 }
 
 /// 6 "time above 3,155,759,999 or below the clock"
-pub fn time_out_of_range(node: &Node, event: &[u8], _: usize, fault: Fault) -> bool {
+pub fn time_out_of_range(node: &Node, event: &[u8], _: usize) -> bool {
     let time = event::time(event);
-    match fault {
-        Fault::EqualTimeRefused if node.accepted > 0 && time == node.clock => true,
-        Fault::LastSecondRefused if time == LAST_SECOND => true,
-        _ => time > LAST_SECOND || time < node.clock,
-    }
+    time > LAST_SECOND || time < node.clock
 }
 
 /// 7 "1,000,000,000,000,000 events accepted already"
-pub fn count_exhausted(node: &Node, _: &[u8], _: usize, _: Fault) -> bool {
+pub fn count_exhausted(node: &Node, _: &[u8], _: usize) -> bool {
     node.accepted >= MOST_ACCEPTED
 }
 
 /// 8 "kinds 2, 3, 5, 7: name not active"
-pub fn name_not_active(node: &Node, event: &[u8], _: usize, fault: Fault) -> bool {
-    matches!(event::kind(event), 2 | 3 | 5 | 7) && node.find(event::name(event), fault).is_none()
+pub fn name_not_active(node: &Node, event: &[u8], _: usize) -> bool {
+    matches!(event::kind(event), 2 | 3 | 5 | 7) && node.find(event::name(event)).is_none()
 }
 
 /// 9 "kind 1: name active"
-pub fn name_active(node: &Node, event: &[u8], _: usize, fault: Fault) -> bool {
-    event::kind(event) == 1 && node.find(event::name(event), fault).is_some()
+pub fn name_active(node: &Node, event: &[u8], _: usize) -> bool {
+    event::kind(event) == 1 && node.find(event::name(event)).is_some()
 }
 
 /// 10 "kind 1: all 16 slots taken"
-pub fn all_slots_taken(node: &Node, event: &[u8], _: usize, _: Fault) -> bool {
+pub fn all_slots_taken(node: &Node, event: &[u8], _: usize) -> bool {
     event::kind(event) == 1 && node.lowest_free().is_none()
 }
 
 /// 11 "this event's output .. longer than the output buffer"
-pub fn output_too_long(node: &Node, event: &[u8], room: usize, fault: Fault) -> bool {
-    let (_, records) = accept(node, event, fault);
-    let needed = match fault {
-        Fault::RoomWithoutMarks => output(&records, fault).len() - 2 * records.len(),
-        Fault::RoomExact if !records.is_empty() => output(&records, fault).len() + 1,
-        Fault::IdleNeedsRoom if records.is_empty() => 1,
-        _ => output(&records, fault).len(),
-    };
-    needed > room
+pub fn output_too_long(node: &Node, event: &[u8], room: usize) -> bool {
+    let (_, records) = accept(node, event);
+    output(&records).len() > room
 }
 
 /// The number of the first row that applies, the first `passed` rows left out.
-fn refusal(passed: usize, node: &Node, event: &[u8], room: usize, fault: Fault) -> Option<u8> {
-    let mut table = TABLE;
-    let swapped = match fault {
-        Fault::Swap2And3 => Some((2, 3)),
-        Fault::Swap5And6 => Some((5, 6)),
-        Fault::Swap6And8 => Some((6, 8)),
-        Fault::Swap9And10 => Some((9, 10)),
-        _ => None,
-    };
-    if let Some((one, other)) = swapped {
-        let at = |number| TABLE.iter().position(|row| row.0 == number).unwrap();
-        table.swap(at(one), at(other));
-    }
-    let applies = |row: &&Row| row.1(node, event, room, fault);
-    table[passed..].iter().find(applies).map(|row| row.0)
+fn refusal(passed: usize, node: &Node, event: &[u8], room: usize) -> Option<u8> {
+    let applies = |row: &&Row| row.1(node, event, room);
+    TABLE[passed..].iter().find(applies).map(|row| row.0)
 }
 
 // ---- the call ----
@@ -144,63 +115,31 @@ pub struct Step {
 
 /// "After 1..11, 13 and 24 any node, clock included, is as given, nothing is
 /// written .. Accepted: answer 0, output from the buffer's start"
-pub fn step(node: &Node, event: &[u8], room: usize, fault: Fault) -> Step {
-    step_past(0, node, event, room, fault)
+pub fn step(node: &Node, event: &[u8], room: usize) -> Step {
+    step_past(0, node, event, room)
 }
 
 /// The same of a node that is taken to be sound, whatever it holds: the rows
 /// after 13.
-pub fn step_of_sound(node: &Node, event: &[u8], room: usize, fault: Fault) -> Step {
-    step_past(1, node, event, room, fault)
+pub fn step_of_sound(node: &Node, event: &[u8], room: usize) -> Step {
+    step_past(1, node, event, room)
 }
 
-fn step_past(passed: usize, node: &Node, event: &[u8], room: usize, fault: Fault) -> Step {
-    if let Some(answer) = refusal(passed, node, event, room, fault) {
-        let mut step = Step { answer, node: node.clone(), output: Vec::new(), records: Vec::new() };
-        spoil_refusal(&mut step, event, room, fault);
-        return step;
+fn step_past(passed: usize, node: &Node, event: &[u8], room: usize) -> Step {
+    if let Some(answer) = refusal(passed, node, event, room) {
+        return Step { answer, node: node.clone(), output: Vec::new(), records: Vec::new() };
     }
-    let (node, records) = accept(node, event, fault);
-    Step { answer: 0, node, output: output(&records, fault), records }
-}
-
-/// What the faults about refusals do.
-fn spoil_refusal(step: &mut Step, event: &[u8], room: usize, fault: Fault) {
-    let tick = step.answer == 11 && event::kind(event) == event::TICK;
-    match fault {
-        Fault::RefusalMovesClock if step.answer == 8 => step.node.clock = event::time(event),
-        Fault::RefusalFreesSlot if step.answer == 10 => step.node.slots[SLOTS - 1] = None,
-        Fault::RefusedTickWrites if tick => {
-            for record in accept(&step.node, event, fault).1 {
-                let one = output(&[record], fault);
-                if step.output.len() + one.len() > room {
-                    break;
-                }
-                step.output.extend(one);
-            }
-        }
-        Fault::RefusedTickCloses if tick => {
-            let after = accept(&step.node, event, fault).0;
-            for (slot, other) in step.node.slots.iter_mut().zip(after.slots) {
-                if *slot != other {
-                    *slot = other;
-                    break;
-                }
-            }
-        }
-        _ => {}
-    }
+    let (node, records) = accept(node, event);
+    Step { answer: 0, node, output: output(&records), records }
 }
 
 /// "In output each record follows the mark C3 5A, and each is written into the
 /// part of the buffer that begins where the last ended."
-pub fn output(records: &[Record], fault: Fault) -> Vec<u8> {
+pub fn output(records: &[Record]) -> Vec<u8> {
     let mut octets = Vec::new();
-    for (at, record) in records.iter().enumerate() {
-        if at == 0 || fault != Fault::OneMark {
-            octets.extend(RECORD_MARK);
-        }
-        octets.extend(record::octets(record, fault));
+    for record in records {
+        octets.extend(RECORD_MARK);
+        octets.extend(record::octets(record));
     }
     octets
 }
@@ -208,33 +147,33 @@ pub fn output(records: &[Record], fault: Fault) -> Vec<u8> {
 // ---- "What an event does" ----
 
 /// The node after an event that no row before 11 refuses, and its records.
-pub fn accept(node: &Node, event: &[u8], fault: Fault) -> (Node, Vec<Record>) {
+pub fn accept(node: &Node, event: &[u8]) -> (Node, Vec<Record>) {
     let mut node = node.clone();
     let now = event::time(event);
     node.clock = now;
     node.accepted += 1;
     let records = match event::what(event) {
         What::Activate(name, start) => {
-            activate(&mut node, name, *start, now, fault);
+            activate(&mut node, name, *start, now);
             Vec::new()
         }
         What::Traffic(name, uplink, downlink) => {
-            let slot = node.find(name, fault).unwrap();
-            traffic(&mut node, slot, uplink, downlink, now, fault)
+            let slot = node.find(name).unwrap();
+            traffic(&mut node, slot, uplink, downlink, now)
         }
         What::Qos(name, qos) => {
-            let slot = node.find(name, fault).unwrap();
-            qos_change(&mut node, slot, qos, now, fault)
+            let slot = node.find(name).unwrap();
+            qos_change(&mut node, slot, qos, now)
         }
-        What::Tariff => tariff(&mut node, now, fault),
+        What::Tariff => tariff(&mut node, now),
         What::Release(name, cause) => {
-            let slot = node.find(name, fault).unwrap();
-            vec![release(&mut node, slot, cause, now, fault)]
+            let slot = node.find(name).unwrap();
+            vec![release(&mut node, slot, cause, now)]
         }
-        What::Tick => tick(&mut node, now, fault),
+        What::Tick => tick(&mut node, now),
         What::Management(name) => {
-            let slot = node.find(name, fault).unwrap();
-            vec![close_and_open(&mut node, slot, INTERVENTION, now, fault)]
+            let slot = node.find(name).unwrap();
+            vec![close_and_open(&mut node, slot, INTERVENTION, now)]
         }
     };
     (node, records)
@@ -242,161 +181,97 @@ pub fn accept(node: &Node, event: &[u8], fault: Fault) -> (Node, Vec<Record>) {
 
 /// "Activation takes the lowest free slot, opens a record now with empty
 /// counters, no containers, change count 0."
-fn activate(node: &mut Node, name: Name, start: Start, now: u32, fault: Fault) {
-    let slot = match fault {
-        Fault::HighestSlot => node.slots.iter().rposition(Option::is_none),
-        _ => node.lowest_free(),
-    }
-    .unwrap();
+fn activate(node: &mut Node, name: Name, start: Start, now: u32) {
+    let slot = node.lowest_free().unwrap();
     let qos = start.qos;
     node.slots[slot] = Some(Context {
         name,
         start,
-        closed: if fault == Fault::NumberKept { node.left[slot] } else { 0 },
+        closed: 0,
         opened: now,
         containers: Vec::new(),
         changes: 0,
         qos,
         uplink: 0,
         downlink: 0,
-        activated: now,
     });
 }
 
 /// "Traffic adds both volumes; a report is never divided." Then condition 16.
-fn traffic(
-    node: &mut Node,
-    slot: usize,
-    uplink: u32,
-    downlink: u32,
-    now: u32,
-    fault: Fault,
-) -> Vec<Record> {
-    let limits = node.profile.clone();
+fn traffic(node: &mut Node, slot: usize, uplink: u32, downlink: u32, now: u32) -> Vec<Record> {
+    let limit = node.profile.volume_limit;
     let context = node.slots[slot].as_mut().unwrap();
     context.uplink += u64::from(uplink);
     context.downlink += u64::from(downlink);
-    if fault == Fault::TimeOnTraffic && now - context.opened >= limits.time_limit {
-        return vec![close_and_open(node, slot, TIME, now, fault)];
-    }
-    if !volume_met(context, limits.volume_limit, fault) {
+    if !volume_met(context, limit) {
         return Vec::new();
     }
-    if fault == Fault::CountedInNext {
-        context.uplink -= u64::from(uplink);
-        context.downlink -= u64::from(downlink);
-    }
-    let record = close_and_open(node, slot, VOLUME, now, fault);
-    if matches!(fault, Fault::CountedTwice | Fault::CountedInNext) {
-        let context = node.slots[slot].as_mut().unwrap();
-        context.uplink += u64::from(uplink);
-        context.downlink += u64::from(downlink);
-    }
-    vec![record]
+    vec![close_and_open(node, slot, VOLUME, now)]
 }
 
 /// "(16) .. uplink plus downlink since the record opened is at least the
 /// volume limit"
-fn volume_met(context: &Context, limit: u64, fault: Fault) -> bool {
-    match fault {
-        Fault::VolumePassed => context.record_volume() > limit,
-        Fault::VolumeUplinkOnly => {
-            context.containers.iter().map(|c| c.uplink).sum::<u64>() + context.uplink >= limit
-        }
-        Fault::VolumeOfContainer => context.uplink + context.downlink >= limit,
-        _ => context.record_volume() >= limit,
-    }
+fn volume_met(context: &Context, limit: u64) -> bool {
+    context.record_volume() >= limit
 }
 
 /// "QoS to a different profile ends the container, condition 0. To the same
 /// profile: no change."
-fn qos_change(node: &mut Node, slot: usize, qos: Qos, now: u32, fault: Fault) -> Vec<Record> {
+fn qos_change(node: &mut Node, slot: usize, qos: Qos, now: u32) -> Vec<Record> {
     let context = node.slots[slot].as_mut().unwrap();
-    if context.qos == qos && fault != Fault::SameQosCuts {
+    if context.qos == qos {
         return Vec::new();
     }
-    change(node, slot, QOS_CHANGE, qos, now, fault).into_iter().collect()
+    change(node, slot, QOS_CHANGE, qos, now).into_iter().collect()
 }
 
 /// "Tariff ends the container of every context, condition 1, empty ones
 /// included. .. Tariff and tick take contexts in slot order."
-fn tariff(node: &mut Node, now: u32, fault: Fault) -> Vec<Record> {
+fn tariff(node: &mut Node, now: u32) -> Vec<Record> {
     let mut records = Vec::new();
-    for (turn, slot) in in_slot_order(node, fault).into_iter().enumerate() {
-        let context = node.slots[slot].as_ref().unwrap();
-        if fault == Fault::TariffSecondDeaf && turn == 1 {
-            continue;
-        }
-        if fault == Fault::EmptySkipped && context.uplink + context.downlink == 0 {
-            continue;
-        }
-        let qos = context.qos;
-        records.extend(change(node, slot, TARIFF_TIME, qos, now, fault));
+    for slot in in_slot_order(node) {
+        let qos = node.slots[slot].as_ref().unwrap().qos;
+        records.extend(change(node, slot, TARIFF_TIME, qos, now));
     }
     records
 }
 
 /// "(17) at a tick, now minus opening is at least the time limit"
-fn tick(node: &mut Node, now: u32, fault: Fault) -> Vec<Record> {
+fn tick(node: &mut Node, now: u32) -> Vec<Record> {
     let limit = node.profile.time_limit;
     let mut records = Vec::new();
-    for slot in in_slot_order(node, fault) {
+    for slot in in_slot_order(node) {
         let open = now - node.slots[slot].as_ref().unwrap().opened;
-        let met = if fault == Fault::TimePassed { open > limit } else { open >= limit };
-        if met {
-            records.push(close_and_open(node, slot, TIME, now, fault));
+        if open >= limit {
+            records.push(close_and_open(node, slot, TIME, now));
         }
     }
     records
 }
 
-fn in_slot_order(node: &Node, fault: Fault) -> Vec<usize> {
-    let mut order: Vec<usize> = (0..SLOTS).filter(|slot| node.slots[*slot].is_some()).collect();
-    if fault == Fault::SlotsReversed {
-        order.reverse();
-    }
-    order
+fn in_slot_order(node: &Node) -> Vec<usize> {
+    (0..SLOTS).filter(|slot| node.slots[*slot].is_some()).collect()
 }
 
 /// A QoS or tariff change: it ends the container with its condition, or closes
 /// the record: "(19) the record's QoS and tariff changes reach the change
 /// limit". The closed container holds the old QoS, the next record the new.
-fn change(
-    node: &mut Node,
-    slot: usize,
-    condition: u8,
-    qos: Qos,
-    now: u32,
-    fault: Fault,
-) -> Option<Record> {
+fn change(node: &mut Node, slot: usize, condition: u8, qos: Qos, now: u32) -> Option<Record> {
     let limit = node.profile.change_limit;
     let context = node.slots[slot].as_mut().unwrap();
-    let old = context.qos;
     context.changes += 1;
-    if fault == Fault::NewQosInOld {
-        context.qos = qos;
-    }
-    let met = match fault {
-        Fault::ChangesPassed => context.changes > limit,
-        _ => context.changes >= limit,
-    };
-    if met {
-        let mut record = close_and_open(node, slot, CHANGES, now, fault);
-        if fault == Fault::CloseCondition {
-            record.containers.last_mut().unwrap().condition = condition;
-        }
-        let context = node.slots[slot].as_mut().unwrap();
-        context.qos = if fault == Fault::OldQos { old } else { qos };
-        context.changes = 0;
+    if context.changes >= limit {
+        let record = close_and_open(node, slot, CHANGES, now);
+        node.slots[slot].as_mut().unwrap().qos = qos;
         return Some(record);
     }
-    end_container(context, condition, now, fault);
+    end_container(context, condition, now);
     context.qos = qos;
     None
 }
 
 /// The running container joins the ended ones, and an empty one runs.
-fn end_container(context: &mut Context, condition: u8, now: u32, fault: Fault) {
+fn end_container(context: &mut Context, condition: u8, now: u32) {
     context.containers.push(Container {
         qos: context.qos,
         uplink: context.uplink,
@@ -404,46 +279,35 @@ fn end_container(context: &mut Context, condition: u8, now: u32, fault: Fault) {
         condition,
         time: now,
     });
-    if fault != Fault::VolumesKept {
-        context.uplink = 0;
-        context.downlink = 0;
-    }
+    context.uplink = 0;
+    context.downlink = 0;
 }
 
 /// "(0, 4, 18) release with that cause": the slot is free afterwards.
-fn release(node: &mut Node, slot: usize, cause: u8, now: u32, fault: Fault) -> Record {
-    let record = close(node, slot, cause, now, fault);
-    node.left[slot] = node.slots[slot].as_ref().unwrap().closed + 1;
+fn release(node: &mut Node, slot: usize, cause: u8, now: u32) -> Record {
+    let record = close(node, slot, cause, now);
     node.slots[slot] = None;
     record
 }
 
 /// "Except at release, the next record opens at the same time with the QoS now
 /// in force."
-fn close_and_open(node: &mut Node, slot: usize, cause: u8, now: u32, fault: Fault) -> Record {
-    let record = close(node, slot, cause, now, fault);
+fn close_and_open(node: &mut Node, slot: usize, cause: u8, now: u32) -> Record {
+    let record = close(node, slot, cause, now);
     let context = node.slots[slot].as_mut().unwrap();
     context.closed += 1;
-    if fault != Fault::OpeningFromActivation {
-        context.opened = now;
-    }
+    context.opened = now;
     context.containers.clear();
-    if fault != Fault::ChangesKept {
-        context.changes = 0;
-    }
+    context.changes = 0;
     record
 }
 
 /// "Closing ends the running container once, with condition 2 (also under
 /// 19)."
-fn close(node: &mut Node, slot: usize, cause: u8, now: u32, fault: Fault) -> Record {
+fn close(node: &mut Node, slot: usize, cause: u8, now: u32) -> Record {
     let profile = node.profile.clone();
     let context = node.slots[slot].as_mut().unwrap();
-    end_container(context, RECORD_CLOSURE, now, fault);
-    if fault == Fault::VolumesKept {
-        context.uplink = 0;
-        context.downlink = 0;
-    }
+    end_container(context, RECORD_CLOSURE, now);
     Record {
         network_initiated: context.start.flags & 1 != 0,
         imsi: context.start.imsi,
@@ -455,11 +319,10 @@ fn close(node: &mut Node, slot: usize, cause: u8, now: u32, fault: Fault) -> Rec
         containers: context.containers.clone(),
         opened: context.opened,
         offset: profile.offset,
-        sgsn_change: sgsn_change(context, cause, fault),
+        sgsn_change: sgsn_change(context),
         cause,
-        number: number(context, cause, fault),
+        number: number(context, cause),
         node_id: profile.node_id,
-        activated: context.activated,
     }
 }
 
@@ -469,17 +332,12 @@ pub fn is_release(cause: u8) -> bool {
 
 /// "Number: 1 for the first, absent if release closes an activation with no
 /// earlier record."
-fn number(context: &Context, cause: u8, fault: Fault) -> Option<u64> {
+fn number(context: &Context, cause: u8) -> Option<u64> {
     let sole = is_release(cause) && context.closed == 0;
-    (!sole || fault == Fault::NumberOnSole).then_some(context.closed + 1)
+    (!sole).then_some(context.closed + 1)
 }
 
 /// "92 SGSN change (FF, only in the first record of an activation with bit 1)"
-fn sgsn_change(context: &Context, cause: u8, fault: Fault) -> bool {
-    let first = match fault {
-        Fault::SgsnChangeKept => true,
-        Fault::SgsnChangeLost => context.closed == 0 && is_release(cause),
-        _ => context.closed == 0,
-    };
-    first && context.start.flags & 2 != 0
+fn sgsn_change(context: &Context) -> bool {
+    context.closed == 0 && context.start.flags & 2 != 0
 }

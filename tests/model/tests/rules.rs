@@ -1,7 +1,6 @@
 //! What document 01 prints, and one record of every closing cause read back.
 
 use charging_model::event::{octets, Name, Start, What};
-use charging_model::fault::Fault;
 use charging_model::node::{Node, MOST_ACCEPTED};
 use charging_model::profile::Profile;
 use charging_model::{clock, record, step};
@@ -50,7 +49,7 @@ impl Run {
     }
 
     fn say(&mut self, time: u32, what: What) -> Vec<u8> {
-        let done = step::step(&self.0, &octets(time, &what), ROOM, Fault::None);
+        let done = step::step(&self.0, &octets(time, &what), ROOM);
         assert_eq!(done.answer, 0);
         assert!(done.node.sound());
         self.0 = done.node;
@@ -58,7 +57,7 @@ impl Run {
     }
 
     fn answer(&self, event: &[u8], room: usize) -> u8 {
-        let done = step::step(&self.0, event, room, Fault::None);
+        let done = step::step(&self.0, event, room);
         if done.answer != 0 {
             assert_eq!(done.node, self.0);
             assert_eq!(done.output, []);
@@ -218,24 +217,24 @@ fn bench_table() {
         assert_eq!(record::integer(value), unhex(text));
     }
     for (value, text) in [(127, "7F"), (128, "81 80"), (256, "82 01 00")] {
-        assert_eq!(record::length(value, Fault::None), unhex(text));
+        assert_eq!(record::length(value), unhex(text));
     }
     for (seconds, offset, text) in [
         (0, 0, "00 01 01 00 00 00 2B 00 00"),
         (5_097_600, 0, "00 02 29 00 00 00 2B 00 00"),
         (3_155_759_999, -90, "99 12 31 23 59 59 2D 01 30"),
     ] {
-        assert_eq!(clock::time_stamp(seconds, offset, Fault::None).to_vec(), unhex(text));
+        assert_eq!(clock::time_stamp(seconds, offset).to_vec(), unhex(text));
     }
     let imsi = [0x21, 0x43, 0x65, 0xFF, 0xFF, 0xFF, 0xFF, 0xFF];
-    assert_eq!(record::imsi(&imsi, Fault::None), unhex("21 43 65"));
+    assert_eq!(record::imsi(&imsi), unhex("21 43 65"));
 }
 
 #[test]
 fn calendar_has_every_day_once() {
     let mut last = (1999, 12, 31);
     for day in 0..36_525 {
-        let date = clock::date(day, Fault::None);
+        let date = clock::date(day);
         assert_eq!(clock::day_of(date.0, date.1, date.2), day);
         assert!(date > last);
         last = date;
@@ -398,7 +397,7 @@ fn lengths_of_an_activate() {
 fn room_counts_the_marks() {
     let run = Run::new();
     let event = octets(0, &What::Management(NAME));
-    let needed = step::step(&run.0, &event, ROOM, Fault::None).output.len();
+    let needed = step::step(&run.0, &event, ROOM).output.len();
     assert_eq!(run.answer(&event, needed), 0);
     assert_eq!(run.answer(&event, needed - 1), 11);
     assert_eq!(run.answer(&octets(0, &What::Tick), 0), 0);

@@ -5,7 +5,6 @@ use charging_model::aims::Aims;
 use charging_model::calls::{self, hex};
 use charging_model::clock;
 use charging_model::event;
-use charging_model::fault::Fault;
 use charging_model::node::Node;
 use charging_model::profile::Profile;
 use charging_model::step::step;
@@ -44,7 +43,7 @@ fn event_in_words(octets: &[u8]) -> String {
     let time = event::time(octets);
     words += &format!(" at {time}");
     if time <= clock::LAST_SECOND {
-        words += &format!(" = {}", hex(&clock::time_stamp(time, 0, Fault::None)[..6]));
+        words += &format!(" = {}", hex(&clock::time_stamp(time, 0)[..6]));
     }
     if event::has_name(kind) && octets.len() >= 15 {
         let name = event::name(octets);
@@ -82,7 +81,7 @@ fn compare(runs: &Path, expected: &Path, found: &Path) -> Result<bool, String> {
         aims.new_run();
         let mut node = Node::fresh(profile);
         for (at, call) in made.iter().enumerate() {
-            let done = step(&node, call.event, call.room, Fault::None);
+            let done = step(&node, call.event, call.room);
             aims.count(&node, call.event, call.room, &done);
             let (one, two) = (model[at], other.get(at).copied());
             if Some(one) == two {

@@ -6,7 +6,6 @@
 
 use charging_model::clock::{day_of, LAST_SECOND};
 use charging_model::event::{self, octets, Name, Qos, Start, What, QOS_HIGHEST};
-use charging_model::fault::Fault;
 use charging_model::node::{Node, SLOTS};
 use charging_model::profile::Profile;
 use charging_model::random::Random;
@@ -160,7 +159,7 @@ impl Run {
         self.count += 1;
         calls::append(&mut self.calls, room, event);
         let before = self.node.active();
-        let done = step::step(&self.node, event, room, Fault::None);
+        let done = step::step(&self.node, event, room);
         if done.answer == 0 && done.node.active() < before {
             self.released.push(event::name(event));
         }
@@ -170,7 +169,7 @@ impl Run {
 
     /// The event with a room that fits, is exact, or is too small first.
     fn send(&mut self, event: &[u8]) -> u8 {
-        let done = step::step(&self.node, event, ROOM, Fault::None);
+        let done = step::step(&self.node, event, ROOM);
         let needed = done.output.len();
         if needed == 0 {
             let room = if self.random.percent(20) { 0 } else { self.random.sized(ROOM as u64) };
@@ -178,7 +177,7 @@ impl Run {
         }
         if self.random.percent(25) {
             let first = done.records[..1].to_vec();
-            let first = step::output(&first, Fault::None).len();
+            let first = step::output(&first).len();
             let short = match self.random.below(6) {
                 0 => 0,
                 1 => first.min(needed - 1),
@@ -326,14 +325,14 @@ impl Run {
                 1 if self.node.active() > 0 => self.active_name().unwrap(),
                 _ => self.any_name(),
             };
-            if self.node.find(name, Fault::None).is_some() {
+            if self.node.find(name).is_some() {
                 match self.random.below(3) {
                     0 => name.charging_id ^= 1 << self.random.below(32),
                     1 => name.ggsn[self.random.below(4) as usize] ^= 1 << self.random.below(8),
                     _ => name.ggsn = self.random.pick(&GGSNS),
                 }
             }
-            if self.node.find(name, Fault::None).is_none() {
+            if self.node.find(name).is_none() {
                 return name;
             }
         }
@@ -341,7 +340,7 @@ impl Run {
 
     fn volumes(&mut self, name: Name) -> (u32, u32) {
         let most = u64::from(u32::MAX);
-        let slot = self.node.find(name, Fault::None).unwrap();
+        let slot = self.node.find(name).unwrap();
         let have = self.node.slots[slot].as_ref().unwrap().record_volume();
         let left = self.node.profile.volume_limit - have;
         let sum = match self.random.below(10) {
@@ -379,7 +378,7 @@ impl Run {
     }
 
     fn change_qos(&mut self, name: Name) -> u8 {
-        let slot = self.node.find(name, Fault::None).unwrap();
+        let slot = self.node.find(name).unwrap();
         let mut qos = self.node.slots[slot].as_ref().unwrap().qos;
         match self.random.below(4) {
             0 => {}
@@ -401,7 +400,7 @@ impl Run {
     /// A tick at, or one second before, some context's time limit.
     fn tick(&mut self) -> u8 {
         let limit = self.node.profile.time_limit;
-        let at = self.active_name().and_then(|name| self.node.find(name, Fault::None));
+        let at = self.active_name().and_then(|name| self.node.find(name));
         if let Some(slot) = at.filter(|_| self.random.percent(60)) {
             let opened = self.node.slots[slot].as_ref().unwrap().opened;
             let time = opened.saturating_add(limit) - self.random.below(2) as u32;
@@ -654,7 +653,7 @@ impl Run {
         }
         self.say_at(now + limit - 1, What::Tick);
         let tick = octets(now + limit, &What::Tick);
-        let needed = step::step(&self.node, &tick, ROOM, Fault::None).output.len();
+        let needed = step::step(&self.node, &tick, ROOM).output.len();
         for room in [needed.saturating_sub(1), needed - needed / 16, 0, needed] {
             self.call(&tick, room);
         }
@@ -671,7 +670,7 @@ impl Run {
         let start = self.start();
         self.say(What::Activate(name, Box::new(start)));
         for _ in 0..2 * self.node.profile.change_limit {
-            let Some(slot) = self.node.find(name, Fault::None) else { return };
+            let Some(slot) = self.node.find(name) else { return };
             let context = self.node.slots[slot].as_ref().unwrap();
             let left = self.node.profile.volume_limit - context.record_volume();
             let part = self.random.sized(left / 4).min(u32::MAX.into()) as u32;
@@ -693,7 +692,7 @@ impl Run {
     fn numbers(&mut self) {
         let Some(name) = self.active_name() else { return };
         for at in 0..135 {
-            if self.node.find(name, Fault::None).is_none() {
+            if self.node.find(name).is_none() {
                 return;
             }
             match at % 9 {
@@ -710,7 +709,7 @@ impl Run {
         let most = u64::from(u32::MAX);
         for turn in 0..2 {
             for _ in 0..130 {
-                let Some(slot) = self.node.find(name, Fault::None) else { return };
+                let Some(slot) = self.node.find(name) else { return };
                 let have = self.node.slots[slot].as_ref().unwrap().record_volume();
                 let left = self.node.profile.volume_limit - have;
                 if left > 2 * most && self.random.percent(97) {

@@ -1,22 +1,22 @@
 //! nodes make SEED ROUNDS CASES: writes a file of cases.
 //! nodes compare CASES RESULTS: what the library did against the rules.
 //! nodes faults CASES RESULTS EVERY: the same with faults planted, each Nth.
+//! nodes shows CASES RESULTS: the first case that differs, of a faulty model.
 
 use charging_model::calls::hex;
-use charging_model::fault;
 use charging_model::node::Node;
 use charging_model::nodes::breaks::BREAKERS;
 use charging_model::nodes::cases::{put_case, Case, File, Outcome, GUARD};
 use charging_model::nodes::counts::Counts;
 use charging_model::nodes::expected::expected;
-use charging_model::nodes::faults::{self, Fault};
+use charging_model::nodes::faults;
 use charging_model::nodes::limits::LIMITS;
 use charging_model::nodes::runs;
 use charging_model::nodes::sound::{broken, is_sound, RULES};
 use charging_model::nodes::stored::{field_at, Stored, OCTETS};
 use charging_model::random::Random;
 use charging_model::step::step;
-use std::panic::{catch_unwind, set_hook};
+use std::panic::{catch_unwind, set_hook, RefUnwindSafe};
 use std::process::ExitCode;
 
 /// Octets of the results that are changed, one at a time.
@@ -40,7 +40,7 @@ impl Maker {
     /// A case of a node; the room follows from the output of a sound one.
     fn put(&mut self, node: Stored, event: Vec<u8>) {
         let random = &mut self.random;
-        let room = match is_sound(&node, Fault::None) {
+        let room = match is_sound(&node) {
             true => runs::room(random, &node.view(), &event),
             false => random.pick(&[0, 1, 113, 1024, runs::ROOM]),
         };
@@ -56,7 +56,7 @@ impl Maker {
         for _ in 0..RUNS {
             for node in runs::run(&mut self.random) {
                 let stored = Stored::store(&node);
-                assert!(is_sound(&stored, Fault::None));
+                assert!(is_sound(&stored));
                 let event = runs::event(&mut self.random, &node);
                 self.put(stored.clone(), event);
                 self.pool.push(stored);
@@ -74,7 +74,7 @@ impl Maker {
                     Some((node, event))
                 })
                 .unwrap_or_else(|| panic!("no node comes to {}", limit.name));
-            assert!(is_sound(&node, Fault::None) && (limit.at)(&node), "{}", limit.name);
+            assert!(is_sound(&node) && (limit.at)(&node), "{}", limit.name);
             self.put(node, event);
         }
     }
@@ -89,7 +89,7 @@ impl Maker {
                     Some((before, node))
                 })
                 .unwrap_or_else(|| panic!("no node breaks {}: {}", breaker.rule, breaker.part));
-            let found = broken(&node, Fault::None);
+            let found = broken(&node);
             let aim = |(rule, part): &(usize, &str)| {
                 RULES[*rule].name == breaker.rule && *part == breaker.part
             };
@@ -184,7 +184,7 @@ fn difference(expected: &Outcome, found: &Outcome) -> String {
 }
 
 fn in_words(case: &Case) -> String {
-    let broken = broken(&case.node, Fault::None);
+    let broken = broken(&case.node);
     let rules: Vec<String> =
         broken.iter().map(|(rule, part)| format!("{} ({part})", RULES[*rule].name)).collect();
     format!(
@@ -209,10 +209,9 @@ fn compare(cases: &[u8], results: &[u8]) -> bool {
             differing += 1;
             break;
         };
-        let expected = expected(&case, Fault::None);
-        let sound = is_sound(&case.node, Fault::None);
-        let done =
-            sound.then(|| step(&case.node.view(), &case.event, case.room, fault::Fault::None));
+        let expected = expected(&case);
+        let sound = is_sound(&case.node);
+        let done = sound.then(|| step(&case.node.view(), &case.event, case.room));
         counts.add(&case, expected.answer, done.as_ref());
         if expected == found {
             same += 1;
@@ -241,27 +240,39 @@ fn compare(cases: &[u8], results: &[u8]) -> bool {
     missed.is_empty()
 }
 
-/// The first case that shows a fault. A faulty model may stop at an unsound
-/// node; that shows nothing.
-fn shows(cases: &[u8], results: &[u8], fault: Fault) -> Option<(usize, String)> {
+/// The first case that differs from what the rules, or faulty ones, make of it.
+fn shows(
+    cases: &[u8],
+    results: &[u8],
+    expected: impl Fn(&Case) -> Option<Outcome>,
+) -> Option<(usize, String)> {
     let (mut cases, mut results) = (File(cases), File(results));
     let mut number = 0;
     while !cases.is_empty() {
         number += 1;
         let case = cases.case().expect("a file of cases");
         let Some(found) = results.result(&case) else { return Some((number, "no result".into())) };
-        let expected = match fault {
-            Fault::None => expected(&case, fault),
-            _ => match catch_unwind(|| expected(&case, fault)) {
-                Ok(expected) => expected,
-                Err(_) => continue,
-            },
-        };
+        let Some(expected) = expected(&case) else { continue };
         if expected != found {
             return Some((number, difference(&expected, &found)));
         }
     }
     (!results.is_empty()).then(|| (number, "more results than cases".into()))
+}
+
+/// A faulty model may stop at an unsound node; that shows nothing.
+fn unless_stopped(
+    expected: impl Fn(&Case) -> Outcome + RefUnwindSafe,
+) -> impl Fn(&Case) -> Option<Outcome> {
+    set_hook(Box::new(|_| {}));
+    move |case| catch_unwind(|| expected(case)).ok()
+}
+
+fn shown(shown: &Option<(usize, String)>) -> String {
+    match shown {
+        Some((number, what)) => format!("case {number}, {what}"),
+        None => "no case shows it".into(),
+    }
 }
 
 /// Results that are spoilt: an octet changed here and there, one too few, one
@@ -285,21 +296,16 @@ fn plant(cases: &[u8], results: &[u8], every: usize) -> bool {
         println!("{}  {what}", if good { "ok    " } else { "FAILED" });
         *(if good { &mut passed } else { &mut failed }) += 1;
     };
-    let shown = |shown: &Option<(usize, String)>| match shown {
-        Some((number, what)) => format!("case {number}, {what}"),
-        None => "no case shows it".into(),
-    };
-    let none = shows(cases, results, Fault::None);
+    let by_rules = |case: &Case| Some(expected(case));
+    let none = shows(cases, results, by_rules);
     say(none.is_none(), format!("no fault: {}", shown(&none)));
     for (what, results) in spoilt(results) {
-        let noticed = shows(cases, &results, Fault::None);
+        let noticed = shows(cases, &results, by_rules);
         say(noticed.is_some(), format!("{what}: {}", shown(&noticed)));
     }
-    // a faulty model may stop, and says nothing then
-    set_hook(Box::new(|_| {}));
     let planted = faults::all();
     for (fault, name, what) in planted.iter().skip(every - 1).step_by(every) {
-        let noticed = shows(cases, results, *fault);
+        let noticed = shows(cases, results, unless_stopped(|case| faults::faulty(case, *fault)));
         say(noticed.is_some(), format!("{name}: {what}: {}", shown(&noticed)));
     }
     println!("{passed} passed, {failed} failed");
@@ -320,9 +326,16 @@ fn main() -> ExitCode {
         ["faults", cases, results, every] => {
             plant(&read(cases), &read(results), number(every).max(1) as usize)
         }
+        ["shows", cases, results] => {
+            let noticed = shows(&read(cases), &read(results), unless_stopped(expected));
+            println!("{}", shown(&noticed));
+            noticed.is_some()
+        }
         _ => {
             eprintln!("usage: nodes make SEED ROUNDS CASES");
-            eprintln!("       nodes compare CASES RESULTS, or faults CASES RESULTS EVERY");
+            eprintln!(
+                "       nodes compare CASES RESULTS, or faults CASES RESULTS EVERY, or shows .."
+            );
             false
         }
     };

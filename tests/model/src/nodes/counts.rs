@@ -1,7 +1,6 @@
 //! What the cases have met, and what they must meet.
 
 use super::cases::Case;
-use super::faults::Fault;
 use super::limits::LIMITS;
 use super::sound::{broken, RULES};
 use super::stored::{Stored, APN, NODE_ID, PLACES};
@@ -57,7 +56,7 @@ impl Counts {
         self.cases += 1;
         self.zero += usize::from(*node == Stored::zero());
         *self.answers.entry(answer).or_default() += 1;
-        let parts = broken(node, Fault::None);
+        let parts = broken(node);
         let rules: BTreeSet<usize> = parts.iter().map(|part| part.0).collect();
         *self.broken.entry(rules.len()).or_default() += 1;
         for rule in &rules {

@@ -1,69 +1,71 @@
 //! Faults that can be planted into the test of a sound node and into what a
-//! call is expected to leave. The comparison must notice each.
+//! call is expected to leave. The comparison must notice each. The rules know
+//! of none: a fault is a rule left out, a bound moved, a rule that sees a node
+//! with something changed, or an outcome that is changed afterwards.
 
-use super::sound::{Range, RANGES, RULES};
-use crate::fault::{self, faults};
+use super::cases::{Case, Outcome};
+use super::expected::outcome;
+use super::outcomes::OUTCOMES;
+use super::sound::{broken_by, Found, Test, RANGES, RULES};
+use super::stored::{Context, Stored};
+use super::unseen::UNSEEN;
 
-#[derive(Clone, Copy, Debug, PartialEq, Eq)]
-pub enum Bound {
-    Low,
-    High,
-}
+/// What a rule sees of a node under a fault.
+pub type See = fn(&mut Stored);
 
-#[derive(Clone, Copy, Debug, PartialEq, Eq)]
+/// What becomes of an outcome under a fault.
+pub type Change = fn(&mut Outcome, &Case);
+
+#[derive(Clone, Copy)]
 pub enum Fault {
-    None,
     /// A rule, or one part of it, is not looked at.
     Without(usize, Option<&'static str>),
-    /// A range begins or ends one too early or too late.
-    Moved(Range, Bound, i8),
-    Wrong(Wrong),
-    /// One of the model's own, in what an event does.
-    Event(fault::Fault),
+    /// A range, by its place, goes from here to there.
+    Moved(usize, i128, i128),
+    /// The rule of this name, or every one, sees the node changed.
+    Unseen(Option<&'static str>, See),
+    /// The rule of this name has another test.
+    Other(&'static str, Test),
+    /// The outcome is changed.
+    Changed(Change),
 }
 
-faults! { Wrong, WRONGS:
-    FirstSlotUnseen "first-slot-unseen" "slot 0 is not looked at",
-    LastSlotUnseen "last-slot-unseen" "slot 15 is not looked at",
-    AnyActive "any-active" "any active but 0 counts as 1",
-    FirstOctetUnseen "first-octet-unseen" "the first unused octet is not looked at",
-    LastOctetUnseen "last-octet-unseen" "the last unused octet is not looked at",
-    FirstPlaceUnseen "first-place-unseen" "the first unused container place is not looked at",
-    LastPlaceUnseen "last-place-unseen" "the last unused container place is not looked at",
-    NamesById "names-by-id" "names are compared by charging ID alone",
-    NamesByGgsn "names-by-ggsn" "names are compared by GGSN alone",
-    NamesOfNeighbours "names-of-neighbours" "a name is compared with the one before it alone",
-    NamesButFirst "names-but-first" "the first name is compared with none",
-    ClosedMayMeet "closed-may-meet" "closed records may meet the accepted count",
-    ClosedTwoBelow "closed-two-below" "closed records must be two below the accepted count",
-    MoreChanges "more-changes" "the change count may be above the container count",
-    FewerChanges "fewer-changes" "the change count may be below the container count",
-    CountMayMeet "count-may-meet" "the container count may meet the change limit",
-    CountTwoBelow "count-two-below" "the container count must be two below the change limit",
-    TimesStrict "times-strict" "equal times of two containers are out of order",
-    QosButMean "qos-but-mean" "profiles that differ in mean alone are the same",
-    QosButReliability "qos-but-reliability" "profiles that differ in reliability are the same",
-    RunningOnly "running-only" "the volumes of ended containers are not summed",
-    EndedOnly "ended-only" "the running volumes are not summed",
-    UplinkOnly "uplink-only" "the downlink is not summed",
-    DownlinkOnly "downlink-only" "the uplink is not summed",
-    SumWraps "sum-wraps" "the sum of volumes is taken in 64 bits",
-    VolumesMayMeet "volumes-may-meet" "the sum of volumes may meet the limit",
-    VolumesTwoBelow "volumes-two-below" "the sum of volumes must be two below the limit",
-    ShortBefore13 "short-before-13" "1 is answered before 13",
-    MarkBefore13 "mark-before-13" "2 is answered before 13",
-    UnsoundCleaned "unsound-cleaned" "after 13 free slots and unused octets and places are zero",
-    UnsoundCounted "unsound-counted" "13 counts as an accepted event",
-    UnsoundClock "unsound-clock" "13 moves the clock",
-    RefusedWritten "refused-written" "a refusal has a written length of 1",
-    RefusedBuffer "refused-buffer" "a refusal clears the buffer's first octet",
-    RestCleared "rest-cleared" "the octet after the output is zero",
-    RestBeyond "rest-beyond" "the octet after the buffer is zero",
-    Never7 "never-7" "7 is never answered",
-    Early7 "early-7" "7 is answered one event too early",
-    Late7 "late-7" "7 is answered after 8, 9 and 10",
-    Hasty7 "hasty-7" "7 is answered before 6",
-    Clock7 "clock-7" "7 moves the clock",
+/// What the faulty test and the faulty call make of a case.
+pub fn faulty(case: &Case, fault: Fault) -> Outcome {
+    let mut outcome = outcome(case, finds_sound(&case.node, fault));
+    if let Fault::Changed(change) = fault {
+        change(&mut outcome, case);
+    }
+    outcome
+}
+
+fn finds_sound(node: &Stored, fault: Fault) -> bool {
+    let by_all = || broken_by(node, RANGES, |rule| rule.test);
+    match fault {
+        Fault::Without(rule, part) => {
+            by_all().iter().all(|broken| broken.0 == rule && part.map_or(true, |p| p == broken.1))
+        }
+        Fault::Moved(range, low, high) => {
+            let mut ranges = RANGES;
+            (ranges[range].2, ranges[range].3) = (low, high);
+            broken_by(node, ranges, |rule| rule.test).is_empty()
+        }
+        Fault::Unseen(which, see) => {
+            let mut seen = node.clone();
+            see(&mut seen);
+            let sees = |rule: &str| which.map_or(true, |which| which == rule);
+            let of = |node: &Stored, seeing: bool| {
+                let broken = broken_by(node, RANGES, |rule| rule.test);
+                broken.iter().all(|broken| sees(RULES[broken.0].name) != seeing)
+            };
+            of(&seen, true) && of(node, false)
+        }
+        Fault::Other(name, test) => {
+            broken_by(node, RANGES, |rule| if rule.name == name { test } else { rule.test })
+                .is_empty()
+        }
+        Fault::Changed(_) => by_all().is_empty(),
+    }
 }
 
 /// Every fault with its name and what is wrong under it.
@@ -83,28 +85,29 @@ pub fn all() -> Vec<(Fault, String, String)> {
             ));
         }
     }
-    for (range, name, low, high) in RANGES {
-        for (bound, by, from, to) in [
-            (Bound::Low, -1, low - 1, high),
-            (Bound::Low, 1, low + 1, high),
-            (Bound::High, -1, low, high - 1),
-            (Bound::High, 1, low, high + 1),
-        ] {
-            // no stored field is below zero
-            if from >= 0 {
-                let moved = Fault::Moved(range, bound, by);
-                all.push((moved, format!("{name} {from}..{to}"), format!("for {low}..{high}")));
-            }
+    for (at, (_, name, low, high)) in RANGES.into_iter().enumerate() {
+        let moved = [(low - 1, high), (low + 1, high), (low, high - 1), (low, high + 1)];
+        // no stored field is below zero
+        for (from, to) in moved.into_iter().filter(|(from, _)| *from >= 0) {
+            let moved = Fault::Moved(at, from, to);
+            all.push((moved, format!("{name} {from}..{to}"), format!("for {low}..{high}")));
         }
     }
-    for (wrong, name, what) in WRONGS {
-        all.push((Fault::Wrong(*wrong), name.to_string(), what.to_string()));
+    for (name, what, rule, see) in UNSEEN {
+        all.push((Fault::Unseen(*rule, *see), name.to_string(), what.to_string()));
     }
-    // Two of the model's speak of what no node stores: the numbers of an
-    // activation that is over, and when one began.
-    let unstored = [fault::Fault::NumberKept, fault::Fault::DurationFromActivation];
-    for (event, name, what) in fault::FAULTS.iter().filter(|f| !unstored.contains(&f.0)) {
-        all.push((Fault::Event(*event), name.to_string(), what.to_string()));
+    all.push((
+        Fault::Other("names", names_of_neighbours),
+        "names-of-neighbours".into(),
+        "a name is compared with the one before it alone".into(),
+    ));
+    for (name, what, change) in OUTCOMES {
+        all.push((Fault::Changed(*change), name.to_string(), what.to_string()));
     }
     all
+}
+
+fn names_of_neighbours(node: &Stored, found: &mut Found) {
+    let names: Vec<_> = node.active().map(Context::name).collect();
+    found.unless("whole", names.windows(2).all(|pair| pair[0] != pair[1]));
 }

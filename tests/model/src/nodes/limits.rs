@@ -5,7 +5,6 @@ use super::sound::record_volume;
 use super::stored::{Context, Stored};
 use crate::clock::LAST_SECOND;
 use crate::event::{octets, Name, What};
-use crate::fault::Fault;
 use crate::node::MOST_ACCEPTED;
 use crate::random::Random;
 use crate::step::{step, Step, CHANGES, VOLUME};
@@ -188,7 +187,7 @@ fn fifteen(node: &mut Stored, random: &mut Random) -> Option<Vec<u8>> {
     let least = random.pick(&[0, 13, 14, 14, 14]);
     while node.active().all(|c| c.changes < least) {
         let tariff = octets(node.clock, &What::Tariff);
-        *node = Stored::store(&step(&node.view(), &tariff, runs::ROOM, Fault::None).node);
+        *node = Stored::store(&step(&node.view(), &tariff, runs::ROOM).node);
     }
     let context = node.active().max_by_key(|c| c.changes)?;
     let what = match random.percent(50) {

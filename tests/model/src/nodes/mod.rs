@@ -8,6 +8,8 @@ pub mod counts;
 pub mod expected;
 pub mod faults;
 pub mod limits;
+pub mod outcomes;
 pub mod runs;
 pub mod sound;
 pub mod stored;
+pub mod unseen;

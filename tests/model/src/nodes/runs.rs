@@ -3,7 +3,6 @@
 
 use crate::clock::LAST_SECOND;
 use crate::event::{self, octets, Name, Qos, Start, What, QOS_HIGHEST};
-use crate::fault::Fault;
 use crate::node::{Context, Node};
 use crate::profile::Profile;
 use crate::random::Random;
@@ -197,7 +196,7 @@ pub fn run(random: &mut Random) -> Vec<Node> {
             _ if random.percent(5) => time(random, &node),
             _ => time(random, &node).min(node.clock.saturating_add(60)),
         };
-        node = step(&node, &octets(at, &what), ROOM, Fault::None).node;
+        node = step(&node, &octets(at, &what), ROOM).node;
         if random.percent(12) {
             nodes.push(node.clone());
         }
@@ -288,7 +287,7 @@ fn spoil_field(random: &mut Random, event: &mut Vec<u8>, kind: u8) {
 
 /// A room: all there may be, just enough, one too few, or none.
 pub fn room(random: &mut Random, node: &Node, event: &[u8]) -> usize {
-    let needed = step_of_sound(node, event, ROOM, Fault::None).output.len();
+    let needed = step_of_sound(node, event, ROOM).output.len();
     match random.below(10) {
         0 => ROOM,
         1 => needed.saturating_sub(1),

@@ -1,9 +1,8 @@
 //! "A sound node", rule by rule, of a node with all its stored fields. Written
 //! from document 01 alone; words in quotes are the document's.
 
-use super::faults::{Bound, Fault, Wrong};
-use super::stored::{within, Container, Context, Stored, APN, NODE_ID, SLOTS};
-use crate::event::Qos;
+use super::stored::{within, Container, Context, Stored, APN, NODE_ID};
+use crate::event::{Name, Qos};
 
 // ---- the ranges ----
 
@@ -33,7 +32,9 @@ pub enum Range {
 }
 
 /// Each range that a rule speaks of: its name, its lowest and its highest.
-pub const RANGES: [(Range, &str, i128, i128); 21] = [
+pub type Ranges = [(Range, &'static str, i128, i128); 21];
+
+pub const RANGES: Ranges = [
     (Range::VolumeLimit, "volume limit", 1, 1_000_000_000_000),
     (Range::TimeLimit, "time limit", 1, 604_800),
     (Range::ChangeLimit, "change limit", 1, 15),
@@ -71,12 +72,12 @@ const QOS_PARTS: &[&str] = &["reliability", "delay", "precedence", "peak", "mean
 // ---- the rules ----
 
 /// A rule: its name, its words and its parts, of which each is broken by
-/// itself, and the test, which says the parts that a node breaks.
+/// itself, and the test.
 pub struct Rule {
     pub name: &'static str,
     pub words: &'static str,
     pub parts: &'static [&'static str],
-    test: fn(&Stored, &mut Found),
+    pub test: Test,
 }
 
 /// The one part of a rule that has no parts.
@@ -127,77 +128,56 @@ rules! {
     "volumes" "all volumes of the open record sum below the volume limit" WHOLE, volumes;
 }
 
+/// The test of a rule: it says the parts that a node breaks.
+pub type Test = fn(&Stored, &mut Found);
+
 /// What a node breaks: the rules' places in the list, and their parts.
 pub struct Found {
-    fault: Fault,
+    ranges: Ranges,
     rule: usize,
     pub broken: Vec<(usize, &'static str)>,
 }
 
 /// Every rule that the node breaks, with the part of it, each once.
-pub fn broken(node: &Stored, fault: Fault) -> Vec<(usize, &'static str)> {
-    let mut found = Found { fault, rule: 0, broken: Vec::new() };
+pub fn broken(node: &Stored) -> Vec<(usize, &'static str)> {
+    broken_by(node, RANGES, |rule| rule.test)
+}
+
+/// The same by other ranges, or by another test of some rule.
+pub fn broken_by(
+    node: &Stored,
+    ranges: Ranges,
+    test: impl Fn(&Rule) -> Test,
+) -> Vec<(usize, &'static str)> {
+    let mut found = Found { ranges, rule: 0, broken: Vec::new() };
     for (at, rule) in RULES.iter().enumerate() {
         found.rule = at;
-        (rule.test)(node, &mut found);
+        test(rule)(node, &mut found);
     }
     found.broken
 }
 
-pub fn is_sound(node: &Stored, fault: Fault) -> bool {
-    broken(node, fault).is_empty()
+pub fn is_sound(node: &Stored) -> bool {
+    broken(node).is_empty()
 }
 
 impl Found {
-    fn unless(&mut self, part: &'static str, kept: bool) {
-        let left_out = match self.fault {
-            Fault::Without(rule, None) => rule == self.rule,
-            Fault::Without(rule, Some(other)) => rule == self.rule && other == part,
-            _ => false,
-        };
+    pub fn unless(&mut self, part: &'static str, kept: bool) {
         let said = (self.rule, part);
-        if !kept && !left_out && !self.broken.contains(&said) {
+        if !kept && !self.broken.contains(&said) {
             self.broken.push(said);
         }
     }
 
     fn in_range(&self, range: Range, value: impl Into<i128>) -> bool {
-        let (_, _, mut low, mut high) = RANGES[range as usize];
-        match self.fault {
-            Fault::Moved(other, Bound::Low, by) if other == range => low += i128::from(by),
-            Fault::Moved(other, Bound::High, by) if other == range => high += i128::from(by),
-            _ => {}
-        }
+        let (_, _, low, high) = self.ranges[range as usize];
         (low..=high).contains(&value.into())
     }
+}
 
-    fn wrong(&self, wrong: Wrong) -> bool {
-        self.fault == Fault::Wrong(wrong)
-    }
-
-    /// The slots that are looked at: all of them.
-    fn slots<'a>(&self, node: &'a Stored) -> &'a [Context] {
-        match self.fault {
-            Fault::Wrong(Wrong::FirstSlotUnseen) => &node.contexts[1..],
-            Fault::Wrong(Wrong::LastSlotUnseen) => &node.contexts[..SLOTS - 1],
-            _ => &node.contexts,
-        }
-    }
-
-    fn active<'a>(&self, node: &'a Stored) -> impl Iterator<Item = &'a Context> {
-        let any = self.wrong(Wrong::AnyActive);
-        self.slots(node).iter().filter(move |c| c.active == 1 || (any && c.active != 0))
-    }
-
-    /// The octets from a length on, which are to be zero.
-    fn unused_octets<'a>(&self, octets: &'a [u8], length: u64) -> &'a [u8] {
-        let unused = &octets[within(length, octets.len())..];
-        match self.fault {
-            Fault::Wrong(Wrong::FirstOctetUnseen) => &unused[1.min(unused.len())..],
-            Fault::Wrong(Wrong::LastOctetUnseen) => &unused[..unused.len().saturating_sub(1)],
-            _ => unused,
-        }
-    }
+/// The octets from a length on are zero.
+fn unused_zero(octets: &[u8], length: u64) -> bool {
+    octets[within(length, octets.len())..].iter().all(|octet| *octet == 0)
 }
 
 // ---- "Profile in range; clock and accepted count in range" ----
@@ -228,8 +208,7 @@ fn node_id_characters(node: &Stored, found: &mut Found) {
 }
 
 fn node_id_unused(node: &Stored, found: &mut Found) {
-    let unused = found.unused_octets(&node.profile.nodeid, node.profile.nodelen);
-    found.unless("whole", unused.iter().all(|octet| *octet == 0));
+    found.unless("whole", unused_zero(&node.profile.nodeid, node.profile.nodelen));
 }
 
 fn clock(node: &Stored, found: &mut Found) {
@@ -243,29 +222,15 @@ fn accepted(node: &Stored, found: &mut Found) {
 // ---- "active names distinct" ----
 
 fn names(node: &Stored, found: &mut Found) {
-    let active: Vec<&Context> = found.active(node).collect();
-    let same = |one: &Context, other: &Context| match found.fault {
-        Fault::Wrong(Wrong::NamesById) => one.id == other.id,
-        Fault::Wrong(Wrong::NamesByGgsn) => one.ggsn == other.ggsn,
-        _ => one.name() == other.name(),
-    };
-    let from = |at: usize| match found.fault {
-        Fault::Wrong(Wrong::NamesOfNeighbours) => at.saturating_sub(1),
-        Fault::Wrong(Wrong::NamesButFirst) => 1.min(at),
-        _ => 0,
-    };
-    let distinct = active
-        .iter()
-        .enumerate()
-        .all(|(at, context)| active[from(at)..at].iter().all(|before| !same(before, context)));
+    let names: Vec<Name> = node.active().map(Context::name).collect();
+    let distinct = names.iter().enumerate().all(|(at, name)| !names[..at].contains(name));
     found.unless("whole", distinct);
 }
 
 // ---- "free slots .. all zero" ----
 
 fn active(node: &Stored, found: &mut Found) {
-    let any = found.wrong(Wrong::AnyActive);
-    found.unless("whole", found.slots(node).iter().all(|c| any || c.active <= 1));
+    found.unless("whole", node.contexts.iter().all(|c| c.active <= 1));
 }
 
 /// The fields of a container, each with whether it is zero.
@@ -324,7 +289,7 @@ const FREE_PARTS: &[&str] = &[
 ];
 
 fn free_slot(node: &Stored, found: &mut Found) {
-    for context in found.slots(node).iter().filter(|c| c.active == 0) {
+    for context in node.contexts.iter().filter(|c| c.active == 0) {
         found.unless("flags", context.flags == 0);
         found.unless("id", context.id == 0);
         found.unless("ggsn", context.ggsn == 0);
@@ -350,12 +315,12 @@ fn free_slot(node: &Stored, found: &mut Found) {
 // ---- "stored fields in range", "unused octets and unused container places all zero" ----
 
 fn flags(node: &Stored, found: &mut Found) {
-    found.unless("whole", found.active(node).all(|c| found.in_range(Range::Flags, c.flags)));
+    found.unless("whole", node.active().all(|c| found.in_range(Range::Flags, c.flags)));
 }
 
 /// "IMSI 6..15 digits, low half first, all later halves F"
 fn imsi(node: &Stored, found: &mut Found) {
-    for context in found.active(node) {
+    for context in node.active() {
         let halves: Vec<u8> = context.imsi.iter().flat_map(|o| [o & 15, o >> 4]).collect();
         let digits = halves.iter().take_while(|half| **half < 10).count();
         let mut later = halves[digits..].iter();
@@ -365,18 +330,17 @@ fn imsi(node: &Stored, found: &mut Found) {
 }
 
 fn apn_length(node: &Stored, found: &mut Found) {
-    found.unless("whole", found.active(node).all(|c| found.in_range(Range::ApnLength, c.apnlen)));
+    found.unless("whole", node.active().all(|c| found.in_range(Range::ApnLength, c.apnlen)));
 }
 
 fn apn_characters(node: &Stored, found: &mut Found) {
     let classes = [Range::Signs, Range::Digits, Range::Capitals, Range::Letters];
     let good = |c: &u8| classes.iter().any(|class| found.in_range(*class, *c));
-    found.unless("whole", found.active(node).all(|context| context.apn().iter().all(good)));
+    found.unless("whole", node.active().all(|context| context.apn().iter().all(good)));
 }
 
 fn apn_unused(node: &Stored, found: &mut Found) {
-    let zero = |c: &Context| found.unused_octets(&c.apn, c.apnlen).iter().all(|o| *o == 0);
-    found.unless("whole", found.active(node).all(zero));
+    found.unless("whole", node.active().all(|c| unused_zero(&c.apn, c.apnlen)));
 }
 
 fn qos_in_range(qos: &Qos, found: &mut Found) {
@@ -386,20 +350,20 @@ fn qos_in_range(qos: &Qos, found: &mut Found) {
 }
 
 fn qos(node: &Stored, found: &mut Found) {
-    for context in found.active(node) {
+    for context in node.active() {
         qos_in_range(&context.qos, found);
     }
 }
 
 fn container_qos(node: &Stored, found: &mut Found) {
-    for container in found.active(node).flat_map(Context::used) {
+    for container in node.active().flat_map(Context::used) {
         qos_in_range(&container.qos, found);
     }
 }
 
 /// The profile has one offset, and a stored time keeps its own beside it.
 fn stored_offset(node: &Stored, found: &mut Found) {
-    for context in found.active(node) {
+    for context in node.active() {
         found.unless("opening", context.opening.zone == node.profile.zone);
         for container in context.used() {
             found.unless("container", container.time.zone == node.profile.zone);
@@ -408,14 +372,8 @@ fn stored_offset(node: &Stored, found: &mut Found) {
 }
 
 fn unused_place(node: &Stored, found: &mut Found) {
-    for context in found.active(node) {
-        let unused = context.unused();
-        let seen = match found.fault {
-            Fault::Wrong(Wrong::FirstPlaceUnseen) => &unused[1.min(unused.len())..],
-            Fault::Wrong(Wrong::LastPlaceUnseen) => &unused[..unused.len().saturating_sub(1)],
-            _ => unused,
-        };
-        for container in seen {
+    for context in node.active() {
+        for container in context.unused() {
             place_zero(container, found);
         }
     }
@@ -425,50 +383,33 @@ fn unused_place(node: &Stored, found: &mut Found) {
 
 /// "closed records below the accepted count"
 fn closed(node: &Stored, found: &mut Found) {
-    let below = |c: &Context| match found.fault {
-        Fault::Wrong(Wrong::ClosedMayMeet) => c.closed <= node.accepted,
-        Fault::Wrong(Wrong::ClosedTwoBelow) => c.closed.saturating_add(1) < node.accepted,
-        _ => c.closed < node.accepted,
-    };
-    found.unless("whole", found.active(node).all(below));
+    found.unless("whole", node.active().all(|c| c.closed < node.accepted));
 }
 
 /// "container count equals change count"
 fn change_count(node: &Stored, found: &mut Found) {
-    let equal = |c: &Context| match found.fault {
-        Fault::Wrong(Wrong::MoreChanges) => c.count <= u64::from(c.changes),
-        Fault::Wrong(Wrong::FewerChanges) => c.count >= u64::from(c.changes),
-        _ => c.count == u64::from(c.changes),
-    };
-    found.unless("whole", found.active(node).all(equal));
+    found.unless("whole", node.active().all(|c| c.count == u64::from(c.changes)));
 }
 
 /// "and is below the change limit"
 fn container_count(node: &Stored, found: &mut Found) {
     let limit = u64::from(node.profile.changes);
-    let below = |c: &Context| match found.fault {
-        Fault::Wrong(Wrong::CountMayMeet) => c.count <= limit,
-        Fault::Wrong(Wrong::CountTwoBelow) => c.count.saturating_add(1) < limit.max(2),
-        _ => c.count < limit,
-    };
-    found.unless("whole", found.active(node).all(below));
+    found.unless("whole", node.active().all(|c| c.count < limit));
 }
 
 /// "conditions 0 or 1"
 fn conditions(node: &Stored, found: &mut Found) {
-    let mut used = found.active(node).flat_map(Context::used);
+    let mut used = node.active().flat_map(Context::used);
     found.unless("whole", used.all(|c| found.in_range(Range::Condition, c.condition)));
 }
 
 /// "opening ≤ container times in order ≤ clock"
 fn times(node: &Stored, found: &mut Found) {
-    let strict = found.wrong(Wrong::TimesStrict);
-    let order = |one: u32, other: u32| if strict { one < other } else { one <= other };
-    for context in found.active(node) {
+    for context in node.active() {
         let opening = context.opening.seconds;
         let times: Vec<u32> = context.used().iter().map(|c| c.time.seconds).collect();
         for pair in times.windows(2) {
-            found.unless("container, container", order(pair[0], pair[1]));
+            found.unless("container, container", pair[0] <= pair[1]);
         }
         match times[..] {
             [] => found.unless("opening, clock", opening <= node.clock),
@@ -484,15 +425,11 @@ fn times(node: &Stored, found: &mut Found) {
 /// "QoS differs from one container to the next, or to the running one, exactly
 /// after condition 0"
 fn qos_between(node: &Stored, found: &mut Found) {
-    for context in found.active(node) {
+    for context in node.active() {
         let used = context.used();
         for (at, container) in used.iter().enumerate() {
             let next = used.get(at + 1).map_or(context.qos, |next| next.qos);
-            let same = match found.fault {
-                Fault::Wrong(Wrong::QosButMean) => container.qos[..4] == next[..4],
-                Fault::Wrong(Wrong::QosButReliability) => container.qos[1..] == next[1..],
-                _ => container.qos == next,
-            };
+            let same = container.qos == next;
             let (after_0, after_1) = if at + 1 < used.len() {
                 ("same after 0, next", "other after 1, next")
             } else {
@@ -510,29 +447,7 @@ fn qos_between(node: &Stored, found: &mut Found) {
 /// "all volumes of the open record sum below the volume limit"
 fn volumes(node: &Stored, found: &mut Found) {
     let limit = u128::from(node.profile.volume);
-    let sum = |context: &Context| -> u128 {
-        let ended = context.used().iter().map(|c| (c.uplink, c.downlink));
-        let running = [(context.uplink, context.downlink)].into_iter();
-        let both = |(up, down): (u64, u64)| u128::from(up) + u128::from(down);
-        match found.fault {
-            Fault::Wrong(Wrong::RunningOnly) => running.map(both).sum(),
-            Fault::Wrong(Wrong::EndedOnly) => ended.map(both).sum(),
-            Fault::Wrong(Wrong::UplinkOnly) => ended.chain(running).map(|v| u128::from(v.0)).sum(),
-            Fault::Wrong(Wrong::DownlinkOnly) => {
-                ended.chain(running).map(|v| u128::from(v.1)).sum()
-            }
-            Fault::Wrong(Wrong::SumWraps) => {
-                ended.chain(running).map(both).sum::<u128>() as u64 as u128
-            }
-            _ => record_volume(context),
-        }
-    };
-    let below = |context: &Context| match found.fault {
-        Fault::Wrong(Wrong::VolumesMayMeet) => sum(context) <= limit,
-        Fault::Wrong(Wrong::VolumesTwoBelow) => sum(context) + 1 < limit.max(2),
-        _ => sum(context) < limit,
-    };
-    found.unless("whole", found.active(node).all(below));
+    found.unless("whole", node.active().all(|context| record_volume(context) < limit));
 }
 
 /// The volumes of a context's open record.

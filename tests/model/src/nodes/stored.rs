@@ -143,7 +143,6 @@ impl Context {
             qos: self.qos,
             uplink: self.uplink,
             downlink: self.downlink,
-            activated: self.opening.seconds,
         }
     }
 

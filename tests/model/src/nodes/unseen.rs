@@ -1,0 +1,159 @@
+//! Faults in the test of a sound node: what a rule does not see, or sees
+//! otherwise than it is stored.
+
+use super::faults::See;
+use super::sound::record_volume;
+use super::stored::{within, Container, Context, Stored, FREE, NODE_ID, PLACES, SLOTS};
+
+/// A name, what is wrong, the rule that sees so (or every one), and what it
+/// sees.
+type Unseen = (&'static str, &'static str, Option<&'static str>, See);
+
+pub const UNSEEN: &[Unseen] = &[
+    ("first-slot-unseen", "slot 0 is not looked at", None, |n| n.contexts[0] = FREE),
+    ("last-slot-unseen", "slot 15 is not looked at", None, |n| n.contexts[SLOTS - 1] = FREE),
+    ("any-active", "any active but 0 counts as 1", None, |n| {
+        n.contexts.iter_mut().for_each(|c| c.active = c.active.min(1));
+    }),
+    ("first-octet-unseen", "the first unused octet is not looked at", None, |n| {
+        unused_octets(n, |octets| octets.first_mut());
+    }),
+    ("last-octet-unseen", "the last unused octet is not looked at", None, |n| {
+        unused_octets(n, |octets| octets.last_mut());
+    }),
+    ("first-place-unseen", "the first unused container place is not looked at", None, |n| {
+        unused_places(n, |places| places.first_mut());
+    }),
+    ("last-place-unseen", "the last unused container place is not looked at", None, |n| {
+        unused_places(n, |places| places.last_mut());
+    }),
+    ("names-by-id", "names are compared by charging ID alone", Some("names"), |n| {
+        each(n, |c| c.ggsn = 0);
+    }),
+    ("names-by-ggsn", "names are compared by GGSN alone", Some("names"), |n| {
+        each(n, |c| c.id = 0);
+    }),
+    ("names-but-first", "the first name is compared with none", Some("names"), |n| {
+        if let Some(first) = n.contexts.iter_mut().find(|c| c.active == 1) {
+            *first = FREE;
+        }
+    }),
+    (
+        "closed-may-meet",
+        "closed records may meet the accepted count",
+        Some("closed records"),
+        |n| {
+            n.accepted = n.accepted.saturating_add(1);
+        },
+    ),
+    (
+        "closed-two-below",
+        "closed records must be two below the accepted count",
+        Some("closed records"),
+        |n| n.accepted = n.accepted.saturating_sub(1),
+    ),
+    (
+        "more-changes",
+        "the change count may be above the container count",
+        Some("change count"),
+        |n| each(n, |c| c.changes = u64::from(c.changes).min(c.count) as u8),
+    ),
+    (
+        "fewer-changes",
+        "the change count may be below the container count",
+        Some("change count"),
+        |n| each(n, |c| c.count = c.count.min(c.changes.into())),
+    ),
+    (
+        "count-may-meet",
+        "the container count may meet the change limit",
+        Some("container count"),
+        |n| n.profile.changes = n.profile.changes.saturating_add(1),
+    ),
+    (
+        "count-two-below",
+        "the container count must be two below the change limit",
+        Some("container count"),
+        |n| n.profile.changes = n.profile.changes.max(2) - 1,
+    ),
+    ("times-strict", "equal times of two containers are out of order", Some("times"), |n| {
+        each(n, |c| {
+            for at in (1..c.used().len()).rev() {
+                if c.containers[at - 1].time.seconds == c.containers[at].time.seconds {
+                    c.containers[at - 1].time.seconds += 1;
+                }
+            }
+        });
+    }),
+    ("qos-but-mean", "profiles that differ in mean alone are the same", BETWEEN, |n| {
+        each(n, |c| level(c, 4));
+    }),
+    ("qos-but-reliability", "profiles that differ in reliability are the same", BETWEEN, |n| {
+        each(n, |c| level(c, 0));
+    }),
+    ("running-only", "the volumes of ended containers are not summed", VOLUMES, |n| {
+        each(n, |c| c.containers.iter_mut().for_each(|c| (c.uplink, c.downlink) = (0, 0)));
+    }),
+    ("ended-only", "the running volumes are not summed", VOLUMES, |n| {
+        each(n, |c| (c.uplink, c.downlink) = (0, 0));
+    }),
+    ("uplink-only", "the downlink is not summed", VOLUMES, |n| {
+        each(n, |c| {
+            c.downlink = 0;
+            c.containers.iter_mut().for_each(|c| c.downlink = 0);
+        });
+    }),
+    ("downlink-only", "the uplink is not summed", VOLUMES, |n| {
+        each(n, |c| {
+            c.uplink = 0;
+            c.containers.iter_mut().for_each(|c| c.uplink = 0);
+        });
+    }),
+    ("sum-wraps", "the sum of volumes is taken in 64 bits", VOLUMES, |n| {
+        each(n, |c| {
+            (c.uplink, c.downlink) = (record_volume(c) as u64, 0);
+            c.containers.iter_mut().for_each(|c| (c.uplink, c.downlink) = (0, 0));
+        });
+    }),
+    ("volumes-may-meet", "the sum of volumes may meet the limit", VOLUMES, |n| {
+        n.profile.volume = n.profile.volume.saturating_add(1);
+    }),
+    ("volumes-two-below", "the sum of volumes must be two below the limit", VOLUMES, |n| {
+        n.profile.volume = n.profile.volume.max(2) - 1;
+    }),
+];
+
+const BETWEEN: Option<&str> = Some("QoS between containers");
+const VOLUMES: Option<&str> = Some("volumes");
+
+fn each(node: &mut Stored, change: impl Fn(&mut Context)) {
+    node.contexts.iter_mut().filter(|c| c.active == 1).for_each(change);
+}
+
+/// Clears one unused octet of the node ID and of each APN.
+fn unused_octets(node: &mut Stored, which: fn(&mut [u8]) -> Option<&mut u8>) {
+    let clear = |octets: &mut [u8], length: u64| {
+        let from = within(length, octets.len());
+        if let Some(octet) = which(&mut octets[from..]) {
+            *octet = 0;
+        }
+    };
+    clear(&mut node.profile.nodeid[..NODE_ID], node.profile.nodelen);
+    each(node, |c| clear(&mut c.apn, c.apnlen));
+}
+
+/// Clears one unused container place of each context.
+fn unused_places(node: &mut Stored, which: fn(&mut [Container]) -> Option<&mut Container>) {
+    each(node, |c| {
+        let from = within(c.count, PLACES);
+        if let Some(place) = which(&mut c.containers[from..]) {
+            *place = Container::default();
+        }
+    });
+}
+
+/// All profiles of a context have the same level here.
+fn level(context: &mut Context, at: usize) {
+    context.qos[at] = 0;
+    context.containers.iter_mut().for_each(|c| c.qos[at] = 0);
+}
