@@ -1,7 +1,7 @@
 /* Calls charging_step on nodes that are handed over, and writes what it answers and leaves.
  *
- * Standard input has cases, standard output gets a result for each; tests/model/src/nodes/cases.rs says how both look. There is
- * no rule of charging here: a node's fields are put where the header says, and read back. */
+ * Standard input has cases, standard output gets a result for each; tests/model/src/bin/nodes/cases.rs says how both look.
+ * There is no rule of charging here: a node's fields are put where the header says, and read back. */
 #include "charging.h"
 
 extern void *stdin, *stdout;

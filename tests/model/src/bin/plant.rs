@@ -1,13 +1,17 @@
 //! plant FROM TO NAME: writes to TO what is needed to build the model in FROM,
-//! with the edits of FROM/faults.txt under NAME and under "all". A file that
-//! is there already in the same words is left alone, so that little is built.
+//! with the edits of FROM/faults.txt under NAME and under "all". A source that
+//! is there already in the same words is left alone, so that little is built;
+//! one that FROM does not have is removed.
 
 use std::collections::BTreeMap;
 use std::fs;
 use std::path::Path;
 use std::process::ExitCode;
 
-/// The files of the model, by their paths below FROM.
+/// What is needed to build the model.
+const PARTS: [&str; 3] = ["Cargo.toml", "Cargo.lock", "src"];
+
+/// Files, by their paths below FROM or TO.
 type Files = BTreeMap<String, String>;
 
 fn read(from: &Path, below: &str, files: &mut Files) -> Result<(), String> {
@@ -67,7 +71,7 @@ fn edits(list: &str, name: &str) -> Vec<Edit> {
 
 fn plant(from: &Path, to: &Path, name: &str) -> Result<(), String> {
     let mut files = Files::new();
-    for below in ["Cargo.toml", "Cargo.lock", "src"] {
+    for below in PARTS {
         read(from, below, &mut files)?;
     }
     let path = from.join("faults.txt");
@@ -81,11 +85,18 @@ fn plant(from: &Path, to: &Path, name: &str) -> Result<(), String> {
             edit.apply(&mut files).map_err(|said| format!("{name}: {said}"))?;
         }
     }
+    let mut there = Files::new();
+    for below in PARTS.into_iter().filter(|below| to.join(below).exists()) {
+        read(to, below, &mut there)?;
+    }
+    for below in there.keys().filter(|below| !files.contains_key(*below)) {
+        fs::remove_file(to.join(below)).map_err(|e| format!("{below}: {e}"))?;
+    }
     for (below, text) in files {
-        let path = to.join(below);
-        if fs::read_to_string(&path).is_ok_and(|there| there == text) {
+        if there.get(&below) == Some(&text) {
             continue;
         }
+        let path = to.join(below);
         let said = |e| format!("{}: {e}", path.display());
         fs::create_dir_all(path.parent().unwrap()).map_err(said)?;
         fs::write(&path, text).map_err(said)?;

@@ -1,19 +1,33 @@
+//! Nodes made on purpose: sound ones, and ones that break a rule of "A sound
+//! node". They are handed to the C library, and what it answers is compared
+//! with the rules. tests/nodes/README.md says more.
+//!
 //! nodes make SEED ROUNDS CASES: writes a file of cases.
 //! nodes compare CASES RESULTS: what the library did against the rules.
 //! nodes faults CASES RESULTS EVERY: the same with faults planted, each Nth.
 //! nodes shows CASES RESULTS: the first case that differs, of a faulty model.
 
+mod breaks;
+mod cases;
+mod counts;
+mod expected;
+mod faults;
+mod limits;
+mod outcomes;
+mod runs;
+mod sound;
+mod stored;
+mod unseen;
+
+use crate::breaks::BREAKERS;
+use crate::cases::{put_case, Case, File, Outcome, GUARD};
+use crate::counts::Counts;
+use crate::expected::expected;
+use crate::limits::LIMITS;
+use crate::sound::{broken, is_sound, RULES};
+use crate::stored::{field_at, Stored, OCTETS};
 use charging_model::calls::hex;
 use charging_model::node::Node;
-use charging_model::nodes::breaks::BREAKERS;
-use charging_model::nodes::cases::{put_case, Case, File, Outcome, GUARD};
-use charging_model::nodes::counts::Counts;
-use charging_model::nodes::expected::expected;
-use charging_model::nodes::faults;
-use charging_model::nodes::limits::LIMITS;
-use charging_model::nodes::runs;
-use charging_model::nodes::sound::{broken, is_sound, RULES};
-use charging_model::nodes::stored::{field_at, Stored, OCTETS};
 use charging_model::random::Random;
 use charging_model::step::step;
 use std::panic::{catch_unwind, set_hook, RefUnwindSafe};

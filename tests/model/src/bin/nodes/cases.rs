@@ -9,7 +9,7 @@
 //! A difference: 2 octets how many are the same, 2 octets how many follow,
 //! these; and so on, up to two numbers of 0.
 
-use super::stored::{Stored, OCTETS};
+use crate::stored::{Stored, OCTETS};
 
 /// Octets before and after the buffer, which a call may not touch.
 pub const GUARD: usize = 16;

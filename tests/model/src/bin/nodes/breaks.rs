@@ -1,10 +1,10 @@
 //! Ways to break each rule of "A sound node", each part of a rule by itself.
 
-use super::limits::{any_active, set_zone};
-use super::runs::{apn_character, imsi, node_id_character};
-use super::sound::{record_volume, Range, RANGES};
-use super::stored::{within, Container, Context, Stored, APN, FREE, NODE_ID, PLACES, SLOTS};
-use crate::random::Random;
+use crate::limits::{any_active, set_zone};
+use crate::runs::{apn_character, imsi, node_id_character};
+use crate::sound::{record_volume, Range, RANGES};
+use crate::stored::{within, Container, Context, Stored, APN, FREE, NODE_ID, PLACES, SLOTS};
+use charging_model::random::Random;
 
 /// The rule and the part that is broken, and how; nothing where this node has
 /// no place for it.

@@ -1,13 +1,13 @@
 //! Sound nodes at each limit, with events that go up to it and over it.
 
-use super::runs;
-use super::sound::record_volume;
-use super::stored::{Context, Stored};
-use crate::clock::LAST_SECOND;
-use crate::event::{octets, Name, What};
-use crate::node::MOST_ACCEPTED;
-use crate::random::Random;
-use crate::step::{step, Step, CHANGES, VOLUME};
+use crate::runs;
+use crate::sound::record_volume;
+use crate::stored::{Context, Stored};
+use charging_model::clock::LAST_SECOND;
+use charging_model::event::{octets, Name, What};
+use charging_model::node::MOST_ACCEPTED;
+use charging_model::random::Random;
+use charging_model::step::{step, Step, CHANGES, VOLUME};
 
 /// A limit: its name; brings a node to it and says an event, or nothing where
 /// the node can't be brought there; whether a node is at it; and whether a call

@@ -1,9 +1,9 @@
 //! What a call on a node is expected to answer and to leave.
 
-use super::cases::{area, Case, Outcome, GUARD};
-use super::sound::is_sound;
-use super::stored::Stored;
-use crate::step::step_of_sound;
+use crate::cases::{area, Case, Outcome, GUARD};
+use crate::sound::is_sound;
+use crate::stored::Stored;
+use charging_model::step::step_of_sound;
 
 /// "13: node breaks a rule under "A sound node"", before all other rows; what
 /// follows on a sound node is the model's.

@@ -1,11 +1,11 @@
 //! What a set of calls has to meet to be worth comparing, counted call by
 //! call: a table of aims, none of which may stay at zero.
 
-use crate::clock::{self, LAST_SECOND};
-use crate::event::{self, Name, What};
-use crate::node::{Node, SLOTS};
-use crate::record::Record;
-use crate::step::{self, Step};
+use charging_model::clock::{self, LAST_SECOND};
+use charging_model::event::{self, Name, What};
+use charging_model::node::{Node, SLOTS};
+use charging_model::record::Record;
+use charging_model::step::{self, Step};
 use std::collections::{BTreeMap, BTreeSet};
 
 /// The refusals that a call of a run can get.

@@ -1,7 +1,9 @@
 //! compare RUNS EXPECTED FOUND: the outputs EXPECTED/NNN.out and FOUND/NNN.out
 //! of every run in RUNS, line by line. Then the table of what the calls met.
 
-use charging_model::aims::Aims;
+mod aims;
+
+use crate::aims::Aims;
 use charging_model::calls::{self, hex};
 use charging_model::clock;
 use charging_model::event;

@@ -1,10 +1,10 @@
 //! What the cases have met, and what they must meet.
 
-use super::cases::Case;
-use super::limits::LIMITS;
-use super::sound::{broken, RULES};
-use super::stored::{Stored, APN, NODE_ID, PLACES};
-use crate::step::Step;
+use crate::cases::Case;
+use crate::limits::LIMITS;
+use crate::sound::{broken, RULES};
+use crate::stored::{Stored, APN, NODE_ID, PLACES};
+use charging_model::step::Step;
 use std::collections::hash_map::DefaultHasher;
 use std::collections::{BTreeMap, BTreeSet, HashSet};
 use std::hash::{Hash, Hasher};

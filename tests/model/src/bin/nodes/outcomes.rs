@@ -1,12 +1,12 @@
 //! Faults in what a call answers and leaves.
 
-use super::cases::{Case, GUARD};
-use super::expected::{of_sound, refused};
-use super::faults::Change;
-use super::stored::Stored;
-use crate::event;
-use crate::node::MOST_ACCEPTED;
-use crate::step;
+use crate::cases::{Case, GUARD};
+use crate::expected::{of_sound, refused};
+use crate::faults::Change;
+use crate::stored::Stored;
+use charging_model::event;
+use charging_model::node::MOST_ACCEPTED;
+use charging_model::step;
 
 /// A name, what is wrong, and what becomes of the outcome.
 pub const OUTCOMES: &[(&str, &str, Change)] = &[

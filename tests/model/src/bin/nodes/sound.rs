@@ -1,8 +1,8 @@
 //! "A sound node", rule by rule, of a node with all its stored fields. Written
 //! from document 01 alone; words in quotes are the document's.
 
-use super::stored::{within, Container, Context, Stored, APN, NODE_ID};
-use crate::event::{Name, Qos};
+use crate::stored::{within, Container, Context, Stored, APN, NODE_ID};
+use charging_model::event::{Name, Qos};
 
 // ---- the ranges ----
 

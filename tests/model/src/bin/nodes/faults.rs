@@ -3,12 +3,12 @@
 //! of none: a fault is a rule left out, a bound moved, a rule that sees a node
 //! with something changed, or an outcome that is changed afterwards.
 
-use super::cases::{Case, Outcome};
-use super::expected::outcome;
-use super::outcomes::OUTCOMES;
-use super::sound::{broken_by, Found, Test, RANGES, RULES};
-use super::stored::{Context, Stored};
-use super::unseen::UNSEEN;
+use crate::cases::{Case, Outcome};
+use crate::expected::outcome;
+use crate::outcomes::OUTCOMES;
+use crate::sound::{broken_by, Found, Test, RANGES, RULES};
+use crate::stored::{Context, Stored};
+use crate::unseen::UNSEEN;
 
 /// What a rule sees of a node under a fault.
 pub type See = fn(&mut Stored);

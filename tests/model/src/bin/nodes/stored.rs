@@ -1,9 +1,9 @@
 //! The node as a host in C holds it (include/charging.h): every stored field,
 //! those of free slots and unused places too.
 
-use crate::event::{Name, Qos, Start};
-use crate::node;
-use crate::profile;
+use charging_model::event::{Name, Qos, Start};
+use charging_model::node;
+use charging_model::profile;
 
 pub const SLOTS: usize = node::SLOTS;
 pub const PLACES: usize = 15;

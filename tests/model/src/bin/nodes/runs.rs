@@ -1,12 +1,12 @@
 //! Sound nodes that are reached by events from a fresh node, and events for
 //! them.
 
-use crate::clock::LAST_SECOND;
-use crate::event::{self, octets, Name, Qos, Start, What, QOS_HIGHEST};
-use crate::node::{Context, Node};
-use crate::profile::Profile;
-use crate::random::Random;
-use crate::step::{step, step_of_sound};
+use charging_model::clock::LAST_SECOND;
+use charging_model::event::{self, octets, Name, Qos, Start, What, QOS_HIGHEST};
+use charging_model::node::{Context, Node};
+use charging_model::profile::Profile;
+use charging_model::random::Random;
+use charging_model::step::{step, step_of_sound};
 
 /// Room for any output: sixteen records of 1,024 octets with their marks.
 pub const ROOM: usize = 16 * (2 + 1024);

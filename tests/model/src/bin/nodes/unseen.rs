@@ -1,9 +1,9 @@
 //! Faults in the test of a sound node: what a rule does not see, or sees
 //! otherwise than it is stored.
 
-use super::faults::See;
-use super::sound::record_volume;
-use super::stored::{within, Container, Context, Stored, FREE, NODE_ID, PLACES, SLOTS};
+use crate::faults::See;
+use crate::sound::record_volume;
+use crate::stored::{within, Container, Context, Stored, FREE, NODE_ID, PLACES, SLOTS};
 
 /// A name, what is wrong, the rule that sees so (or every one), and what it
 /// sees.
