@@ -3,5 +3,7 @@ pub mod Fields
 pub mod Lists
 pub mod Turns
 pub mod Opens
+pub mod Padded
+pub mod Listings
 pub mod Printed
 pub mod Fixes

@@ -1,13 +1,14 @@
--- The list of containers that a record has: 1 to 15 of them, and the rules between them. Assumes nothing.
+-- The list of containers that a record has: 1 to 15 of them, and the rules between them.
 use mathlib.Core.Path.{_≡_}
 use mathlib.Core.Bool.{Bool, true, false, not, _&&_, Bool·beq}
 use mathlib.Core.Option.{Option, none, some}
 use mathlib.Core.List.{List, [], _∷_, _++_}
 use Prim.Native.Nat.{ℕ, zero, suc, _-_}
 use lib.Dec.{leb, ltb, eqb}
-use lib.ListN.{length}
+use lib.ListN.{length, take}
 use Rattle.format.specs.Format.{Fmt}
-use Rattle.ber.specs.Field.{many}
+use Rattle.ber.specs.Field.{first, many}
+use Rattle.ber.specs.Read.{Reads}
 use Rattle.calendar.specs.declared.Stamp.{Stamp}
 use Rattle.container.specs.declared.Qos.{Qos}
 use Rattle.container.specs.declared.Container.{Container}
@@ -87,6 +88,12 @@ pub record Listed (o : Option (List Container)) (ok : Bool) (n : ℕ) (v : List 
   pub found : ok ≡ isThere o
   pub count : n ≡ length (listed o)
   pub values : v ≡ padded (listed o)
+
+-- What the reader of a list under a tag answers, at any place of any octets: the containers, in an array whose other places hold nothing.
+pub record ListsAt (s : List ℕ) (at t n : ℕ) (v : List Container) (next : ℕ) : Type 0 where
+  pub reads : Reads [] (first t containers) s at (take n v) next
+  pub rest : v ≡ padded (take n v)
+  pub count : length (take n v) ≡ n
 
 -- a container of which every field is zero
 unfoldable pub isBlank : Container → Bool

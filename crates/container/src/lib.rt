@@ -1,10 +1,11 @@
 // Containers of 12.15 (ChangeOfCharCondition): the octets counted under one QoS profile and tariff, and the list of them that a record
 // has. The S-CDR of the SGSN and the G-CDR of the gateway share them.
 //
-// profile has the QoS, stamp the time stamp under a tag, single one container, list the list as octets, rules what must hold between
-// the containers of a record, open those of a record that is not closed yet, unused the places of an array after them.
+// profile has the QoS, stamp the time stamp under a tag, single one container, list the list as octets, field the list under a tag,
+// rules what must hold between the containers of a record, open those of a record that is not closed yet, unused the places of an array after them.
 //
 // No public function has a `requires`: each answers for every input.
+pub mod field;
 pub mod list;
 pub mod open;
 pub mod profile;

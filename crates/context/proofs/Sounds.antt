@@ -15,9 +15,10 @@ use Rattle.container.specs.Open.{openOk, volumeOf, heldOk}
 use Rattle.container.proofs.Goods.{same-qos}
 use Rattle.container.proofs.Turns.{blanks-are}
 use Rattle.container.proofs.Opens.{below-left}
-use Rattle.scdr.specs.Rules.{allOf, isZero, apnOk}
-use Rattle.scdr.specs.Layout.{fillTo}
-use Rattle.scdr.proofs.Tails.{zeros-are}
+use Rattle.octets.specs.Chars.{allOf, isZero}
+use Rattle.octets.specs.Names.{apnOk}
+use Rattle.octets.specs.Filled.{fillTo}
+use Rattle.octets.proofs.Filled.{zeros-are}
 use Rattle.profile.specs.declared.Limits.{Limits}
 use Rattle.context.specs.declared.Context.{Context}
 use Rattle.context.specs.Context.{used, noContext}

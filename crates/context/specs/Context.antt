@@ -5,7 +5,7 @@ use Rattle.container.specs.declared.Container.{Container}
 use Rattle.container.specs.Qos.{noQos}
 use Rattle.container.specs.Container.{noStamp}
 use Rattle.container.specs.List.{padded}
-use Rattle.scdr.specs.Layout.{fillTo}
+use Rattle.octets.specs.Filled.{fillTo}
 use Rattle.context.specs.declared.Context.{Context}
 
 -- the containers that have ended in the open record

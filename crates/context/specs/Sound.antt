@@ -8,7 +8,8 @@ use Rattle.ber.specs.Imsi.{imsiOk}
 use Rattle.container.specs.Qos.{qosOk, sameQos, noQos}
 use Rattle.container.specs.List.{blanks}
 use Rattle.container.specs.Open.{openOk, volumeOf}
-use Rattle.scdr.specs.Rules.{allOf, isZero, apnOk}
+use Rattle.octets.specs.Chars.{allOf, isZero}
+use Rattle.octets.specs.Names.{apnOk}
 use Rattle.profile.specs.declared.Limits.{Limits}
 use Rattle.context.specs.declared.Context.{Context}
 use Rattle.context.specs.Context.{used}

@@ -3,9 +3,9 @@ use crate::Context;
 use ber::imsi;
 use container::open;
 use container::unused;
+use octets::chars;
+use octets::names;
 use profile::Limits;
-use scdr::names;
-use scdr::text;
 ghost use mathlib.Core.Path.{_≡_};
 ghost use mathlib.Core.Bool.{_&&_};
 ghost use Rattle.context.specs.Sound.{fieldsOk, unusedOk, closedOk, countOk, containersOk, volumeOk, contextOk, zeroOk, slotOk, slotsOk};
@@ -70,8 +70,8 @@ pub fn zero_ok(c: Context) -> bool
     let q = c.qos;
     let v = c.containers;
     let none = container::profile::no_qos();
-    let a = text::zeros(&digits);
-    let b = text::zeros(&apn);
+    let a = chars::zeros(&digits);
+    let b = chars::zeros(&apn);
     let d = container::profile::same_qos(q, none);
     let e = unused::unused_blank(v, 0);
     (c.active == 0)

@@ -6,8 +6,8 @@ use lib.ListN.{take}
 use Rattle.ber.specs.Imsi.{imsiOk, halves, leading, allF}
 use Rattle.ber.specs.Int.{spelt, octetsFrom, numberIn}
 use Rattle.container.specs.Qos.{qosOk}
-use Rattle.scdr.specs.Rules.{allOf, apnChar, release}
-use Rattle.event.specs.Fields.{wholeLength, activateOk, fieldsOk}
+use Rattle.octets.specs.Chars.{allOf, apnChar}
+use Rattle.event.specs.Fields.{release, wholeLength, activateOk, fieldsOk}
 use Rattle.event.specs.Rows.{firstFit, rows, marked, known, measured}
 use Rattle.event.specs.Event.{eventOf, saidBy, decoded}
 use Rattle.event.specs.Sample.{activate, traffic, released, named}

@@ -11,8 +11,8 @@ use Rattle.format.proofs.Tests.{by, T-true, true-T, and-l, and-r}
 use Rattle.ber.specs.Imsi.{imsiOk}
 use Rattle.container.specs.declared.Qos.{Qos}
 use Rattle.container.specs.Qos.{qosOk}
-use Rattle.scdr.specs.Rules.{allOf, apnChar, release}
-use Rattle.event.specs.Fields.{kindOf, timeOf, nameOf, qosAt, flagsOf, imsiOf, countOf, apnOf, activationOf, causeOf, wholeLength, activateOk, fieldsOk}
+use Rattle.octets.specs.Chars.{allOf, apnChar}
+use Rattle.event.specs.Fields.{release, kindOf, timeOf, nameOf, qosAt, flagsOf, imsiOf, countOf, apnOf, activationOf, causeOf, wholeLength, activateOk, fieldsOk}
 use Rattle.event.specs.Rows.{row, firstFit, rows, marked, known, measured}
 use Rattle.event.specs.Event.{eventOf, kindNumber, saidBy, decoded}
 use Rattle.event.specs.Private.Activated.{Activated}

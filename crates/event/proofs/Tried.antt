@@ -9,9 +9,9 @@ use lib.ListN.{length, List·getD-eq-default}
 use borrow.Author.Tests.{lt-ltb, le-ltb, lt-leb, ne-eqb, not-true, not-false}
 use Rattle.ber.specs.Imsi.{imsiRoom}
 use Rattle.container.specs.Qos.{qosOk}
-use Rattle.scdr.specs.Rules.{allOf, apnChar, release}
-use Rattle.scdr.proofs.Answering.{imsi-room}
-use Rattle.event.specs.Fields.{kindOf, qosAt, flagsOf, imsiOf, countOf, apnOf, causeOf, activateOk, fieldsOk}
+use Rattle.octets.specs.Chars.{allOf, apnChar}
+use Rattle.event.specs.Fields.{release, kindOf, qosAt, flagsOf, imsiOf, countOf, apnOf, causeOf, activateOk, fieldsOk}
+use Rattle.ber.proofs.Imsis.{imsi-room}
 use Rattle.event.specs.Rows.{firstFit, rows, marked, known, measured}
 
 -- ---- what a test's answer says

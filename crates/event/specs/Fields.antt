@@ -1,6 +1,6 @@
 -- The fields of an event, as 01's table of kinds has them: where they stand, how long the event is, what is in range. Each is a
 -- value for any octets. Assumes nothing.
-use mathlib.Core.Bool.{Bool, true, cond, _&&_}
+use mathlib.Core.Bool.{Bool, true, cond, _&&_, _||_}
 use mathlib.Core.List.{List}
 use Prim.Native.Nat.{ℕ, _+_, _/_, _%_}
 use lib.Dec.{leb, eqb}
@@ -9,7 +9,7 @@ use Rattle.ber.specs.Imsi.{imsiOk}
 use Rattle.ber.specs.Int.{numberIn}
 use Rattle.container.specs.declared.Qos.{Qos}
 use Rattle.container.specs.Qos.{qosOk}
-use Rattle.scdr.specs.Rules.{allOf, apnChar, release}
+use Rattle.octets.specs.Chars.{allOf, apnChar}
 use Rattle.event.specs.declared.Name.{Name}
 use Rattle.event.specs.declared.Activation.{Activation}
 
@@ -90,6 +90,10 @@ activateOk s =
     && leb 1 (countOf s)
     && leb (countOf s) 63
     && allOf apnChar (apnOf s)
+
+-- a release has cause 0, 4 or 18
+unfoldable pub release : ℕ → Bool
+release c = eqb c 0 || eqb c 4 || eqb c 18
 
 -- of a QoS its profile, of a release its cause; the other kinds have nothing that could be out of range
 unfoldable pub fieldsOk : ℕ → List ℕ → Bool

@@ -21,11 +21,11 @@ pub fn qos_at(s: &[u8], at: usize) -> Qos
     requires { ⌜ at < 256 ⌝ }
     ensures { λ r. ⌜ r ≡ qosAt at (now (s .entry)) ⌝ }
 {
-    let reliability = number::octet(s, at);
-    let delay = number::octet(s, at + 1);
-    let precedence = number::octet(s, at + 2);
-    let peak = number::octet(s, at + 3);
-    let mean = number::octet(s, at + 4);
+    let reliability = octets::octet(s, at);
+    let delay = octets::octet(s, at + 1);
+    let precedence = octets::octet(s, at + 2);
+    let peak = octets::octet(s, at + 3);
+    let mean = octets::octet(s, at + 4);
     Qos {
         reliability,
         delay,
@@ -40,11 +40,11 @@ pub fn activation_of(s: &[u8]) -> Activation
     ensures { λ r. ⌜ r ≡ activationOf (now (s .entry)) ⌝ }
 {
     let name = name_of(s);
-    let flags = number::octet(s, 15);
+    let flags = octets::octet(s, 15);
     let pdptype = number::two(s, 24);
     let address = number::four(s, 26);
     let qos = qos_at(s, 30);
-    let apnlen = number::size(number::octet(s, 35));
+    let apnlen = number::size(octets::octet(s, 35));
     Activation {
         name,
         network: flags % 2 == 1,

@@ -1,5 +1,4 @@
 // Where an event ends in a file of events, which has no framing: its kind says how long it is.
-use crate::number;
 use crate::rows;
 ghost use mathlib.Core.Path.{_≡_};
 ghost use Rattle.event.specs.Framing.{nextLength};
@@ -11,8 +10,8 @@ pub fn next_length(s: &[u8]) -> usize
 {
     let here = s.len();
     let known = rows::is_known(s);
-    let k = number::octet(s, 2);
-    let n = number::octet(s, 35);
+    let k = octets::octet(s, 2);
+    let n = octets::octet(s, 35);
     let whole = rows::whole_length(k, n);
     if known & (whole <= here) {
         return whole;

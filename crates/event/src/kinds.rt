@@ -27,7 +27,7 @@ fn release_of(s: &[u8]) -> Event
     ensures { λ r. ⌜ r ≡ releaseOf (now (s .entry)) ⌝ }
 {
     let name = fields::name_of(s);
-    let cause = number::octet(s, 15);
+    let cause = octets::octet(s, 15);
     Event::Release(name, cause)
 }
 
@@ -35,7 +35,7 @@ fn release_of(s: &[u8]) -> Event
 pub fn event_of(s: &[u8]) -> Event
     ensures { λ r. ⌜ r ≡ eventOf (kindOf (now (s .entry))) (now (s .entry)) ⌝ }
 {
-    let k = number::octet(s, 2);
+    let k = octets::octet(s, 2);
     if k == 1 {
         let a = fields::activation_of(s);
         return Event::Activate(a);

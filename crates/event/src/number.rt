@@ -1,17 +1,7 @@
 // Numbers at a place of an event, big-endian. Octets past the end are 0.
 ghost use mathlib.Core.Path.{_≡_};
 ghost use Prim.Native.Nat.{_^_, _≤_, _<_};
-ghost use lib.ListN.{getD};
 ghost use Rattle.ber.specs.Int.{numberIn};
-
-pub fn octet(s: &[u8], at: usize) -> u8
-    ensures { λ r. ⌜ r ≡ getD (now (s .entry)) at 0 ⌝ }
-{
-    if at < s.len() {
-        return s[at];
-    }
-    0
-}
 
 pub fn wide(x: u8) -> u32
     ensures { λ r. ⌜ (r ≡ x) × (r < 256) ⌝ }
@@ -33,7 +23,7 @@ fn number_in(s: &[u8], at: usize, k: usize) -> u32
     let mut n: u32 = 0;
     let mut i: usize = 0;
     while i < k {
-        n = n * 256 + wide(octet(s, at + i));
+        n = n * 256 + wide(octets::octet(s, at + i));
         i += 1;
     }
     n

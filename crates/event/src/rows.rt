@@ -3,24 +3,24 @@ use crate::fields;
 use crate::number;
 use ber::imsi;
 use container::profile;
-use scdr::closing;
-use scdr::text;
+use octets::chars;
+use octets::chars::Class;
 ghost use mathlib.Core.Path.{_≡_};
-ghost use Rattle.event.specs.Fields.{kindOf, wholeLength, activateOk, fieldsOk};
+ghost use Rattle.event.specs.Fields.{kindOf, wholeLength, activateOk, release, fieldsOk};
 ghost use Rattle.event.specs.Rows.{firstFit, rows, marked, known, measured};
 
 // The mark C3 5E.
 fn is_marked(s: &[u8]) -> bool
     ensures { λ r. ⌜ r ≡ marked (now (s .entry)) ⌝ }
 {
-    (number::octet(s, 0) == 0xC3) & (number::octet(s, 1) == 0x5E)
+    (octets::octet(s, 0) == 0xC3) & (octets::octet(s, 1) == 0x5E)
 }
 
 // Kind 1 to 7.
 pub fn is_known(s: &[u8]) -> bool
     ensures { λ r. ⌜ r ≡ known (now (s .entry)) ⌝ }
 {
-    let k = number::octet(s, 2);
+    let k = octets::octet(s, 2);
     (1 <= k) & (k <= 7)
 }
 
@@ -50,8 +50,8 @@ pub fn whole_length(k: u8, n: u8) -> usize
 fn is_measured(s: &[u8]) -> bool
     ensures { λ r. ⌜ r ≡ measured (now (s .entry)) ⌝ }
 {
-    let k = number::octet(s, 2);
-    let n = number::octet(s, 35);
+    let k = octets::octet(s, 2);
+    let n = octets::octet(s, 35);
     s.len() == whole_length(k, n)
 }
 
@@ -62,20 +62,27 @@ fn activate_ok(s: &[u8]) -> bool
     if s.len() < 36 {
         return false;
     }
-    let flags = number::octet(s, 15);
+    let flags = octets::octet(s, 15);
     let digits = imsi::imsi_size(&s[16..24]);
     let q = fields::qos_at(s, 30);
     let qos = profile::qos_ok(q);
-    let n = number::octet(s, 35);
-    let apn = text::apn_chars(&s[36..]);
+    let n = octets::octet(s, 35);
+    let apn = chars::all_chars(Class::Apn, &s[36..]);
     (flags <= 3) & !(digits == 0) & qos & (1 <= n) & (n <= 63) & apn
+}
+
+// A release has cause 0, 4 or 18.
+fn is_release(cause: u8) -> bool
+    ensures { λ r. ⌜ r ≡ release cause ⌝ }
+{
+    (cause == 0) | (cause == 4) | (cause == 18)
 }
 
 // The fields of the kind in range.
 fn fields_ok(s: &[u8]) -> bool
     ensures { λ r. ⌜ r ≡ fieldsOk (kindOf (now (s .entry))) (now (s .entry)) ⌝ }
 {
-    let k = number::octet(s, 2);
+    let k = octets::octet(s, 2);
     if k == 1 {
         return activate_ok(s);
     }
@@ -83,8 +90,8 @@ fn fields_ok(s: &[u8]) -> bool
         return profile::qos_ok(fields::qos_at(s, 15));
     }
     if k == 5 {
-        let cause = number::octet(s, 15);
-        return closing::is_release(cause);
+        let cause = octets::octet(s, 15);
+        return is_release(cause);
     }
     true
 }

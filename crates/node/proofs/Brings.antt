@@ -14,9 +14,11 @@ use Rattle.ber.proofs.Imsis.{imsi-rules}
 use Rattle.container.specs.Qos.{qosOk}
 use Rattle.container.specs.Open.{volumeOf}
 use Rattle.container.proofs.Opens.{open-none, padded-rest}
-use Rattle.scdr.specs.Rules.{allOf, isZero, apnChar, apnOk}
-use Rattle.scdr.specs.Layout.{fillTo}
-use Rattle.scdr.proofs.Tails.{take-fill, fill-length, padded-length}
+use Rattle.octets.specs.Chars.{allOf, isZero, apnChar}
+use Rattle.octets.specs.Names.{apnOk}
+use Rattle.octets.specs.Filled.{fillTo}
+use Rattle.octets.proofs.Filled.{take-fill, fill-length}
+use Rattle.container.proofs.Padded.{padded-length}
 use Rattle.profile.specs.declared.Profile.{Profile}
 use Rattle.profile.specs.Profile.{profileOk}
 use Rattle.event.specs.declared.Name.{Name}

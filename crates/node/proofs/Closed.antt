@@ -19,8 +19,10 @@ use Rattle.container.specs.List.{listOk, padded, blanks}
 use Rattle.container.specs.Open.{openOk, volumeOf}
 use Rattle.container.proofs.Opens.{open-closes, open-since, padded-rest}
 use Rattle.scdr.specs.declared.Record.{Record}
-use Rattle.scdr.specs.Rules.{apnOk, release, causeOk, numberOk, changeOk, listRule, within}
-use Rattle.scdr.proofs.Tails.{take-padded}
+use Rattle.octets.specs.Names.{apnOk}
+use Rattle.event.specs.Fields.{release as releases}
+use Rattle.scdr.specs.Rules.{release, causeOk, numberOk, changeOk, listRule, within}
+use Rattle.container.proofs.Padded.{take-padded}
 use Rattle.profile.specs.declared.Limits.{Limits}
 use Rattle.profile.specs.declared.Profile.{Profile}
 use Rattle.context.specs.declared.Context.{Context}
@@ -115,6 +117,11 @@ test-is : (b : Bool) (n : ℕ) {k : ℕ} → test b n ≡ some k → k ≡ n
 test-is true n {k} e = let z : n ≡ k = cc in sym z
 test-is false n {k} e = absurd (let z : _≡_ {A = ℕ} 0 1 = cc in omega arith)
 
+-- what an event may release with is what a record may lack a number with
+release-same : (cause : ℕ) → releases cause ≡ release cause
+unfolding releases release
+release-same cause = refl
+
 -- what closes a record, unless it is a release, has a cause of its own
 record Cause (cause : ℕ) : Type 0 where
   known : causeOk cause ≡ true
@@ -195,7 +202,7 @@ module _ (p : Profile) (t : ℕ) (c : Context) (a : Apt p t c) (size : length (c
   closed-within M.Tariff cause f e = closes-other c kept refl (other-cause (p .limits) c t M.Tariff refl e)
   closed-within (M.Release k) cause f e =
       let z : k ≡ cause = cc in
-      let r : release cause ≡ true = rw z at f in
+      let r : release cause ≡ true = sym (release-same cause) ∙ (rw z at f) in
       closes-with c kept refl true cause (release-cause cause r) (released-number c (apt-roomy p t c a .closed) cause r)
   closed-within M.Tick cause f e = closes-other c kept refl (other-cause (p .limits) c t M.Tick refl e)
   closed-within M.Management cause f e = closes-other c kept refl (other-cause (p .limits) c t M.Management refl e)

@@ -8,7 +8,7 @@ use lib.ListN.{length}
 use borrow.Author.Tests.{leb-true}
 use Rattle.format.proofs.Tests.{both}
 use Rattle.container.specs.Open.{volumeOf}
-use Rattle.scdr.specs.Rules.{nodeOk}
+use Rattle.octets.specs.Names.{nodeOk}
 use Rattle.profile.specs.declared.Limits.{Limits}
 use Rattle.profile.specs.declared.Profile.{Profile}
 use Rattle.profile.specs.Profile.{limitsOk, profileOk}

@@ -9,7 +9,7 @@ use mir.Val.{Val}
 use denote.Array.{each}
 use denote.Shadow.{shadow}
 use denote.Laws.{Is}
-use Rattle.scdr.proofs.Tails.{length-of-map}
+use Rattle.format.proofs.Arrays.{length-of-map}
 use Rattle.history.specs.Lists.{All}
 use Rattle.context.specs.declared.Context.{Context}
 use Rattle.context.proofs.Context.{the-field}

@@ -20,7 +20,7 @@ use Rattle.container.proofs.Opens.{volume-more, open-none, open-later, open-mor
 use Rattle.scdr.specs.declared.Record.{Record}
 use Rattle.scdr.specs.Rules.{shaped, within}
 use Rattle.scdr.specs.Layout.{scdr}
-use Rattle.scdr.proofs.Tails.{take-padded, padded-length}
+use Rattle.container.proofs.Padded.{take-padded, padded-length}
 use Rattle.scdr.proofs.Answering.{shaped-is}
 use Rattle.scdr.proofs.Theorems.{at-most-1024, round-trip}
 use Rattle.profile.specs.declared.Limits.{Limits}

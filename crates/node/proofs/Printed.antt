@@ -11,10 +11,13 @@ use Rattle.container.specs.Qos.{qosOk, sameQos, qos}
 use Rattle.container.specs.Container.{containerOk, isNew, told, container}
 use Rattle.container.specs.List.{eachOk, oneOffset, containers, noContainers, isBlank, blanks}
 use Rattle.container.specs.Open.{midway, timesTo, qosRun, openOk, volumeOf}
-use Rattle.scdr.specs.Rules.{allOf, apnChar, nodeChar, apnOk, nodeOk, release, lastTime, duration}
-use Rattle.scdr.specs.Layout.{body, fillTo, ofRecord, fieldsOf, inside, scdr}
+use Rattle.octets.specs.Chars.{allOf, apnChar, nodeChar}
+use Rattle.octets.specs.Names.{apnOk, nodeOk}
+use Rattle.scdr.specs.Rules.{release, lastTime, duration}
+use Rattle.octets.specs.Filled.{fillTo}
+use Rattle.scdr.specs.Layout.{body, ofRecord, fieldsOf, inside, scdr}
 use Rattle.scdr.specs.Sample.{printed}
-use Rattle.event.specs.Fields.{wholeLength, activateOk, fieldsOk}
+use Rattle.event.specs.Fields.{wholeLength, activateOk, release as releases, fieldsOk}
 use Rattle.event.specs.Rows.{firstFit, marked, known, measured}
 use Rattle.event.specs.Event.{eventOf}
 use Rattle.event.specs.Sample.{activate, traffic, released}
@@ -23,15 +26,14 @@ use Rattle.context.specs.Sound.{fieldsOk as storedOk, unusedOk, closedOk, count
 use Rattle.context.specs.Slots.{sameName, isActive, isFree, bears, noneBears, distinct}
 use Rattle.node.specs.Hear.{reported, qosAfter, changeOf, reached, closing, changed, opened, numberFor, recordOf, goesOn, closedBy, afterClosing, hearWith, hear}
 use Rattle.node.specs.Sound.{sound}
-use Rattle.node.specs.Step.{activated, markedOctets, octetsOf, nodeAfter, recordsOf, output}
-use Rattle.node.specs.Step.{notActive, isActive as wasActive, allTaken, refusals, outcome, stepOf}
+use Rattle.node.specs.Step.{activated, markedOctets, octetsOf, nodeAfter, recordsOf, output, notActive, isActive as wasActive, allTaken, refusals, outcome, stepOf}
 use Rattle.node.specs.Sample.{at, named, answers, session, first, second, third}
 
 -- time 0: activate; time 5: 400 up, 599 down; time 6: release 0. The last writes the mark and the record that 01 prints.
 pub one-session : session (activate ∷ traffic ∷ released 0 ∷ []) ≡ (0, []) ∷ (0, []) ∷ (0, 0xC3 ∷ 0x5A ∷ printed) ∷ []
 unfolding intEnc lowest lenEnc tlvEnc halves leading allF imsiOk imsiEnc monthLen seek monthDay stampOk stampEnc qosOk sameQos containerOk
     isNew told eachOk oneOffset noContainers isBlank blanks midway timesTo qosRun openOk volumeOf allOf apnChar nodeChar apnOk nodeOk
-    release lastTime duration body fillTo ofRecord fieldsOf inside scdr printed spelt octetsFrom numberIn wholeLength activateOk fieldsOk
+    release releases lastTime duration body fillTo ofRecord fieldsOf inside scdr printed spelt octetsFrom numberIn wholeLength activateOk fieldsOk
     firstFit marked known measured eventOf activate traffic released limitsOk profileOk storedOk unusedOk closedOk countOk containersOk
     volumeOk contextOk zeroOk slotOk slotsOk sameName isActive isFree bears noneBears distinct reported qosAfter changeOf reached closing
     changed opened numberFor recordOf goesOn closedBy afterClosing hearWith hear sound activated markedOctets octetsOf nodeAfter recordsOf
@@ -43,7 +45,7 @@ pub other-session : session (activate ∷ traffic ∷ at 2 6 (named (0 ∷ 0 ∷
     ≡ (0, []) ∷ (0, []) ∷ (0, first) ∷ (0, []) ∷ (0, []) ∷ (0, second) ∷ (0, third) ∷ []
 unfolding first second third intEnc lowest lenEnc tlvEnc halves leading allF imsiOk imsiEnc monthLen seek monthDay stampOk stampEnc qosOk
     sameQos containerOk isNew told eachOk oneOffset noContainers isBlank blanks midway timesTo qosRun openOk volumeOf allOf apnChar nodeChar
-    apnOk nodeOk release lastTime duration body fillTo ofRecord fieldsOf inside scdr spelt octetsFrom numberIn wholeLength activateOk
+    apnOk nodeOk release releases lastTime duration body fillTo ofRecord fieldsOf inside scdr spelt octetsFrom numberIn wholeLength activateOk
     fieldsOk firstFit marked known measured eventOf activate traffic limitsOk profileOk storedOk unusedOk closedOk countOk containersOk
     volumeOk contextOk zeroOk slotOk slotsOk sameName isActive isFree bears noneBears distinct reported qosAfter changeOf reached closing
     changed opened numberFor recordOf goesOn closedBy afterClosing hearWith hear sound activated markedOctets octetsOf nodeAfter recordsOf

@@ -8,7 +8,7 @@ use denote.Array.{Array, each}
 use denote.Shadow.{shadow}
 use denote.Laws.{Is}
 use denote.Struct.Field.{Field}
-use Rattle.scdr.proofs.Tails.{length-of-map}
+use Rattle.format.proofs.Arrays.{length-of-map}
 use Rattle.history.specs.Lists.{All}
 use Rattle.context.specs.declared.Context.{Context}
 use Rattle.context.proofs.Context.{the-field}

@@ -10,7 +10,7 @@ use lib.ListN.{length}
 use borrow.Author.Tests.{eqb-true, not-true as not-true-false}
 use Rattle.format.proofs.Tests.{both, by}
 use Rattle.scdr.specs.declared.Record.{Record}
-use Rattle.scdr.specs.Layout.{fillTo}
+use Rattle.octets.specs.Filled.{fillTo}
 use Rattle.container.specs.List.{noContainers}
 use Rattle.profile.specs.declared.Limits.{Limits}
 use Rattle.profile.specs.declared.Profile.{Profile}

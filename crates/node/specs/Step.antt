@@ -9,7 +9,8 @@ use lib.ListN.{length, drop}
 use Rattle.container.specs.declared.Qos.{Qos}
 use Rattle.container.specs.List.{padded}
 use Rattle.scdr.specs.declared.Record.{Record}
-use Rattle.scdr.specs.Layout.{scdr, fillTo}
+use Rattle.octets.specs.Filled.{fillTo}
+use Rattle.scdr.specs.Layout.{scdr}
 use Rattle.profile.specs.declared.Profile.{Profile}
 use Rattle.event.specs.declared.Name.{Name}
 use Rattle.event.specs.declared.Activation.{Activation}

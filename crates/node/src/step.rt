@@ -21,7 +21,7 @@ ghost use lib.Dec.{eqb};
 ghost use lib.ListN.{length, set};
 ghost use Rattle.event.specs.Fields.{imsiOf, apnOf};
 ghost use Rattle.event.specs.Private.Activated.{Activated};
-ghost use Rattle.scdr.specs.Layout.{fillTo};
+ghost use Rattle.octets.specs.Filled.{fillTo};
 ghost use Rattle.node.specs.Sound.{mostAccepted};
 ghost use Rattle.node.specs.Step.{Steps, broughtBy, activated};
 ghost use Rattle.node.specs.Private.Told.{Fair, Ready};

@@ -7,7 +7,7 @@ use native.Mathlib.Nat.{add-zero}
 use native.Mathlib.Omega.{arith}
 use Rattle.scdr.specs.declared.Record as scdr
 use Rattle.scdr.specs.Rules.{duration}
-use Rattle.scdr.proofs.Tails.{take-padded}
+use Rattle.container.proofs.Padded.{take-padded}
 use Rattle.profile.specs.declared.Profile.{Profile}
 use Rattle.profile.specs.Profile.{profileOk}
 use Rattle.event.specs.declared.Name.{Name}

@@ -12,7 +12,7 @@ use Rattle.format.proofs.Tests.{by}
 use Rattle.container.specs.declared.Container.{Container}
 use Rattle.scdr.specs.declared.Record as scdr
 use Rattle.scdr.specs.Rules.{lastTime, duration}
-use Rattle.scdr.proofs.Tails.{take-padded}
+use Rattle.container.proofs.Padded.{take-padded}
 use Rattle.profile.specs.declared.Profile.{Profile}
 use Rattle.event.specs.declared.Name.{Name}
 use Rattle.event.specs.Fields.{kindOf}

@@ -18,8 +18,8 @@ use Rattle.container.specs.Open.{volumeOf}
 use Rattle.container.proofs.Goods.{same-qos}
 use Rattle.scdr.specs.declared.Record as scdr
 use Rattle.ber.specs.Field.{orZero}
-use Rattle.scdr.specs.Layout.{fillTo}
-use Rattle.scdr.proofs.Tails.{take-padded}
+use Rattle.octets.specs.Filled.{fillTo}
+use Rattle.container.proofs.Padded.{take-padded}
 use Rattle.profile.specs.declared.Profile.{Profile}
 use Rattle.event.specs.declared.Name.{Name}
 use Rattle.context.specs.declared.Context.{Context}

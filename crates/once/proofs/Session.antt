@@ -17,8 +17,10 @@ use Rattle.container.specs.Container.{isNew, told, container}
 use Rattle.container.specs.List.{containers, noContainers, eachOk, oneOffset, isBlank, blanks}
 use Rattle.container.specs.Open.{midway, timesTo, qosRun, openOk, volumeOf}
 use Rattle.scdr.specs.declared.Record as scdr
-use Rattle.scdr.specs.Layout.{fillTo}
-use Rattle.scdr.specs.Rules.{lastTime, duration, allOf, apnChar, nodeChar, apnOk, nodeOk, release}
+use Rattle.octets.specs.Filled.{fillTo}
+use Rattle.octets.specs.Chars.{allOf, apnChar, nodeChar}
+use Rattle.octets.specs.Names.{apnOk, nodeOk}
+use Rattle.scdr.specs.Rules.{lastTime, duration, release}
 use Rattle.scdr.specs.Sample.{only, sample, printed}
 use Rattle.scdr.proofs.Printed.{sample-octets}
 use Rattle.scdr.specs.Layout as layout
@@ -122,7 +124,7 @@ unfolding activate traffic released printed spelt octetsFrom numberIn fillTo noC
     step.stepOf step.outcome step.refusals step.notActive step.isActive step.allTaken step.output step.recordsOf step.octetsOf step.markedOctets
     step.nodeAfter step.activated
     firstFit rows.marked known measured wholeLength fields.fieldsOk activateOk eventOf
-    imsiOk halves leading allF qosOk allOf apnChar release nodeChar
+    imsiOk halves leading allF qosOk allOf apnChar release fields.release nodeChar
     sound profileOk limitsOk nodeOk apnOk stampOk distinct slots.isActive isFree bears noneBears sameName
     context.fieldsOk unusedOk closedOk countOk containersOk volumeOk contextOk zeroOk slotOk slotsOk openOk eachOk midway oneOffset timesTo qosRun volumeOf isBlank blanks sameQos
     reported qosAfter changeOf closing opened numberFor recordOf goesOn closedBy afterClosing hearWith hear

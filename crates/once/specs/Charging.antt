@@ -16,7 +16,7 @@ use Rattle.container.specs.Qos.{sameQos}
 use Rattle.container.specs.List.{padded}
 use Rattle.scdr.specs.declared.Record as scdr
 use Rattle.ber.specs.Field.{orZero}
-use Rattle.scdr.specs.Layout.{fillTo}
+use Rattle.octets.specs.Filled.{fillTo}
 use Rattle.profile.specs.declared.Limits.{Limits}
 use Rattle.profile.specs.declared.Profile.{Profile}
 use Rattle.event.specs.declared.Name.{Name}

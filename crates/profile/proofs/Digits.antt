@@ -7,9 +7,9 @@ use native.Mathlib.Omega.{arith}
 use lib.Dec.{leb, ltb, eqb}
 use lib.ListN.{length, getD, length-append, List·getD-append}
 use borrow.Author.Tests.{leb-true, leb-false, ltb-true, ltb-false, le-leb, lt-ltb, le-ltb, eq-eqb, ne-eqb, not-true}
-use Rattle.scdr.specs.Rules.{allOf}
+use Rattle.octets.specs.Chars.{allOf, digit}
 use Rattle.profile.specs.Fault.{unless}
-use Rattle.profile.specs.Number.{digit, padded, digits, numberFault, numeral}
+use Rattle.profile.specs.Number.{padded, digits, numberFault, numeral}
 use Rattle.profile.specs.Print.{digitsIn, numberText}
 use Rattle.profile.specs.declared.text.Fault.the-variants.{None, Number, Zero}
 use Rattle.profile.proofs.Numbers.{by, numeral-le}

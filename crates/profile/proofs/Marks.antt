@@ -11,7 +11,7 @@ use lib.ListN.{length, take, drop, take-append-drop, drop-of-length-le, length-d
 use lib.Seq.{take-at, take-all, drop-length}
 use borrow.Author.Tests.{lt-ltb, eq-eqb, eqb-true}
 use Rattle.bytes.specs.Bytes.{slice, indexAfter, indexOf}
-use Rattle.scdr.specs.Rules.{allOf}
+use Rattle.octets.specs.Chars.{allOf}
 use Rattle.profile.specs.Cut.{has, upTo, past, begins}
 use Rattle.profile.proofs.Numbers.{by}
 use Rattle.profile.proofs.Firsts.{clash, both}

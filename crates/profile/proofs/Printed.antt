@@ -3,7 +3,7 @@ use mathlib.Core.Path.{_≡_, refl}
 use mathlib.Core.List.{[], _∷_, _++_}
 use Prim.Native.Nat.{ℕ, _-_, _^_}
 use lib.ListN.{take}
-use Rattle.scdr.specs.Rules.{allOf}
+use Rattle.octets.specs.Chars.{allOf}
 use Rattle.profile.specs.Fault.{unless, orBad}
 use Rattle.profile.specs.Cut.{has, upTo, past, begins}
 use Rattle.profile.specs.Number.{numberFault, numeral, atMost}

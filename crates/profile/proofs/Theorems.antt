@@ -7,7 +7,8 @@ use native.Mathlib.Omega.{arith}
 use lib.Dec.{leb}
 use lib.ListN.{length, take, drop, getD}
 use borrow.Author.Tests.{leb-true, eq-eqb}
-use Rattle.scdr.specs.Rules.{allOf, nodeChar, isZero, nodeOk}
+use Rattle.octets.specs.Chars.{allOf, nodeChar, isZero}
+use Rattle.octets.specs.Names.{nodeOk}
 use Rattle.profile.specs.Profile.{limitsOk, profileOk}
 use Rattle.profile.specs.Cut.{has, past}
 use Rattle.profile.specs.Line.{space, valueAt}

@@ -8,9 +8,10 @@ use lib.Dec.{leb, eqb}
 use lib.ListN.{length, take, drop, getD, replicate, take-append-drop, length-drop, replicate-append-replicate, List·getD-append}
 use lib.Seq.{take-at, length-take-le}
 use borrow.Author.Tests.{leb-true, leb-false, le-leb, eqb-true, eqb-false, ne-eqb}
-use Rattle.scdr.specs.Rules.{allOf, nodeChar, isZero, nodeOk}
+use Rattle.octets.specs.Chars.{allOf, digit, nodeChar, isZero}
+use Rattle.octets.specs.Names.{nodeOk}
 use Rattle.profile.specs.Cut.{has, past}
-use Rattle.profile.specs.Number.{digit, numeral, atMost}
+use Rattle.profile.specs.Number.{numeral, atMost}
 use Rattle.profile.specs.Address.{dot, octetOk, octetOf, addressOk, addressOf}
 use Rattle.profile.specs.Offset.{westFault, offsetFault, east, west, zoneOf}
 use Rattle.profile.specs.Node.{nodeOctets}

@@ -1,17 +1,13 @@
--- Numbers in decimal digits. Assumes nothing.
+-- Numbers in decimal digits.
 use mathlib.Core.Bool.{Bool, not, cond, _&&_}
 use mathlib.Core.List.{List, [], _∷_}
 use Prim.Native.Nat.{ℕ, _+_, _-_, _*_}
 use lib.Dec.{leb, ltb, eqb}
 use lib.ListN.{length, getD}
-use Rattle.scdr.specs.Rules.{allOf}
+use Rattle.octets.specs.Chars.{allOf, digit}
 use Rattle.profile.specs.Fault.{unless}
 use Rattle.profile.specs.declared.text.Fault.{Fault}
 use Rattle.profile.specs.declared.text.Fault.the-variants.{None, Number, Zero}
-
--- '0' to '9'
-abbrev pub digit : ℕ → Bool
-digit x = leb 48 x && leb x 57
 
 -- a zero before another digit
 abbrev pub padded : List ℕ → Bool

@@ -3,7 +3,7 @@ use mathlib.Core.Bool.{Bool, _&&_}
 use Prim.Native.Nat.{_^_}
 use lib.Dec.{leb}
 use lib.ListN.{replicate}
-use Rattle.scdr.specs.Rules.{nodeOk}
+use Rattle.octets.specs.Names.{nodeOk}
 use Rattle.profile.specs.declared.Limits.{Limits}
 use Rattle.profile.specs.declared.Profile.{Profile}
 

@@ -6,16 +6,6 @@ ghost use lib.ListN.{length, getD, take, drop};
 ghost use Rattle.bytes.specs.Bytes.{indexOf};
 ghost use Rattle.profile.specs.Cut.{has, upTo, past, begins};
 
-// The octet at a place, and 0 past the end.
-pub fn octet(s: &[u8], at: usize) -> u8
-    ensures { λ r. ⌜ r ≡ getD (now (s .entry)) at 0 ⌝ }
-{
-    if at < s.len() {
-        return s[at];
-    }
-    0
-}
-
 // How many octets stand before the first x; all of them where there is none.
 fn ahead(s: &[u8], x: u8) -> usize
     ensures { λ r. ⌜ (r ≡ indexOf x (now (s .entry))) × (r ≤ length (now (s .entry))) ⌝ }

@@ -12,7 +12,7 @@ mod number;
 mod offset;
 pub mod text;
 
-use scdr::names;
+use octets::names;
 ghost use mathlib.Core.Path.{_≡_};
 ghost use Rattle.profile.specs.Profile.{limitsOk, profileOk, noProfile};
 

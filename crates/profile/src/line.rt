@@ -45,8 +45,8 @@ pub fn value(s: &[u8], n: u8) -> &[u8]
 fn spaced(kind: Kind, t: &[u8]) -> bool
     ensures { λ r. ⌜ r ≡ spaced kind (now (t .entry)) ⌝ }
 {
-    let first = cut::octet(t, 0) == b' ';
-    let second = cut::octet(t, 1) == b' ';
+    let first = octets::octet(t, 0) == b' ';
+    let second = octets::octet(t, 1) == b' ';
     match kind {
         Kind::Dotted => return first & !second,
         Kind::Digits => return first & !second,

@@ -1,39 +1,18 @@
 // Numbers in decimal digits.
-use crate::cut;
 use crate::fault;
 use crate::text::Fault;
+use octets::chars;
+use octets::chars::Class;
 ghost use mathlib.Core.Path.{_≡_};
 ghost use Prim.Native.Nat.{_+_, _-_, _*_, _^_};
-ghost use Rattle.scdr.specs.Rules.{allOf};
-ghost use Rattle.profile.specs.Number.{atMost, digit, numeral, numberFault};
-
-// A digit 0 to 9.
-fn is_digit(x: u8) -> bool
-    ensures { λ r. ⌜ r ≡ digit x ⌝ }
-{
-    (b'0' <= x) & (x <= b'9')
-}
-
-// Are all of v digits?
-pub fn digits(v: &[u8]) -> bool
-    ensures { λ r. ⌜ r ≡ allOf digit (now (v .entry)) ⌝ }
-{
-    let mut i = 0;
-    while i < v.len() {
-        if !is_digit(v[i]) {
-            return false;
-        }
-        i += 1;
-    }
-    true
-}
+ghost use Rattle.profile.specs.Number.{atMost, numeral, numberFault};
 
 // What is wrong with v as a number.
 pub fn number_fault(v: &[u8]) -> Fault
     ensures { λ r. ⌜ r ≡ numberFault (now (v .entry)) ⌝ }
 {
-    let whole = digits(v) & (1 <= v.len());
-    let padded = (cut::octet(v, 0) == b'0') & (1 < v.len());
+    let whole = chars::all_chars(Class::Digit, v) & (1 <= v.len());
+    let padded = (octets::octet(v, 0) == b'0') & (1 < v.len());
     fault::unless(
         whole,
         Fault::Number,

@@ -3,6 +3,8 @@ use crate::cut;
 use crate::fault;
 use crate::number;
 use crate::text::Fault;
+use octets::chars;
+use octets::chars::Class;
 ghost use mathlib.Core.Path.{_≡_};
 ghost use Rattle.profile.specs.Offset.{minus, westFault, offsetFault, east, west, zoneOf};
 
@@ -10,15 +12,15 @@ ghost use Rattle.profile.specs.Offset.{minus, westFault, offsetFault, ea
 fn is_minus(v: &[u8]) -> bool
     ensures { λ r. ⌜ r ≡ minus (now (v .entry)) ⌝ }
 {
-    cut::octet(v, 0) == b'-'
+    octets::octet(v, 0) == b'-'
 }
 
 // What is wrong with the digits after a sign.
 fn west_fault(v: &[u8]) -> Fault
     ensures { λ r. ⌜ r ≡ westFault (now (v .entry)) ⌝ }
 {
-    let whole = number::digits(v) & (1 <= v.len());
-    let nonzero = !(cut::octet(v, 0) == b'0');
+    let whole = chars::all_chars(Class::Digit, v) & (1 <= v.len());
+    let nonzero = !(octets::octet(v, 0) == b'0');
     fault::unless(
         whole,
         Fault::Number,

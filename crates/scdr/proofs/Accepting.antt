@@ -28,7 +28,8 @@ use Rattle.scdr.specs.Answers.{readOf, ReadsRecord}
 use Rattle.scdr.specs.Apn.{walk, walkIn, cut, apnPlace, apnOf, ShowsApn}
 use Rattle.scdr.specs.Private.Taken.{Taken, NotTaken}
 use Rattle.scdr.proofs.Bodied.{body-law}
-use Rattle.scdr.proofs.Tails.{fill-length, padded-length}
+use Rattle.octets.proofs.Filled.{fill-length}
+use Rattle.container.proofs.Padded.{padded-length}
 use Rattle.scdr.proofs.Answering.{shaped-is}
 
 -- ---- the value under A0

@@ -1,37 +1,29 @@
--- The answers of the test of the rules, of the writer and of the reader. Assumes nothing.
+-- The answers of the test of the rules, of the writer and of the reader.
 use mathlib.Core.Path.{_≡_, sym, ap, _∙_}
-use mathlib.Core.Bool.{Bool, true, false, not, _&&_}
+use mathlib.Core.Bool.{Bool, true, false, _&&_}
 use mathlib.Core.Option.{Option, some}
 use mathlib.Core.List.{List, _++_, append-nil}
 use Prim.Native.Nat.{ℕ, _+_, _^_, _≤_, _<_}
 use native.Mathlib.Omega.{arith}
 use lib.Dec.{T, leb, eqb}
 use lib.ListN.{length, take, drop}
-use borrow.Author.Tests.{le-leb, lt-leb, lt-ltb, eq-eqb, ne-eqb}
+use borrow.Author.Tests.{le-leb, lt-leb, lt-ltb, eq-eqb}
 use Rattle.format.proofs.Tests.{by, either, true-T, and-i}
-use Rattle.ber.specs.Imsi.{imsiOk, imsiRoom, imsiSize}
+use Rattle.ber.specs.Imsi.{imsiOk}
 use Rattle.ber.specs.Tlv.{tlvEnc, tlvForm}
 use Rattle.ber.specs.Read.{nowhere}
 use Rattle.ber.specs.Write.{put, Puts}
-use Rattle.ber.proofs.Imsis.{imsi-rules}
 use Rattle.ber.proofs.Tlvs.{tlv-yes, tlv-length}
 use Rattle.calendar.specs.Stamp.{stampOk}
 use Rattle.container.specs.List.{listOk, blanks}
 use Rattle.scdr.specs.declared.Record.{Record}
-use Rattle.scdr.specs.Rules.{apnOk, nodeOk, listRule, causeOk, numberOk, changeOk, shaped, within}
+use Rattle.octets.specs.Names.{apnOk, nodeOk}
+use Rattle.scdr.specs.Rules.{listRule, causeOk, numberOk, changeOk, shaped, within}
 use Rattle.scdr.specs.Layout.{body, ofRecord, rules, inside, scdr}
 use Rattle.scdr.specs.Answers.{writeOf, Writes, sizeOf, Sizes}
 use Rattle.scdr.proofs.Theorems.{at-most-1024}
 
 -- ---- the rules
-
--- an IMSI is what has room in a record
-pub imsi-room : (s : List ℕ) → not (eqb (imsiRoom s) 0) ≡ imsiOk s
-unfolding imsiRoom
-imsi-room s =
-    by (imsiOk s)
-    (λ a. let i = imsi-rules s (true-T (imsiOk s) a) in rw (a, ne-eqb (imsiSize s) 0 (λ e. omega (arith, i .least))))
-    (λ a. rw a)
 
 pub within-is : (r : Record) {a b c d e f g h k : Bool} → a ≡ imsiOk (r .imsi) → b ≡ apnOk (r .apn) (r .apnlen) → c ≡ stampOk (r .opening)
     → d ≡ (leb (r .count) 15 && listOk (r .opening) (take (r .count) (r .containers))) → k ≡ blanks (drop (r .count) (r .containers))

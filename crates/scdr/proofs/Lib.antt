@@ -1,4 +1,3 @@
-pub mod Tails
 pub mod Views
 pub mod Bodied
 pub mod Theorems
@@ -7,10 +6,8 @@ pub mod Listed
 pub mod Printed
 pub mod Bodies
 pub mod Answering
-pub mod Pieced
 pub mod Walks
 pub mod Reading
 pub mod Accepting
-pub mod Chars
-pub mod Namings
+pub mod Durations
 pub mod Fixes

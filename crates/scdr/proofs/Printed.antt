@@ -14,8 +14,11 @@ use Rattle.calendar.specs.Stamp.{stampOk, stampEnc}
 use Rattle.container.specs.Qos.{qosOk, sameQos, qos}
 use Rattle.container.specs.Container.{containerOk, isNew, told, container}
 use Rattle.container.specs.List.{eachOk, lastAlone, oneOffset, inOrder, qosRule, listOk, containers, noContainers, isBlank, blanks}
-use Rattle.scdr.specs.Rules.{allOf, apnChar, nodeChar, apnOk, nodeOk, listRule, release, causeOk, numberOk, changeOk, shaped, within, lastTime, duration}
-use Rattle.scdr.specs.Layout.{body, fillTo, ofRecord, fieldsOf, rules, inside, scdr}
+use Rattle.octets.specs.Chars.{allOf, apnChar, nodeChar}
+use Rattle.octets.specs.Names.{apnOk, nodeOk}
+use Rattle.scdr.specs.Rules.{listRule, release, causeOk, numberOk, changeOk, shaped, within, lastTime, duration}
+use Rattle.octets.specs.Filled.{fillTo}
+use Rattle.scdr.specs.Layout.{body, ofRecord, fieldsOf, rules, inside, scdr}
 use Rattle.scdr.specs.Apn.{walk, walkIn, ifRead, apnPlace}
 use Rattle.scdr.specs.declared.Record.{Record}
 use Rattle.scdr.specs.Sample.{only, sample, printed}

@@ -26,10 +26,11 @@ use Rattle.calendar.specs.declared.Stamp.{Stamp}
 use Rattle.calendar.specs.Stamp.{stamp}
 use Rattle.container.specs.declared.Container.{Container}
 use Rattle.container.specs.Container.{noStamp}
-use Rattle.container.specs.List.{containers}
+use Rattle.container.specs.List.{containers, ListsAt}
 use Rattle.scdr.specs.declared.Record.{Record}
-use Rattle.scdr.specs.Layout.{body, fillTo, fieldsOf}
-use Rattle.scdr.specs.Private.Pieces.{ListsAt, Wired}
+use Rattle.octets.specs.Filled.{fillTo}
+use Rattle.scdr.specs.Layout.{body, fieldsOf}
+use Rattle.scdr.specs.Private.Pieces.{Wired}
 use Rattle.scdr.proofs.Bodied.{Number, Name}
 use Rattle.scdr.proofs.Views.{made}
 use Rattle.scdr.proofs.Walks.{Finds, lives, finds-over, finds-flag, finds-here}

@@ -15,10 +15,15 @@ use Rattle.calendar.specs.Stamp.{stampOk}
 use Rattle.container.specs.List.{listOk, blanks, padded}
 use Rattle.container.proofs.Turns.{blanks-are}
 use Rattle.scdr.specs.declared.Record.{Record}
-use Rattle.scdr.specs.Rules.{allOf, isZero, apnChar, nodeChar, apnOk, nodeOk, listRule, causeOk, numberOk, changeOk, shaped, within, duration, durationFrom}
+use Rattle.octets.specs.Chars.{allOf, isZero, apnChar, nodeChar}
+use Rattle.octets.specs.Names.{apnOk, nodeOk}
+use Rattle.scdr.specs.Rules.{listRule, causeOk, numberOk, changeOk, shaped, within, duration, durationFrom}
 use Rattle.ber.specs.Text.{orNone}
-use Rattle.scdr.specs.Layout.{Fields, body, fillTo, ofRecord, fieldsOf, toRecord, durationRight, rules}
-use Rattle.scdr.proofs.Tails.{take-fill, fill-take, take-padded, padded-take, zeros-are, octets-back, octets-kept}
+use Rattle.octets.specs.Filled.{fillTo}
+use Rattle.scdr.specs.Layout.{Fields, body, ofRecord, fieldsOf, toRecord, durationRight, rules}
+use Rattle.octets.proofs.Filled.{take-fill, fill-take, zeros-are}
+use Rattle.container.proofs.Padded.{take-padded, padded-take}
+use Rattle.ber.proofs.Texts.{octets-back, octets-kept}
 
 -- ---- the rules one by one
 
@@ -164,7 +169,7 @@ fields-back (_, (network, (imsi, (sgsn, (id, (ggsn, (apn, (pdptype, (address, (c
     ap (durationFrom (o .seconds)) l ∙ sym (eqb→eq lasts (durationFrom (o .seconds) cs) t) in
     let n : unless0 (orZero number) ≡ number = number-back 0x95 number (last .0) in
     let s : unlessNone (take (length (orNone node)) (fillTo 20 0 (orNone node))) ≡ node =
-    ap unlessNone (take-fill 20 0 (orNone node)) ∙ octets-back node (last .1 .0) in
+    ap unlessNone (take-fill 20 0 (orNone node)) ∙ octets-back 0x96 20 node (last .1 .0) in
     λ i. tt ⨾ network ⨾ imsi ⨾ sgsn ⨾ id ⨾ ggsn ⨾ a i ⨾ pdptype ⨾ address ⨾ l i ⨾ o ⨾ d i ⨾ change ⨾ cause ⨾ n i ⨾ s i ⨾ tt
 
 -- ---- from a record to fields and back

@@ -9,7 +9,8 @@ use lib.ListN.{length, drop}
 use Rattle.container.specs.List.{padded}
 use Rattle.scdr.specs.declared.Record.{Record}
 use Rattle.scdr.specs.Rules.{within}
-use Rattle.scdr.specs.Layout.{scdr, fillTo}
+use Rattle.octets.specs.Filled.{fillTo}
+use Rattle.scdr.specs.Layout.{scdr}
 
 -- 11: the record is longer than the output buffer
 abbrev pub noRoom : ℕ

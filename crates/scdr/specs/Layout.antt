@@ -1,11 +1,12 @@
--- The record's octets (12.15's SGSNPDPRecord): A0, and inside the fields in ascending order. Assumes nothing.
+-- The record's octets (12.15's SGSNPDPRecord): A0, and inside the fields in ascending order.
 use mathlib.Core.Bool.{Bool, _&&_}
 use mathlib.Core.Option.{Option}
-use mathlib.Core.List.{List, [], _∷_, _++_}
-use Prim.Native.Nat.{ℕ, _-_, _^_}
+use mathlib.Core.List.{List, [], _∷_}
+use Prim.Native.Nat.{ℕ, _^_}
 use lib.Dec.{ltb, eqb}
-use lib.ListN.{length, take, replicate}
+use lib.ListN.{length, take}
 use Rattle.format.specs.Format.{Fmt, exactly, refined, viewed}
+use Rattle.octets.specs.Filled.{fillTo}
 use Rattle.ber.specs.Int.{int, counted}
 use Rattle.ber.specs.Field.{field, end, alone, optional, flag, between, anyOctet, unless0, orZero, unlessNone, _▸_, _⊗_, _⨾_}
 use Rattle.ber.specs.Fixed.{fixed, ipv4}
@@ -61,10 +62,6 @@ body =
     ▸ end
 
 -- ---- between a record and its fields
-
--- xs and as many d as fill it up to n
-unfoldable pub fillTo : {A : Type 0} → ℕ → A → List A → List A
-fillTo n d xs = xs ++ replicate (n - length xs) d
 
 -- the fields of a record that lasted so long
 unfoldable pub fieldsOf : Record → ℕ → Fields

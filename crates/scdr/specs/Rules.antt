@@ -1,9 +1,10 @@
--- "Record within the rules", as 01 lists them. Assumes nothing.
-use mathlib.Core.Bool.{Bool, true, not, cond, _&&_, _||_}
+-- "Record within the rules", as 01 lists them.
+use mathlib.Core.Bool.{Bool, not, cond, _&&_, _||_}
 use mathlib.Core.List.{List, [], _∷_}
 use Prim.Native.Nat.{ℕ, _-_, _^_}
 use lib.Dec.{leb, ltb, eqb}
 use lib.ListN.{length, take, drop}
+use Rattle.octets.specs.Names.{apnOk, nodeOk}
 use Rattle.ber.specs.Imsi.{imsiOk}
 use Rattle.calendar.specs.Stamp.{stampOk}
 use Rattle.container.specs.declared.Container.{Container}
@@ -11,29 +12,6 @@ use Rattle.container.specs.List.{listOk, blanks}
 use Rattle.scdr.specs.declared.Record.{Record}
 
 -- ---- values
-
-unfoldable pub allOf : (ℕ → Bool) → List ℕ → Bool
-allOf p [] = true
-allOf p (x ∷ xs) = p x && allOf p xs
-
--- an access point name has letters, digits, '.' and '-'
-unfoldable pub apnChar : ℕ → Bool
-apnChar x = (leb 0x41 x && leb x 0x5A) || (leb 0x61 x && leb x 0x7A) || (leb 0x30 x && leb x 0x39) || eqb x 0x2E || eqb x 0x2D
-
--- a node ID has characters 20 to 7E
-unfoldable pub nodeChar : ℕ → Bool
-nodeChar x = leb 0x20 x && leb x 0x7E
-
-abbrev pub isZero : ℕ → Bool
-isZero x = eqb x 0
-
--- an access point name of 1 to 63 characters, its unused octets zero
-unfoldable pub apnOk : List ℕ → ℕ → Bool
-apnOk apn n = leb 1 n && leb n 63 && allOf apnChar (take n apn) && allOf isZero (drop n apn)
-
--- a node ID of 0 to 20 characters, its unused octets zero
-unfoldable pub nodeOk : List ℕ → ℕ → Bool
-nodeOk node n = leb n 20 && allOf nodeChar (take n node) && allOf isZero (drop n node)
 
 -- 1 to 15 containers that keep the rules of their list, and unused places that are zero
 unfoldable pub listRule : Record → Bool

@@ -5,7 +5,7 @@ use Prim.Native.Nat.{ℕ}
 use Rattle.container.specs.declared.Container.{Container}
 use Rattle.container.specs.List.{padded}
 use Rattle.scdr.specs.declared.Record.{Record}
-use Rattle.scdr.specs.Layout.{fillTo}
+use Rattle.octets.specs.Filled.{fillTo}
 
 -- 400 up and 599 down, released at second 6, offset 0 (zone 720)
 unfoldable pub only : Container

@@ -1,7 +1,6 @@
 // The reader of a record's fields: straight-line code, each field from where the last ended. A field that is not there answers
 // NOWHERE, and every later one fails from there by itself.
 use crate::Record;
-use crate::pieces;
 use ber::address;
 use ber::count;
 use ber::field;
@@ -9,6 +8,8 @@ use ber::fixed;
 use ber::flag;
 use ber::imsi;
 use ber::text;
+use ber::word;
+use container::field as containers;
 use container::stamp;
 ghost use Rattle.scdr.specs.Private.Pieces.{Wired};
 
@@ -29,13 +30,13 @@ pub fn read_fields(s: &[u8]) -> Wire
     let b = flag::flag_at(s, a, 0x81);
     let c = imsi::imsi_at(s, b.next, 0x83);
     let d = address::address_at(s, c.next, 0xA5);
-    let e = pieces::id_at(s, d.next, 0x8A);
+    let e = word::word_at(s, d.next, 0x8A);
     let f = address::address_at(s, e.next, 0xAB);
     let mut apn = [0u8; 63];
     let g = text::octets_at(s, f.next, 0x8C, 1, &mut apn);
     let h = fixed::pair_at(s, g.next, 0x8D);
     let i = address::address_in_at(s, h.next, 0xAE);
-    let j = pieces::list_at(s, i.next, 0xAF);
+    let j = containers::list_at(s, i.next, 0xAF);
     let k = stamp::stamp_at(s, j.next, 0x90);
     let l = field::int_at(s, k.next, 0x91);
     let m = flag::flag_at(s, l.next, 0x92);

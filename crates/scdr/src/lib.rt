@@ -3,12 +3,9 @@ mod body;
 pub mod closing;
 mod duration;
 mod fields;
-pub mod names;
 mod parts;
-mod pieces;
 pub mod read;
 pub mod rules;
-pub mod text;
 pub mod write;
 
 use calendar::Stamp;

@@ -1,10 +1,10 @@
 // A record within the rules.
 use crate::Record;
 use crate::closing;
-use crate::names;
 use ber::imsi;
 use container::rules;
 use container::unused;
+use octets::names;
 ghost use mathlib.Core.Path.{_≡_};
 ghost use Rattle.scdr.specs.Rules.{within};
 

@@ -1,7 +1,7 @@
 -- `context::no_context` meets its contract. Assumes nothing.
 use borrow.Author.Needs.{needs}
 use Rattle.container.specs.List.{noContainers}
-use Rattle.scdr.specs.Layout.{fillTo}
+use Rattle.octets.specs.Filled.{fillTo}
 use Rattle.context.proofs.no_context.Statement.{statement}
 use Rattle.context.proofs.no_context.Tie as tie
 

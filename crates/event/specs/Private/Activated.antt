@@ -6,7 +6,7 @@ use Prim.Native.Nat.{ℕ, _+_, _≤_}
 use lib.ListN.{length}
 use Rattle.ber.specs.Imsi.{imsiOk}
 use Rattle.container.specs.Qos.{qosOk}
-use Rattle.scdr.specs.Rules.{allOf, apnChar}
+use Rattle.octets.specs.Chars.{allOf, apnChar}
 use Rattle.event.specs.Fields.{flagsOf, imsiOf, apnOf, activationOf}
 use Rattle.event.specs.declared.Activation.{Activation}
 

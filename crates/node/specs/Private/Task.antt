@@ -6,7 +6,7 @@ use Prim.Native.Nat.{ℕ, _+_}
 use lib.Dec.{leb, ltb}
 use lib.ListN.{set}
 use Rattle.container.specs.Qos.{qosOk}
-use Rattle.scdr.specs.Rules.{release}
+use Rattle.event.specs.Fields.{release}
 use Rattle.event.specs.declared.Name.{Name}
 use Rattle.event.specs.declared.Activation.{Activation}
 use Rattle.event.specs.declared.Event.{Event}

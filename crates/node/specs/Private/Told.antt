@@ -7,7 +7,7 @@ use Prim.Native.Nat.{ℕ, _^_, _≤_, _<_}
 use lib.ListN.{drop}
 use Rattle.container.specs.Qos.{qosOk}
 use Rattle.container.specs.List.{blanks}
-use Rattle.scdr.specs.Rules.{release}
+use Rattle.event.specs.Fields.{release}
 use Rattle.profile.specs.declared.Profile.{Profile}
 use Rattle.profile.specs.Profile.{profileOk}
 use Rattle.context.specs.declared.Context.{Context}

@@ -1,23 +1,13 @@
--- What the readers of a record's pieces answer. Assumes nothing.
+-- What the readers of a record's pieces answer.
 use mathlib.Core.Path.{_≡_}
 use mathlib.Core.Bool.{true, false}
 use mathlib.Core.Option.{none, some}
-use mathlib.Core.List.{List, []}
+use mathlib.Core.List.{List}
 use Prim.Native.Nat.{ℕ, _-_, _≤_}
 use lib.ListN.{length, take, drop}
-use Rattle.ber.specs.Field.{first}
-use Rattle.ber.specs.Read.{Reads}
-use Rattle.container.specs.declared.Container.{Container}
-use Rattle.container.specs.List.{containers, padded}
 use Rattle.scdr.specs.declared.fields.Wire.{Wire}
 use Rattle.scdr.specs.Layout.{body, fieldsOf, toRecord}
 use Rattle.scdr.specs.Apn.{walk}
-
--- a list of containers read under the tag, in an array whose other places hold nothing
-pub record ListsAt (s : List ℕ) (at t n : ℕ) (v : List Container) (next : ℕ) : Type 0 where
-  pub reads : Reads [] (first t containers) s at (take n v) next
-  pub rest : v ≡ padded (take n v)
-  pub count : length (take n v) ≡ n
 
 -- what was read of all of s as the fields of a record: they are what the body's format reads, and the record has them and nothing else
 pub record Wired (s : List ℕ) (w : Wire) : Type 0 where

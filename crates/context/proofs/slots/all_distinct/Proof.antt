@@ -5,7 +5,7 @@ use Prim.Native.Nat.{_+_, _-_}
 use native.Mathlib.Omega.{arith}
 use lib.ListN.{length}
 use borrow.Author.Needs.{needs}
-use Rattle.scdr.proofs.Tails.{length-of-map}
+use Rattle.format.proofs.Arrays.{length-of-map}
 use Rattle.context.specs.Slots.{distinct}
 use Rattle.context.proofs.Scans.{Rest, rest-all, rest-no, rest-next, rest-end, alone, alone-asks, distinct-asks}
 use Rattle.context.proofs.slots.all_distinct.Statement.{statement}

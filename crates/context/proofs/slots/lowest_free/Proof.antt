@@ -4,7 +4,7 @@ use Prim.Native.Nat.{_-_}
 use native.Mathlib.Omega.{arith}
 use lib.ListN.{length}
 use borrow.Author.Needs.{needs}
-use Rattle.scdr.proofs.Tails.{length-of-map}
+use Rattle.format.proofs.Arrays.{length-of-map}
 use Rattle.context.specs.Slots.{isFree}
 use Rattle.context.proofs.Scans.{Scan, scan-all, scan-here, scan-next, scan-end}
 use Rattle.context.proofs.slots.lowest_free.Statement.{statement}

@@ -4,7 +4,7 @@ use Prim.Native.Nat.{_-_}
 use native.Mathlib.Omega.{arith}
 use lib.ListN.{length}
 use borrow.Author.Needs.{needs}
-use Rattle.scdr.proofs.Tails.{length-of-map}
+use Rattle.format.proofs.Arrays.{length-of-map}
 use Rattle.context.proofs.Scans.{Copied, copied-none, copied-more, copied-all}
 use Rattle.context.proofs.slots.slots_of.Statement.{statement}
 use Rattle.context.proofs.slots.slots_of.Tie as tie

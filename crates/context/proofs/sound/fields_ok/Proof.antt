@@ -4,7 +4,7 @@ use mathlib.Core.Bool.{not}
 use Prim.Native.Nat.{ℕ}
 use lib.Dec.{eqb}
 use borrow.Author.Needs.{needs}
-use Rattle.scdr.proofs.Answering.{imsi-room}
+use Rattle.ber.proofs.Imsis.{imsi-room}
 use Rattle.context.specs.Sound.{fieldsOk}
 use Rattle.context.proofs.sound.fields_ok.Statement.{statement}
 use Rattle.context.proofs.sound.fields_ok.Tie as tie

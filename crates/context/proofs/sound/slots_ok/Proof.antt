@@ -5,7 +5,7 @@ use native.Mathlib.Omega.{arith}
 use lib.ListN.{length}
 use borrow.Author.Needs.{needs}
 use borrow.Author.Tests.{not-true, not-false}
-use Rattle.scdr.proofs.Tails.{length-of-map}
+use Rattle.format.proofs.Arrays.{length-of-map}
 use Rattle.context.specs.Sound.{slotsOk}
 use Rattle.context.proofs.Scans.{Rest, rest-all, rest-no, rest-next, rest-end, slots-ask}
 use Rattle.context.proofs.sound.slots_ok.Statement.{statement}

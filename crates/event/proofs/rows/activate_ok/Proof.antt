@@ -3,8 +3,8 @@ use mathlib.Core.Path.{refl, ap, _∙_}
 use lib.ListN.{length}
 use borrow.Author.Needs.{needs}
 use Rattle.container.specs.Qos.{qosOk}
-use Rattle.scdr.specs.Rules.{allOf, apnChar}
-use Rattle.scdr.proofs.Namings.{rest-all}
+use Rattle.octets.specs.Chars.{allOf, apnChar}
+use Rattle.octets.proofs.Stored.{rest-all}
 use Rattle.event.proofs.Tried.{activate-short, activate-is}
 use Rattle.event.proofs.rows.activate_ok.Statement.{statement}
 use Rattle.event.proofs.rows.activate_ok.Tie as tie
@@ -36,17 +36,17 @@ qos-ok-requires c κs = search needs
 octet-requires-2 : tie.Need-octet-requires-2
 octet-requires-2 c κs = search needs
 
-sub-apn-chars : tie.Need-sub-apn-chars
-sub-apn-chars c = search needs
+sub-all-chars : tie.Need-sub-all-chars
+sub-all-chars c = search needs
 
-part-apn-chars-start : tie.Need-part-apn-chars-start
-part-apn-chars-start c = search needs
+part-all-chars-start : tie.Need-part-all-chars-start
+part-all-chars-start c = search needs
 
-part-apn-chars-end : tie.Need-part-apn-chars-end
-part-apn-chars-end c = search needs
+part-all-chars-end : tie.Need-part-all-chars-end
+part-all-chars-end c = search needs
 
-apn-chars-requires : tie.Need-apn-chars-requires
-apn-chars-requires c κs = search needs
+all-chars-requires : tie.Need-all-chars-requires
+all-chars-requires c κs = search needs
 
 returns-2 : tie.Need-returns-2
 returns-2 c =
@@ -56,7 +56,7 @@ returns-2 c =
     (c .before .before .before .before .before .imsi-size .ensures)
     (c .before .before .before .qos-ok .ensures ∙ ap qosOk (c .before .before .before .before .qos-at .ensures))
     (c .before .before .octet2 .ensures)
-    (c .apn-chars .ensures ∙ ap (allOf apnChar) (rest-all s (length s) 36 refl))
+    (c .all-chars .ensures ∙ ap (allOf apnChar) (rest-all s (length s) 36 refl))
 
 pub activate-ok-spec : {M : Type 1} → statement M
 activate-ok-spec =
@@ -71,8 +71,8 @@ activate-ok-spec =
     qos-at-requires
     qos-ok-requires
     octet-requires-2
-    sub-apn-chars
-    part-apn-chars-start
-    part-apn-chars-end
-    apn-chars-requires
+    sub-all-chars
+    part-all-chars-start
+    part-all-chars-end
+    all-chars-requires
     returns-2)

@@ -3,8 +3,7 @@ use mathlib.Core.Path.{ap, _∙_}
 use Prim.Native.Nat.{ℕ}
 use borrow.Author.Needs.{needs}
 use Rattle.container.specs.Qos.{qosOk}
-use Rattle.scdr.specs.Rules.{release}
-use Rattle.event.specs.Fields.{fieldsOk}
+use Rattle.event.specs.Fields.{release, fieldsOk}
 use Rattle.event.proofs.Tried.{fields-activate, fields-qos, fields-release, fields-none}
 use Rattle.event.proofs.rows.fields_ok.Statement.{statement}
 use Rattle.event.proofs.rows.fields_ok.Tie as tie

@@ -1,7 +1,7 @@
 -- `node::emit::size_of` meets its contract. Assumes nothing.
 use mathlib.Core.Path.{_≡_}
 use lib.ListN.{length}
-use Rattle.scdr.proofs.Tails.{length-of-map}
+use Rattle.format.proofs.Arrays.{length-of-map}
 use Rattle.node.specs.Hear.{closing}
 use Rattle.node.proofs.Tolds.{told-with, told-not}
 use Rattle.node.proofs.Fits.{apt-roomy, apt-ample}

@@ -4,7 +4,7 @@ use mathlib.Core.Path.{_≡_}
 use Prim.Native.Nat.{_-_}
 use native.Mathlib.Omega.{arith}
 use lib.ListN.{length}
-use Rattle.scdr.proofs.Tails.{length-of-map}
+use Rattle.format.proofs.Arrays.{length-of-map}
 use Rattle.node.proofs.Ranges.{Hearing, hearing-none, hearing-more, hearing-end, slotted, still, room}
 use borrow.Author.Needs.{needs}
 use Rattle.node.proofs.table.hear_all.Statement.{statement}

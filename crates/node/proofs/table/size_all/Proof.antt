@@ -3,7 +3,7 @@ use mathlib.Core.Path.{_≡_}
 use Prim.Native.Nat.{_-_}
 use native.Mathlib.Omega.{arith}
 use lib.ListN.{length}
-use Rattle.scdr.proofs.Tails.{length-of-map}
+use Rattle.format.proofs.Arrays.{length-of-map}
 use Rattle.node.proofs.Ranges.{Sizing, sizing-none, sizing-more, sizing-end, slotted}
 use borrow.Author.Needs.{needs}
 use Rattle.node.proofs.table.size_all.Statement.{statement}

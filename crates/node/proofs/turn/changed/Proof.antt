@@ -1,5 +1,5 @@
 -- `node::turn::changed` meets its contract. Assumes nothing.
-use Rattle.scdr.proofs.Tails.{length-of-map}
+use Rattle.format.proofs.Arrays.{length-of-map}
 use mathlib.Core.Path.{_≡_}
 use lib.ListN.{length}
 use Rattle.node.specs.Hear.{changed}

@@ -10,4 +10,4 @@ number-fault-spec =
     tie.close
     (tie.spec
     (λ c κs. search needs) (λ c κs. search needs) (λ c κs. search needs) (λ c κs. search needs)
-    (λ c. rw (c .unless2 .ensures, c .before .unless .ensures, c .before .before .octet .ensures, c .before .before .before .digits .ensures)))
+    (λ c. rw (c .unless2 .ensures, c .before .unless .ensures, c .before .before .octet .ensures, c .before .before .before .all-chars .ensures)))

@@ -11,13 +11,12 @@ use Rattle.ber.specs.Tlv.{tlvEnc}
 use Rattle.ber.proofs.Texts.{opt-value}
 use Rattle.ber.proofs.Writers.{wrote, wrote-then, wrote-is}
 use Rattle.container.specs.Container.{noContainer}
-use Rattle.container.specs.Container.{noContainer}
 use Rattle.container.specs.List.{containers, allFormed}
 use Rattle.scdr.specs.Rules.{duration}
 use Rattle.scdr.specs.Private.Parts.{endEnc}
-use Rattle.scdr.proofs.Tails.{length-of-map}
+use Rattle.format.proofs.Arrays.{length-of-map}
 use Rattle.scdr.proofs.Views.{withins, apn-rules, node-rules}
-use Rattle.scdr.proofs.Namings.{duration-is}
+use Rattle.scdr.proofs.Durations.{duration-is}
 use Rattle.scdr.proofs.Bodies.{body-parts, count-known, list-asks}
 use Rattle.scdr.proofs.body.put_body.Statement.{statement}
 use Rattle.scdr.proofs.body.put_body.Tie as tie

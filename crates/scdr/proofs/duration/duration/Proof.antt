@@ -4,7 +4,7 @@ use native.Mathlib.Omega.{arith}
 use lib.ListN.{length}
 use borrow.Author.Needs.{needs}
 use Rattle.container.specs.Container.{noContainer}
-use Rattle.scdr.proofs.Namings.{duration-none, duration-is}
+use Rattle.scdr.proofs.Durations.{duration-none, duration-is}
 use Rattle.scdr.proofs.duration.duration.Statement.{statement}
 use Rattle.scdr.proofs.duration.duration.Tie as tie
 

@@ -25,8 +25,8 @@ imsi-at-requires c κs = search needs
 address-at-requires : tie.Need-address-at-requires
 address-at-requires c κs = search needs
 
-id-at-requires : tie.Need-id-at-requires
-id-at-requires c κs = search needs
+word-at-requires : tie.Need-word-at-requires
+word-at-requires c κs = search needs
 
 address-at-requires-2 : tie.Need-address-at-requires-2
 address-at-requires-2 c κs = search needs
@@ -72,7 +72,7 @@ part-in-requires c κs = search needs
 
 returns : tie.Need-returns
 returns c =
-    wired (short (c .before .before .before .before .before .before .before .before .before .before .before .before .before .before .before .before .before .before .before .before .before .before .before .before .before .before)) (c .before .before .before .before .before .before .before .before .before .before .before .before .before .before .before .before .before .before .before .before .before .before .before .before .const-at .ensures) (c .before .before .before .before .before .before .before .before .before .before .before .before .before .before .before .before .before .before .before .before .before .before .before .flag-at .ensures) (c .before .before .before .before .before .before .before .before .before .before .before .before .before .before .before .before .before .before .before .before .before .before .imsi-at .ensures) (c .before .before .before .before .before .before .before .before .before .before .before .before .before .before .before .before .before .before .before .before .before .address-at .ensures) (c .before .before .before .before .before .before .before .before .before .before .before .before .before .before .before .before .before .before .before .before .id-at .ensures)
+    wired (short (c .before .before .before .before .before .before .before .before .before .before .before .before .before .before .before .before .before .before .before .before .before .before .before .before .before .before)) (c .before .before .before .before .before .before .before .before .before .before .before .before .before .before .before .before .before .before .before .before .before .before .before .before .const-at .ensures) (c .before .before .before .before .before .before .before .before .before .before .before .before .before .before .before .before .before .before .before .before .before .before .before .flag-at .ensures) (c .before .before .before .before .before .before .before .before .before .before .before .before .before .before .before .before .before .before .before .before .before .before .imsi-at .ensures) (c .before .before .before .before .before .before .before .before .before .before .before .before .before .before .before .before .before .before .before .before .before .address-at .ensures) (c .before .before .before .before .before .before .before .before .before .before .before .before .before .before .before .before .before .before .before .before .word-at .ensures)
     (c .before .before .before .before .before .before .before .before .before .before .before .before .before .before .before .before .before .before .before .address-at2 .ensures) (c .before .before .before .before .before .before .before .before .before .before .before .before .before .before .before .before .before .octets-at .ensures) (c .before .before .before .before .before .before .before .before .before .before .before .before .before .before .before .pair-at .ensures) (c .before .before .before .before .before .before .before .before .before .before .before .before .before .before .address-in-at .ensures) (c .before .before .before .before .before .before .before .before .before .before .before .before .before .list-at .ensures)
     (c .before .before .before .before .before .before .before .before .before .before .before .before .stamp-at .ensures) (c .before .before .before .before .before .before .before .before .before .before .before .int-at .ensures) (c .before .before .before .before .before .before .before .before .before .before .flag-at2 .ensures) (c .before .before .before .before .before .before .before .before .before .octet-at .ensures) (c .before .before .before .before .before .before .before .before .count-at .ensures) (c .before .before .before .before .before .before .text-at .ensures)
     refl refl (c .before .before .before .before .part-in .ensures)
@@ -85,7 +85,7 @@ read-fields-spec =
     flag-at-requires
     imsi-at-requires
     address-at-requires
-    id-at-requires
+    word-at-requires
     address-at-requires-2
     slice-aggregate-octets-at
     octets-at-requires

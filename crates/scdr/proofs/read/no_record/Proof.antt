@@ -2,7 +2,7 @@
 use mathlib.Core.Path.{refl}
 use borrow.Author.Needs.{needs}
 use Rattle.container.specs.List.{noContainers}
-use Rattle.scdr.specs.Layout.{fillTo}
+use Rattle.octets.specs.Filled.{fillTo}
 use Rattle.scdr.proofs.read.no_record.Statement.{statement}
 use Rattle.scdr.proofs.read.no_record.Tie as tie
 

@@ -4,7 +4,8 @@ use mathlib.Core.Bool.{not}
 use Prim.Native.Nat.{ℕ}
 use lib.Dec.{eqb}
 use borrow.Author.Needs.{needs}
-use Rattle.scdr.proofs.Answering.{imsi-room, within-is}
+use Rattle.ber.proofs.Imsis.{imsi-room}
+use Rattle.scdr.proofs.Answering.{within-is}
 use Rattle.scdr.proofs.rules.within.Statement.{statement}
 use Rattle.scdr.proofs.rules.within.Tie as tie
 

@@ -4,7 +4,7 @@ use lib.Dec.{T}
 use borrow.Author.Needs.{needs}
 use Rattle.format.proofs.Tests.{true-T}
 use Rattle.scdr.specs.Rules.{shaped}
-use Rattle.scdr.proofs.Tails.{length-of-map}
+use Rattle.format.proofs.Arrays.{length-of-map}
 use Rattle.scdr.proofs.Answering.{shaped-is, sizes}
 use Rattle.scdr.proofs.write.record_size.Statement.{statement}
 use Rattle.scdr.proofs.write.record_size.Tie as tie

@@ -10,7 +10,7 @@ use Rattle.format.proofs.Tests.{and-i, true-T}
 use Rattle.ber.proofs.Writers.{puts-is, filled}
 use Rattle.scdr.specs.Rules.{shaped, within}
 use Rattle.scdr.specs.Layout.{rules}
-use Rattle.scdr.proofs.Tails.{length-of-map}
+use Rattle.format.proofs.Arrays.{length-of-map}
 use Rattle.scdr.proofs.Answering.{shaped-is, writes-outside, body-short, octets-form, writes-full, writes-done}
 use Rattle.scdr.proofs.write.write_record.Statement.{statement}
 use Rattle.scdr.proofs.write.write_record.Tie as tie
