@@ -4,6 +4,7 @@ pub mod Lists
 pub mod Turns
 pub mod Opens
 pub mod Padded
+pub mod OpenRules
 pub mod Listings
 pub mod Printed
 pub mod Fixes

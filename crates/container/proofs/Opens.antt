@@ -1,5 +1,5 @@
 -- The containers of an open record: one more of them, the one that closes the record, what they leave of a limit, and the array that
--- holds them. Assumes nothing.
+-- holds them.
 use mathlib.Core.Path.{_≡_, refl, sym, ap, _∙_}
 use mathlib.Core.Bool.{Bool, true, false, not, _&&_, and-true, and-false, and-assoc}
 use mathlib.Core.List.{List, [], _∷_, _++_}
@@ -13,10 +13,11 @@ use borrow.Author.Tests.{not-true, not-false, leb-true, leb-false, ltb-true, ltb
 use Rattle.format.proofs.Tests.{both}
 use Rattle.container.specs.declared.Qos.{Qos}
 use Rattle.container.specs.declared.Container.{Container}
-use Rattle.container.specs.declared.open.Run.{Run}
+use Rattle.container.specs.declared.held.Run.{Run}
 use Rattle.container.specs.Container.{containerOk}
 use Rattle.container.specs.List.{eachOk, lastAlone, oneOffset, inOrder, changes, qosRule, listOk, noContainers, padded, blanks, isBlank}
-use Rattle.container.specs.Open.{midway, timesTo, qosRun, openOk, volumeOf, heldOk}
+use Rattle.container.specs.Open.{midway, timesTo, qosRun, openOk, volumeOf}
+use Rattle.container.specs.Private.Held.{heldOk}
 use Rattle.container.specs.Private.Turns.{precedes, turned}
 use Rattle.container.proofs.Turns.{blanks-are, are-blanks}
 

@@ -1,12 +1,79 @@
--- The containers of a record that is still open, and the running one after them (01, "A sound node"). Assumes nothing.
+-- A record that is still open: what becomes of it, what the limits say of it (01, "What an event does"), and its rules (01, "A sound node").
 use mathlib.Core.Bool.{Bool, true, _&&_}
 use mathlib.Core.List.{List, [], _∷_}
-use Prim.Native.Nat.{ℕ, _+_}
-use lib.Dec.{leb, ltb}
-use lib.ListN.{take, drop}
+use Prim.Native.Nat.{ℕ, _+_, _-_, _^_}
+use lib.Dec.{leb, ltb, eqb}
+use lib.ListN.{take, drop, set}
+use Rattle.calendar.specs.declared.Stamp.{Stamp}
 use Rattle.container.specs.declared.Qos.{Qos}
 use Rattle.container.specs.declared.Container.{Container}
-use Rattle.container.specs.List.{eachOk, oneOffset, changes, blanks}
+use Rattle.container.specs.declared.OpenRecord.{OpenRecord}
+use Rattle.container.specs.Qos.{qosOk, sameQos, noQos}
+use Rattle.container.specs.Container.{noStamp}
+use Rattle.container.specs.List.{eachOk, oneOffset, changes, blanks, padded}
+
+-- ---- what becomes of it
+
+-- the containers that have ended in it
+abbrev pub used : OpenRecord → List Container
+used o = take (o .count) (o .containers)
+
+-- "opens a record now with empty counters, no containers, change count 0"
+abbrev pub opened : Stamp → Qos → OpenRecord
+opened now q = record { opening = now; qos = q; uplink = 0; downlink = 0; changes = 0; containers = padded []; count = 0 }
+
+-- no record: all zero
+abbrev pub noOpen : OpenRecord
+noOpen = opened noStamp noQos
+
+-- "Traffic adds both volumes; a report is never divided."
+abbrev pub reported : OpenRecord → ℕ → ℕ → OpenRecord
+reported o up down = record {
+  opening = o .opening;
+  qos = o .qos;
+  uplink = o .uplink + up;
+  downlink = o .downlink + down;
+  changes = o .changes;
+  containers = o .containers;
+  count = o .count;
+}
+
+-- "A container holds the QoS in force while it was counted, its volumes, its ending condition and time."
+abbrev pub running : OpenRecord → ℕ → Stamp → Container
+running o condition now = record { qos = o .qos; uplink = o .uplink; downlink = o .downlink; condition = condition; time = now }
+
+-- the running container has ended: it stands after the others, and nothing is counted
+abbrev pub ended : OpenRecord → ℕ → Stamp → OpenRecord
+ended o condition now = record {
+  opening = o .opening;
+  qos = o .qos;
+  uplink = 0;
+  downlink = 0;
+  changes = o .changes;
+  containers = set (o .containers) (o .count) (running o condition now);
+  count = o .count + 1;
+}
+
+-- a change that closes nothing: the running container has ended, and the next one runs under q
+abbrev pub changed : OpenRecord → ℕ → Stamp → Qos → OpenRecord
+changed o condition now q = record {
+  opening = o .opening;
+  qos = q;
+  uplink = 0;
+  downlink = 0;
+  changes = o .changes + 1;
+  containers = set (o .containers) (o .count) (running o condition now);
+  count = o .count + 1;
+}
+
+-- What the code can do at all: counters that can take a report more, and a place for one container more. Every open record of a sound node has both.
+abbrev pub ample : OpenRecord → Bool
+ample o = ltb (o .uplink) (2 ^ 63) && ltb (o .downlink) (2 ^ 63)
+
+abbrev pub roomy : OpenRecord → Bool
+roomy o = ltb (o .count) 15
+
+-- ---- the containers of an open record, and the running one after them
 
 -- conditions 0 or 1: none of them ended the record
 unfoldable pub midway : List Container → Bool
@@ -33,6 +100,46 @@ unfoldable pub volumeOf : List Container → ℕ
 volumeOf [] = 0
 volumeOf (c ∷ cs) = c .uplink + c .downlink + volumeOf cs
 
--- an array that holds the containers of an open record in its first n places, with less counted in them than a limit, and nothing after them
-unfoldable pub heldOk : ℕ → ℕ → Qos → ℕ → ℕ → ℕ → List Container → Bool
-heldOk zone opening q now limit n v = openOk zone opening q now (take n v) && blanks (drop n v) && ltb (volumeOf (take n v)) limit
+-- ---- what the limits say
+
+-- "uplink plus downlink since the record opened is at least the volume limit"
+abbrev pub volumeMet : ℕ → OpenRecord → Bool
+volumeMet limit o = leb limit (volumeOf (used o) + o .uplink + o .downlink)
+
+-- "now minus opening is at least the time limit"
+abbrev pub timeMet : ℕ → ℕ → OpenRecord → Bool
+timeMet limit now o = leb limit (now - o .opening .seconds)
+
+-- "the record's QoS and tariff changes reach the change limit", with one more
+abbrev pub changesMet : ℕ → OpenRecord → Bool
+changesMet limit o = leb limit (o .changes + 1)
+
+-- ---- its rules in a sound node
+
+-- "unused container places all zero"
+unfoldable pub unusedOk : OpenRecord → Bool
+unusedOk o = blanks (drop (o .count) (o .containers))
+
+-- "container count equals change count and is below the change limit"
+unfoldable pub countOk : ℕ → OpenRecord → Bool
+countOk limit o = eqb (o .count) (o .changes) && ltb (o .changes) limit
+
+-- "conditions 0 or 1; opening ≤ container times in order ≤ clock; QoS differs from one container to the next, or to the running one,
+-- exactly after condition 0"; each container's values in range; every stored time has the profile's offset
+unfoldable pub containersOk : ℕ → ℕ → OpenRecord → Bool
+containersOk zone clock o = eqb (o .opening .zone) zone && openOk zone (o .opening .seconds) (o .qos) clock (used o)
+
+-- "all volumes of the open record sum below the volume limit"
+unfoldable pub volumeOk : ℕ → OpenRecord → Bool
+volumeOk limit o = ltb (volumeOf (used o) + o .uplink + o .downlink) limit
+
+-- under a volume limit and a change limit, with this offset, at this clock
+unfoldable pub soundOpen : ℕ → ℕ → ℕ → ℕ → OpenRecord → Bool
+soundOpen volume changes zone clock o =
+    qosOk (o .qos) && unusedOk o && countOk changes o && containersOk zone clock o && volumeOk volume o
+
+-- every field zero
+unfoldable pub blankOpen : OpenRecord → Bool
+blankOpen o =
+    eqb (o .opening .seconds) 0 && eqb (o .opening .zone) 0 && sameQos (o .qos) noQos && eqb (o .uplink) 0 && eqb (o .downlink) 0
+    && eqb (o .changes) 0 && blanks (o .containers) && eqb (o .count) 0

@@ -2,10 +2,12 @@
 // has. The S-CDR of the SGSN and the G-CDR of the gateway share them.
 //
 // profile has the QoS, stamp the time stamp under a tag, single one container, list the list as octets, field the list under a tag,
-// rules what must hold between the containers of a record, open those of a record that is not closed yet, unused the places of an array after them.
+// rules what must hold between the containers of a record, open a record that is not closed yet, held its containers, unused the
+// places of an array after them.
 //
 // No public function has a `requires`: each answers for every input.
 pub mod field;
+mod held;
 pub mod list;
 pub mod open;
 pub mod profile;
@@ -33,4 +35,17 @@ pub struct Container {
     pub downlink: u64,
     pub condition: u8,
     pub time: calendar::Stamp,
+}
+
+// A record that is still open: when it opened, the QoS in force, what was counted under it since the last container ended, how many QoS
+// and tariff changes there were, and the containers that these ended. Places that are not used are zero.
+#[repr(C)]
+pub struct OpenRecord {
+    pub opening: calendar::Stamp,
+    pub qos: Qos,
+    pub uplink: u64,
+    pub downlink: u64,
+    pub changes: u8,
+    pub containers: [Container; 15],
+    pub count: usize,
 }

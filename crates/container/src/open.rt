@@ -1,111 +1,166 @@
-// The containers of a record that is still open, with the running one after them (01, "A sound node").
+// A record that is still open (01, "What an event does" and "A sound node"): what a report, a change and a closing make of it, what the
+// limits say of it, and its rules in a sound node. A context of the SGSN has one, and a gateway's will.
+//
+// Where a number could not grow or a container has no place, the record is as it was: no sound node comes to that.
 use crate::Container;
+use crate::OpenRecord;
 use crate::Qos;
-use crate::rules;
+use crate::held;
+use crate::profile;
 use crate::single;
 use crate::unused;
+use calendar::Stamp;
 ghost use mathlib.Core.Path.{_≡_};
-ghost use Prim.Native.Nat.{_-_};
-ghost use lib.ListN.{take};
-ghost use Rattle.container.specs.Open.{heldOk, volumeOf};
-ghost use Rattle.container.specs.Private.Turns.{precedes, turned};
+ghost use mathlib.Core.Bool.{cond, _&&_};
+ghost use lib.Dec.{ltb};
+ghost use Rattle.container.specs.Open.{noOpen, opened, reported, running, ended, changed, ample, roomy};
+ghost use Rattle.container.specs.Open.{volumeMet, timeMet, changesMet, soundOpen, blankOpen};
 
-// Are the first n containers of v those of a record that opened at a time in a zone, with q in force now, with less counted in them than
-// a limit, and is every place after them zero? From the last place to the first, in one turn: an array is copied for each function that
-// takes it.
-pub fn held_ok(
-    v: [Container; 15],
-    n: usize,
-    zone: u16,
-    opening: u32,
-    q: Qos,
-    now: u32,
-    limit: u64,
-) -> bool
-    ensures { λ r. ⌜ r ≡ heldOk zone opening q now limit n v ⌝ }
+// A record that opens now, with nothing counted.
+pub fn opened(now: Stamp, q: Qos) -> OpenRecord
+    ensures { λ r. ⌜ r ≡ opened now q ⌝ }
 {
-    let mut s = Run {
-        ok: true,
-        after: q,
-        until: now,
-        left: limit,
+    let blank = single::no_container();
+    let containers = [blank; 15];
+    OpenRecord {
+        opening: now,
+        qos: q,
+        uplink: 0,
+        downlink: 0,
+        changes: 0,
+        containers,
+        count: 0,
+    }
+}
+
+// No record: what a free slot holds.
+pub fn no_open() -> OpenRecord
+    ensures { λ r. ⌜ r ≡ noOpen ⌝ }
+{
+    let never = Stamp {
+        seconds: 0,
+        zone: 0,
     };
-    let mut i: usize = 15;
-    while 0 < i {
-        let c = v[i - 1];
-        s = turn(c, i <= n, zone, s);
-        if !s.ok {
-            return false;
-        }
-        i -= 1;
-    }
-    (opening <= s.until) & (0 < s.left)
+    let none = profile::no_qos();
+    opened(never, none)
 }
 
-// What the places from one on leave to those before it: whether it was as it must be itself, the QoS that follows, the time that must
-// not be passed, and what is left of the limit.
-struct Run {
-    ok: bool,
-    after: Qos,
-    until: u32,
-    left: u64,
-}
-
-// One place more: a container that is used must fit what follows it, one that is not must be zero.
-fn turn(c: Container, used: bool, zone: u16, s: Run) -> Run
-    ensures { λ r. ⌜ r ≡ turned zone used c s ⌝ }
+// A report is added to both counters.
+pub fn reported(o: OpenRecord, up: u32, down: u32) -> OpenRecord
+    ensures { λ r. ⌜ r ≡ cond (ample o) (reported o up down) o ⌝ }
 {
-    let q = s.after;
-    if used {
-        let ok = precedes(c, zone, q, s.until);
-        let left = spend(spend(s.left, c.uplink), c.downlink);
-        let p = c.qos;
-        return Run {
-            ok,
-            after: p,
-            until: c.time.seconds,
-            left,
-        };
+    if 9223372036854775808 <= o.uplink {
+        return o;
     }
-    let ok = unused::is_blank(c);
-    Run {
-        ok,
-        after: q,
-        until: s.until,
-        left: s.left,
+    if 9223372036854775808 <= o.downlink {
+        return o;
+    }
+    let mut n = o;
+    n.uplink = o.uplink + up as u64;
+    n.downlink = o.downlink + down as u64;
+    n
+}
+
+// The running container, ended now with a condition.
+fn running(o: OpenRecord, condition: u8, now: Stamp) -> Container
+    ensures { λ r. ⌜ r ≡ running o condition now ⌝ }
+{
+    let qos = o.qos;
+    Container {
+        qos,
+        uplink: o.uplink,
+        downlink: o.downlink,
+        condition,
+        time: now,
     }
 }
 
-// Is a container as it must be, in the zone, not the end of its record, not after a time, and right before the QoS q?
-fn precedes(c: Container, zone: u16, q: Qos, until: u32) -> bool
-    ensures { λ r. ⌜ r ≡ precedes zone q until c ⌝ }
+// The running container has ended: it stands among the others, and nothing is counted.
+pub fn ended(o: OpenRecord, condition: u8, now: Stamp) -> OpenRecord
+    ensures { λ r. ⌜ r ≡ cond (roomy o) (ended o condition now) o ⌝ }
 {
-    let t = c.time;
-    let ok = single::container_ok(c);
-    let right = rules::changes(c, q);
-    ok & (c.condition < 2) & (t.zone == zone) & (t.seconds <= until) & right
-}
-
-// What the first n containers of v leave of a limit: 0 where it does not suffice.
-pub fn left_after(v: [Container; 15], n: usize, limit: u64) -> u64
-    ensures { λ r. ⌜ r ≡ limit - volumeOf (take n v) ⌝ }
-{
-    let mut left = limit;
-    let mut i: usize = 0;
-    while i < n {
-        if 15 <= i {
-            return left;
-        }
-        let c = v[i];
-        left = spend(spend(left, c.uplink), c.downlink);
-        i += 1;
+    let at = o.count;
+    if 15 <= at {
+        return o;
     }
-    left
+    let x = running(o, condition, now);
+    let mut n = o;
+    n.containers[at] = x;
+    n.count = at + 1;
+    n.uplink = 0;
+    n.downlink = 0;
+    n
 }
 
-// What is left once x is spent: 0 where it does not suffice.
-pub fn spend(left: u64, x: u64) -> u64
-    ensures { λ r. ⌜ r ≡ left - x ⌝ }
+// A change that closes nothing: the running container has ended, and the next one runs under a QoS.
+pub fn changed(o: OpenRecord, condition: u8, now: Stamp, q: Qos) -> OpenRecord
+    ensures { λ r. ⌜ r ≡ cond (roomy o && ltb (o .changes) 255) (changed o condition now q) o ⌝ }
 {
-    if x < left { left - x } else { 0 }
+    let more = o.changes;
+    if 255 <= more {
+        return o;
+    }
+    if 15 <= o.count {
+        return o;
+    }
+    let mut n = ended(o, condition, now);
+    n.qos = q;
+    n.changes = more + 1;
+    n
+}
+
+// Is what was counted since the record opened at least the limit?
+pub fn volume_met(o: OpenRecord, limit: u64) -> bool
+    ensures { λ r. ⌜ r ≡ volumeMet limit o ⌝ }
+{
+    let v = o.containers;
+    let left = held::left_after(v, o.count, limit);
+    held::spend(held::spend(left, o.uplink), o.downlink) == 0
+}
+
+// Has it been open for at least the limit, at a time?
+pub fn time_met(o: OpenRecord, limit: u32, t: u32) -> bool
+    ensures { λ r. ⌜ r ≡ timeMet limit t o ⌝ }
+{
+    let opening = o.opening;
+    limit as u64 <= held::spend(t as u64, opening.seconds as u64)
+}
+
+// Does one change more reach the limit?
+pub fn changes_met(o: OpenRecord, limit: u8) -> bool
+    ensures { λ r. ⌜ r ≡ changesMet limit o ⌝ }
+{
+    limit as u32 <= o.changes as u32 + 1
+}
+
+// Is it as it must be in a sound node, under these limits, with this offset, at this clock?
+pub fn is_sound(o: OpenRecord, volume: u64, changes: u8, zone: u16, clock: u32) -> bool
+    ensures { λ r. ⌜ r ≡ soundOpen volume changes zone clock o ⌝ }
+{
+    let q = o.qos;
+    let v = o.containers;
+    let t = o.opening;
+    let range = profile::qos_ok(q);
+    let left = held::spend(held::spend(volume, o.uplink), o.downlink);
+    let kept = held::held_ok(v, o.count, zone, t.seconds, q, clock, left);
+    range & (o.count == o.changes as usize) & (o.changes < changes) & (t.zone == zone) & kept
+}
+
+// Is every field zero?
+pub fn is_blank(o: OpenRecord) -> bool
+    ensures { λ r. ⌜ r ≡ blankOpen o ⌝ }
+{
+    let q = o.qos;
+    let v = o.containers;
+    let none = profile::no_qos();
+    let same = profile::same_qos(q, none);
+    let unused = unused::unused_blank(v, 0);
+    (o.opening.seconds == 0)
+        & (o.opening.zone == 0)
+        & same
+        & (o.uplink == 0)
+        & (o.downlink == 0)
+        & (o.changes == 0)
+        & unused
+        & (o.count == 0)
 }

@@ -6,10 +6,8 @@
 pub mod slots;
 pub mod sound;
 
-use calendar::Stamp;
-use container::Container;
-use container::Qos;
-use container::single;
+use container::OpenRecord;
+use container::open;
 use event::Name;
 ghost use mathlib.Core.Path.{_≡_};
 ghost use Rattle.context.specs.Context.{noContext};
@@ -28,15 +26,8 @@ pub struct Context {
     pub apnlen: usize,
     pub pdptype: u16,
     pub address: u32,
-    // the QoS in force, and what was counted under it since the last container ended
-    pub qos: Qos,
-    pub uplink: u64,
-    pub downlink: u64,
-    // the open record: when it opened, the QoS and tariff changes since, and the containers that these ended
-    pub opening: Stamp,
-    pub changes: u8,
-    pub containers: [Container; 15],
-    pub count: usize,
+    // the record that is not closed yet
+    pub open: OpenRecord,
     // records of this activation that are closed
     pub closed: u64,
 }
@@ -45,9 +36,7 @@ pub struct Context {
 pub fn no_context() -> Context
     ensures { λ r. ⌜ r ≡ noContext ⌝ }
 {
-    let blank = single::no_container();
-    let qos = container::profile::no_qos();
-    let containers = [blank; 15];
+    let none = open::no_open();
     let imsi = [0u8; 8];
     let apn = [0u8; 63];
     Context {
@@ -59,16 +48,7 @@ pub fn no_context() -> Context
         apnlen: 0,
         pdptype: 0,
         address: 0,
-        qos,
-        uplink: 0,
-        downlink: 0,
-        opening: Stamp {
-            seconds: 0,
-            zone: 0,
-        },
-        changes: 0,
-        containers,
-        count: 0,
+        open: none,
         closed: 0,
     }
 }

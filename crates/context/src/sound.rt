@@ -1,14 +1,12 @@
-// A slot as it must be: what 01's "A sound node" says of each context, a function for each rule, and one for the three of the containers.
+// A slot as it must be: what 01's "A sound node" says of each context. The rules of its open record are container's.
 use crate::Context;
 use ber::imsi;
 use container::open;
-use container::unused;
 use octets::chars;
 use octets::names;
 use profile::Limits;
 ghost use mathlib.Core.Path.{_≡_};
-ghost use mathlib.Core.Bool.{_&&_};
-ghost use Rattle.context.specs.Sound.{fieldsOk, unusedOk, closedOk, countOk, containersOk, volumeOk, contextOk, zeroOk, slotOk, slotsOk};
+ghost use Rattle.context.specs.Sound.{fieldsOk, closedOk, contextOk, zeroOk, slotOk, slotsOk};
 
 // Are the stored fields in range, and the octets zero that they do not use?
 pub fn fields_ok(c: Context) -> bool
@@ -16,11 +14,9 @@ pub fn fields_ok(c: Context) -> bool
 {
     let digits = c.imsi;
     let apn = c.apn;
-    let q = c.qos;
     let a = imsi::imsi_size(&digits) != 0;
     let b = names::apn_ok(apn, c.apnlen);
-    let d = container::profile::qos_ok(q);
-    (c.flags <= 3) & a & b & d
+    (c.flags <= 3) & a & b
 }
 
 // Are there fewer closed records than accepted events?
@@ -30,35 +26,15 @@ pub fn closed_ok(accepted: u64, c: Context) -> bool
     c.closed < accepted
 }
 
-// Did each change end a container, and are there fewer than the limit?
-pub fn count_ok(limit: u8, c: Context) -> bool
-    ensures { λ r. ⌜ r ≡ countOk limit c ⌝ }
-{
-    (c.count == c.changes as usize) & (c.changes < limit)
-}
-
-// Is the open record as it must be: its containers in order and in the zone, unused places zero, and something left of the limit once all
-// its volumes are spent? Three rules in one function, so that the containers are copied once.
-pub fn record_ok(limit: u64, zone: u16, clock: u32, c: Context) -> bool
-    ensures { λ r. ⌜ r ≡ (unusedOk c && containersOk zone clock c && volumeOk limit c) ⌝ }
-{
-    let v = c.containers;
-    let q = c.qos;
-    let t = c.opening;
-    let left = open::spend(open::spend(limit, c.uplink), c.downlink);
-    let held = open::held_ok(v, c.count, zone, t.seconds, q, clock, left);
-    (t.zone == zone) & held
-}
-
 // Is an active context as it must be?
 pub fn context_ok(limits: Limits, zone: u16, clock: u32, accepted: u64, c: Context) -> bool
     ensures { λ r. ⌜ r ≡ contextOk limits zone clock accepted c ⌝ }
 {
+    let o = c.open;
     let a = fields_ok(c);
     let b = closed_ok(accepted, c);
-    let d = count_ok(limits.changes, c);
-    let e = record_ok(limits.volume, zone, clock, c);
-    a & b & d & e
+    let d = open::is_sound(o, limits.volume, limits.changes, zone, clock);
+    a & b & d
 }
 
 // Is every field of a slot zero?
@@ -67,13 +43,10 @@ pub fn zero_ok(c: Context) -> bool
 {
     let digits = c.imsi;
     let apn = c.apn;
-    let q = c.qos;
-    let v = c.containers;
-    let none = container::profile::no_qos();
+    let o = c.open;
     let a = chars::zeros(&digits);
     let b = chars::zeros(&apn);
-    let d = container::profile::same_qos(q, none);
-    let e = unused::unused_blank(v, 0);
+    let d = open::is_blank(o);
     (c.active == 0)
         & (c.flags == 0)
         & (c.name.id == 0)
@@ -84,13 +57,6 @@ pub fn zero_ok(c: Context) -> bool
         & (c.pdptype == 0)
         & (c.address == 0)
         & d
-        & (c.uplink == 0)
-        & (c.downlink == 0)
-        & (c.opening.seconds == 0)
-        & (c.opening.zone == 0)
-        & (c.changes == 0)
-        & e
-        & (c.count == 0)
         & (c.closed == 0)
 }
 

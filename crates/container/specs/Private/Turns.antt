@@ -6,7 +6,7 @@ use Prim.Native.Nat.{ℕ, _-_}
 use lib.Dec.{leb, ltb, eqb}
 use Rattle.container.specs.declared.Qos.{Qos}
 use Rattle.container.specs.declared.Container.{Container}
-use Rattle.container.specs.declared.open.Run.{Run}
+use Rattle.container.specs.declared.held.Run.{Run}
 use Rattle.container.specs.Container.{containerOk}
 use Rattle.container.specs.List.{changes, isBlank}
 

@@ -1,12 +1,12 @@
--- `container::open::left_after` meets its contract. The loop's invariant: what is left to spend comes off what is left. Assumes nothing.
+-- `container::held::left_after` meets its contract. The loop's invariant: what is left to spend comes off what is left.
 use mathlib.Core.Path.{_≡_}
 use Prim.Native.Nat.{_-_}
 use native.Mathlib.Omega.{arith}
 use lib.ListN.{length, length-take}
 use borrow.Author.Needs.{needs}
 use Rattle.container.proofs.Opens.{LeftRest, left-all, left-next, left-end}
-use Rattle.container.proofs.open.left_after.Statement.{statement}
-use Rattle.container.proofs.open.left_after.Tie as tie
+use Rattle.container.proofs.held.left_after.Statement.{statement}
+use Rattle.container.proofs.held.left_after.Tie as tie
 
 abbrev Inv-loop : tie.InvT-loop
 Inv-loop n limit v left₀ i₀ left i = LeftRest v n limit left i

@@ -1,12 +1,12 @@
--- `container::open::held_ok` meets its contract. The loop's invariant: the places that are left to look at decide, with what those after
--- them leave to them. Assumes nothing.
+-- `container::held::held_ok` meets its contract. The loop's invariant: the places that are left to look at decide, with what those after
+-- them leave to them.
 use mathlib.Core.Path.{_≡_}
 use native.Mathlib.Omega.{arith}
 use lib.ListN.{length}
 use borrow.Author.Needs.{needs}
 use Rattle.container.proofs.Opens.{Held, held-all, held-no, held-next, held-end}
-use Rattle.container.proofs.open.held_ok.Statement.{statement}
-use Rattle.container.proofs.open.held_ok.Tie as tie
+use Rattle.container.proofs.held.held_ok.Statement.{statement}
+use Rattle.container.proofs.held.held_ok.Tie as tie
 
 abbrev Inv-loop : tie.InvT-loop
 Inv-loop n zone opening now limit v s₀ i₀ s i = Held v zone opening s₀ n s i

@@ -1,8 +1,8 @@
--- `container::open::turn` meets its contract: a place that is used, and one that is not. Assumes nothing.
+-- `container::held::turn` meets its contract: a place that is used, and one that is not.
 use borrow.Author.Needs.{needs}
 use Rattle.container.specs.Private.Turns.{turned}
-use Rattle.container.proofs.open.turn.Statement.{statement}
-use Rattle.container.proofs.open.turn.Tie as tie
+use Rattle.container.proofs.held.turn.Statement.{statement}
+use Rattle.container.proofs.held.turn.Tie as tie
 
 precedes-requires : tie.Need-precedes-requires
 precedes-requires c κs = search needs

@@ -1,11 +1,11 @@
--- `container::open::precedes` meets its contract: the code is the test. Assumes nothing.
+-- `container::held::precedes` meets its contract: the code is the test.
 use mathlib.Core.Path.{ap₂}
 use mathlib.Core.Bool.{Bool, _&&_}
 use lib.Dec.{leb, ltb, eqb}
 use borrow.Author.Needs.{needs}
 use Rattle.container.specs.Private.Turns.{precedes}
-use Rattle.container.proofs.open.precedes.Statement.{statement}
-use Rattle.container.proofs.open.precedes.Tie as tie
+use Rattle.container.proofs.held.precedes.Statement.{statement}
+use Rattle.container.proofs.held.precedes.Tie as tie
 
 container-ok-requires : tie.Need-container-ok-requires
 container-ok-requires c κs = search needs
