@@ -15,6 +15,6 @@ noContext = record {
   apnlen = 0;
   pdptype = 0;
   address = 0;
-  open = noOpen;
+  current = noOpen;
   closed = 0;
 }

@@ -21,13 +21,13 @@ closedOk accepted c = ltb (c .closed) accepted
 -- and of the open record what `soundOpen` says: QoS in range, unused places zero, container count, conditions, times, QoS rule, volumes
 unfoldable pub contextOk : Limits → ℕ → ℕ → ℕ → Context → Bool
 contextOk limits zone clock accepted c =
-    fieldsOk c && closedOk accepted c && soundOpen (limits .volume) (limits .changes) zone clock (c .open)
+    fieldsOk c && closedOk accepted c && soundOpen (limits .volume) (limits .changes) zone clock (c .current)
 
 -- "free slots .. all zero"
 unfoldable pub zeroOk : Context → Bool
 zeroOk c =
     eqb (c .active) 0 && eqb (c .flags) 0 && eqb (c .name .id) 0 && eqb (c .name .ggsn) 0 && allOf isZero (c .imsi) && allOf isZero (c .apn)
-    && eqb (c .apnlen) 0 && eqb (c .pdptype) 0 && eqb (c .address) 0 && blankOpen (c .open) && eqb (c .closed) 0
+    && eqb (c .apnlen) 0 && eqb (c .pdptype) 0 && eqb (c .address) 0 && blankOpen (c .current) && eqb (c .closed) 0
 
 -- a slot: an active context, or a free one
 unfoldable pub slotOk : Limits → ℕ → ℕ → ℕ → Context → Bool

@@ -27,7 +27,7 @@ pub struct Context {
     pub pdptype: u16,
     pub address: u32,
     // the record that is not closed yet
-    pub open: OpenRecord,
+    pub current: OpenRecord,
     // records of this activation that are closed
     pub closed: u64,
 }
@@ -48,7 +48,7 @@ pub fn no_context() -> Context
         apnlen: 0,
         pdptype: 0,
         address: 0,
-        open: none,
+        current: none,
         closed: 0,
     }
 }

@@ -30,7 +30,7 @@ pub fn closed_ok(accepted: u64, c: Context) -> bool
 pub fn context_ok(limits: Limits, zone: u16, clock: u32, accepted: u64, c: Context) -> bool
     ensures { λ r. ⌜ r ≡ contextOk limits zone clock accepted c ⌝ }
 {
-    let o = c.open;
+    let o = c.current;
     let a = fields_ok(c);
     let b = closed_ok(accepted, c);
     let d = open::is_sound(o, limits.volume, limits.changes, zone, clock);
@@ -43,7 +43,7 @@ pub fn zero_ok(c: Context) -> bool
 {
     let digits = c.imsi;
     let apn = c.apn;
-    let o = c.open;
+    let o = c.current;
     let a = chars::zeros(&digits);
     let b = chars::zeros(&apn);
     let d = open::is_blank(o);

@@ -1,4 +1,4 @@
--- `context::sound::fields_ok` meets its contract: each field as its function finds it. Assumes nothing.
+-- `context::sound::fields_ok` meets its contract: each field as its function finds it.
 use mathlib.Core.Path.{ap, _∙_}
 use mathlib.Core.Bool.{not}
 use Prim.Native.Nat.{ℕ}
@@ -18,16 +18,13 @@ imsi-size-requires c κs = search needs
 apn-ok-requires : tie.Need-apn-ok-requires
 apn-ok-requires c κs = search needs
 
-qos-ok-requires : tie.Need-qos-ok-requires
-qos-ok-requires c κs = search needs
-
 returns : tie.Need-returns
 unfolding fieldsOk
 returns c =
-    let t = c .before .before .before in
-    rw (ap (λ (n : ℕ). not (eqb n 0)) (t .imsi-size .ensures) ∙ imsi-room (t .before .before .before .before .before .args .c .imsi), c .before .before .apn-ok .ensures, c .before .qos-ok .ensures)
+    let t = c .before .before in
+    rw (ap (λ (n : ℕ). not (eqb n 0)) (t .imsi-size .ensures) ∙ imsi-room (t .before .before .before .before .args .c .imsi), c .before .apn-ok .ensures)
 
 pub fields-ok-spec : {M : Type 1} → statement M
 fields-ok-spec =
     tie.close
-    (tie.spec slice-aggregate-imsi-size imsi-size-requires apn-ok-requires qos-ok-requires returns)
+    (tie.spec slice-aggregate-imsi-size imsi-size-requires apn-ok-requires returns)
