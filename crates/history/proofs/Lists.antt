@@ -49,6 +49,11 @@ pub both : (a b : Bool) → (a && b) ≡ true → (a ≡ true) × (b ≡ true)
 both true b p = (refl, p)
 both false b p = absurd (false≢true p)
 
+-- what is shown where a test passes and where it fails, is shown
+pub by : {X : Type 0} (t : Bool) → (t ≡ true → X) → (t ≡ false → X) → X
+by true f g = f refl
+by false f g = g refl
+
 pub not-true : (a : Bool) → not a ≡ true → a ≡ false
 not-true true p = absurd (false≢true p)
 not-true false p = refl
