@@ -15,7 +15,8 @@ use Rattle.event.specs.Fields.{timeOf}
 use Rattle.event.specs.Rows.{Row, row, firstFit, rows}
 use Rattle.context.specs.Context.{noContext}
 use Rattle.context.specs.Sound.{slotsOk}
-use Rattle.context.specs.Slots.{slotOf, isActive, isFree, distinct}
+use Rattle.context.specs.Slots.{slotOf, isActive, distinct}
+use Rattle.history.specs.Slots as S
 use Rattle.history.specs.Lists.{All}
 use Rattle.node.specs.declared.Node.{Node}
 use Rattle.node.specs.Sound.{sound, freshNode, noNode}
@@ -37,7 +38,7 @@ module _ (l : Limits) (z clock accepted : ℕ) where
   free-slots (suc k) = rw (nothing-ok l z clock accepted, free-slots k)
 
 free-distinct : (k : ℕ) → distinct (map slotOf (replicate k noContext)) ≡ true
-unfolding distinct isFree isActive
+unfolding S.distinct isActive
 free-distinct zero = refl
 free-distinct (suc k) = rw (free-distinct k)
 

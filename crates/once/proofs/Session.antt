@@ -34,7 +34,8 @@ use Rattle.event.specs.Event.{eventOf}
 use Rattle.context.specs.Sound as context
 use Rattle.context.specs.Sound.{unusedOk, closedOk, countOk, containersOk, volumeOk, contextOk, zeroOk, slotOk, slotsOk}
 use Rattle.context.specs.Slots as slots
-use Rattle.context.specs.Slots.{sameName, isFree, bears, noneBears, distinct}
+use Rattle.context.specs.Slots.{sameName, isFree, bears}
+use Rattle.history.specs.Slots.{noneBears, distinct}
 use Rattle.history.specs.History.{History, start, _▸_∶_}
 use Rattle.history.specs.Records.{Rules, records}
 use Rattle.history.specs.Log.{Accepted, histories}

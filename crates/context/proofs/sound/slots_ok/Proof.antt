@@ -7,7 +7,8 @@ use borrow.Author.Needs.{needs}
 use borrow.Author.Tests.{not-true, not-false}
 use Rattle.scdr.proofs.Tails.{length-of-map}
 use Rattle.context.specs.Sound.{slotsOk}
-use Rattle.context.proofs.Scans.{Rest, rest-all, rest-no, rest-next, rest-end, slots-ask}
+use Rattle.history.proofs.Scans.{Rest, rest-all, rest-no, rest-next, rest-end}
+use Rattle.context.proofs.Scans.{slots-ask}
 use Rattle.context.proofs.sound.slots_ok.Statement.{statement}
 use Rattle.context.proofs.sound.slots_ok.Tie as tie
 
