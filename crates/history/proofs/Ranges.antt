@@ -1,4 +1,4 @@
--- Some slots of an array, one after another: what stands there, what is yielded, and how much so far.
+-- Some slots of an array, one after another: what stands there, how much is yielded and what is written so far.
 use mathlib.Core.Path.{_≡_, refl, sym, ap, _∙_}
 use mathlib.Core.List.{List, [], _∷_, _++_, append-assoc, append-nil}
 use Prim.Native.Nat.{ℕ, zero, suc, _+_, _*_, _≤_, _<_}
@@ -128,3 +128,39 @@ module _ {A : Type 0} (f : A → A) (from to : ℕ) (xs : List A) where
 
     pub standing-end : to ≤ i → ys ≡ across from to f xs
     standing-end k = let e : i ≡ to = omega (arith, s .most) in rw e at (s .values)
+
+-- ---- what stands and is written so far, each place writing where the last ended
+
+-- A way to write: `Put x b b′ at r` says that x was written at a place of the buffer b, which left b′ and the place r after it.
+pub record Writing {O Buf : Type 0} (Put : List O → Buf → Buf → ℕ → ℕ → Type 0) (size : Buf → ℕ) : Type 0 where
+  pub empty : (b : Buf) → Put [] b b 0 0
+  pub then : {x y : List O} {b b′ b″ : Buf} {at mid r : ℕ} → Put x b b′ at mid → Put y b′ b″ mid r → Put (x ++ y) b b″ at r
+  pub end : {x : List O} {b b′ : Buf} {at r : ℕ} → Put x b b′ at r → r ≡ at + length x
+  pub same : {x : List O} {b b′ : Buf} {at r : ℕ} → Put x b b′ at r → size b′ ≡ size b
+
+module _ {A O Buf : Type 0} {Put : List O → Buf → Buf → ℕ → ℕ → Type 0} {size : Buf → ℕ} (W : Writing Put size)
+    (next : A → A) (out : A → List O) (from to : ℕ) (xs : List A) where
+  pub record Hearing (b b′ : Buf) (ys : List A) (i at : ℕ) : Type 0 where
+    pub standing : Standing next from to xs ys i
+    pub written : Put (along from i out xs) b b′ 0 at
+
+  pub hearing-none : {b : Buf} → from ≤ to → Hearing b b xs from 0
+  hearing-none {b} k = record { standing = standing-none next from to xs k; written = rw (along-none out from xs) (W .empty b) }
+
+  module _ {b b′ : Buf} {ys : List A} {i at : ℕ} (s : Hearing b b′ ys i at) (d : A) (q : i < to) (all : to ≤ length xs) where
+    -- where there is room for all, there is room for the next
+    pub room : length (along from to out xs) ≤ size b → at + length (out (getD xs i d)) ≤ size b′
+    room k = omega (arith, W .end (s .written), W .same (s .written), along-room out from to xs d q all (s .standing .least))
+
+    pub hearing-more : {b″ : Buf} {got : A} {at′ : ℕ} → got ≡ next (getD xs i d) → Put (out (getD xs i d)) b′ b″ at at′
+        → Hearing b b″ (set ys i got) (i + 1) at′
+    hearing-more e w = record {
+      standing = standing-more next from to xs (s .standing) d q all e;
+      written = rw (along-next out from to xs d q all (s .standing .least)) (W .then (s .written) w);
+    }
+
+  pub hearing-end : {b b′ : Buf} {ys : List A} {i at : ℕ} → to ≤ i → Hearing b b′ ys i at
+      → (ys ≡ across from to next xs) × Put (along from to out xs) b b′ 0 at
+  hearing-end {i = i} k s =
+      let e : i ≡ to = omega (arith, s .standing .most) in
+      (standing-end next from to xs (s .standing) k, rw e at (s .written))

@@ -33,7 +33,7 @@ not-false : (a : Bool) → not a ≡ false → a ≡ true
 not-false true p = refl
 not-false false p = absurd (false≢true (sym p))
 
--- ---- an array of slots: active says which are active, blank stands in those that are free
+-- ---- an array of slots: act says which are active, blank stands in those that are free
 
 module _ {C : Type 0} (act : C → Bool) (blank : C) where
   -- a free slot holds nothing
@@ -156,7 +156,7 @@ module _ {N C : Type 0} (D : Naming N C) where
         let j : D .same (D .name c) (D .name x) ≡ false = same-sym (D .same) exactly (D .name c) (D .name x) ∙ i in
         rw (a, filled-none (D .name c) f j (rw a at (v .0)), filled-distinct f (w .1) (v .1))
 
--- ---- a kind of subject
+-- ---- a kind of subject: K says how the node handles it, act which slots are active
 
 module _ {G N S E W C B : Type 0} (K : Handling G N S E W C B) (act : C → Bool) where
   -- who is active
