@@ -1,4 +1,4 @@
--- 01's two sessions, computed. Assumes nothing.
+-- 01's two sessions, computed.
 use mathlib.Core.Path.{_≡_, refl}
 use mathlib.Core.List.{[], _∷_}
 use Rattle.ber.specs.Int.{intEnc, spelt, octetsFrom, numberIn, lowest}

@@ -1,5 +1,4 @@
 -- A fresh node is sound, and whatever calls are made on it one after another, it stays so: none of them is ever answered 13.
--- Assumes nothing.
 use mathlib.Core.Path.{_≡_, refl, sym, _∙_}
 use mathlib.Core.Bool.{Bool, true, false, not, _&&_}
 use mathlib.Core.List.{List, [], _∷_, _++_, map}

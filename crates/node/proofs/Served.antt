@@ -1,4 +1,4 @@
--- What a call answers, by what the table did. Assumes nothing.
+-- What a call answers, by what the table did.
 use mathlib.Core.Path.{_≡_, refl, sym, ap, _∙_}
 use mathlib.Core.Bool.{true, false}
 use mathlib.Core.List.{List, _++_, map}

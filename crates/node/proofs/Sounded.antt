@@ -1,5 +1,4 @@
 -- Every accepted call keeps the node sound and as the types have it, and each record that it writes is within the rules and reads back.
--- Assumes nothing.
 use mathlib.Core.Path.{_≡_, refl, sym, _∙_}
 use mathlib.Core.Bool.{true, false, not, _&&_, _||_}
 use mathlib.Core.List.{List, [], _∷_, _++_, map}

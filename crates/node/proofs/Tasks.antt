@@ -1,4 +1,4 @@
--- What a call is to do is what the table of refusals and the rules say. Assumes nothing.
+-- What a call is to do is what the table of refusals and the rules say.
 use mathlib.Core.Path.{_≡_, refl, sym, ap, _∙_}
 use mathlib.Core.Bool.{Bool, true, false, cond, _&&_}
 use mathlib.Core.List.{List, _++_, map}

@@ -1,4 +1,4 @@
--- One call: the refusal table, and what an accepted event does to the node. Assumes nothing.
+-- One call: the refusal table, and what an accepted event does to the node.
 use mathlib.Core.Path.{_≡_}
 use mathlib.Core.Bool.{Bool, false, not, cond, _||_}
 use mathlib.Core.Option.{Option}

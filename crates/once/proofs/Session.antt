@@ -1,5 +1,4 @@
 -- 01's "One session, whole", by the definitions: the histories of its events, the records that they make, and 01's octets.
--- Assumes nothing.
 use mathlib.Core.Path.{_≡_, refl, ap, _∙_}
 use mathlib.Core.List.{List, [], _∷_, _++_, map}
 use Prim.Native.Nat.{ℕ}

@@ -1,4 +1,4 @@
--- `context::slots::all_distinct` meets its contract. Both loops' invariant: what is left to look at decides. Assumes nothing.
+-- `context::slots::all_distinct` meets its contract. Both loops' invariant: what is left to look at decides.
 use mathlib.Core.Path.{_≡_, refl, sym, ap}
 use mathlib.Core.Bool.{not}
 use Prim.Native.Nat.{_+_, _-_}

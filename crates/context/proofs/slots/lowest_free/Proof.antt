@@ -1,4 +1,4 @@
--- `context::slots::lowest_free` meets its contract. The loop's invariant: none before i passes. Assumes nothing.
+-- `context::slots::lowest_free` meets its contract. The loop's invariant: none before i passes.
 use mathlib.Core.Path.{_≡_, ap}
 use Prim.Native.Nat.{_-_}
 use native.Mathlib.Omega.{arith}

@@ -1,4 +1,4 @@
--- `context::slots::slots_of` meets its contract. The loop's invariant: the first i names are copied. Assumes nothing.
+-- `context::slots::slots_of` meets its contract. The loop's invariant: the first i names are copied.
 use mathlib.Core.Path.{_≡_}
 use Prim.Native.Nat.{_-_}
 use native.Mathlib.Omega.{arith}

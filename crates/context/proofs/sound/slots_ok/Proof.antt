@@ -1,4 +1,4 @@
--- `context::sound::slots_ok` meets its contract. The loop's invariant: what is left to look at decides. Assumes nothing.
+-- `context::sound::slots_ok` meets its contract. The loop's invariant: what is left to look at decides.
 use mathlib.Core.Path.{_≡_}
 use Prim.Native.Nat.{_-_}
 use native.Mathlib.Omega.{arith}

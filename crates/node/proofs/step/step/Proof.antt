@@ -1,4 +1,4 @@
--- `node::step::step` meets its contract. Assumes nothing.
+-- `node::step::step` meets its contract.
 use mathlib.Core.Path.{_≡_, sym, _∙_}
 use Prim.Native.Nat.{_-_}
 use native.Mathlib.Omega.{arith}

@@ -1,4 +1,4 @@
--- `node::table::size_all` meets its contract. Assumes nothing.
+-- `node::table::size_all` meets its contract.
 use mathlib.Core.Path.{_≡_}
 use Prim.Native.Nat.{_-_}
 use native.Mathlib.Omega.{arith}
