@@ -1,11 +1,11 @@
--- What the rules of a sound slot say: of an active context, of a free one, and of the whole table.
+-- What the rules of a sound slot say: of an active context, and of a free one.
 use mathlib.Core.Path.{_≡_, refl, sym, ap, _∙_}
 use mathlib.Core.Bool.{Bool, true, false, _&&_}
 use mathlib.Core.List.{List, [], _∷_}
 use Prim.Native.Nat.{ℕ, zero, suc, _≤_, _<_}
 use native.Mathlib.Omega.{arith}
 use lib.Dec.{leb, ltb, eqb}
-use lib.ListN.{length, getD, set, replicate}
+use lib.ListN.{length, replicate}
 use borrow.Author.Tests.{leb-true, ltb-true, eqb-true, le-leb, lt-ltb, eq-eqb, ne-eqb}
 use Rattle.format.proofs.Tests.{both, true-T}
 use Rattle.ber.specs.Imsi.{imsiOk}
@@ -18,7 +18,7 @@ use Rattle.octets.proofs.Filled.{zeros-are}
 use Rattle.profile.specs.declared.Limits.{Limits}
 use Rattle.context.specs.declared.Context.{Context}
 use Rattle.context.specs.Context.{noContext}
-use Rattle.context.specs.Sound.{fieldsOk, closedOk, contextOk, zeroOk, slotOk, slotsOk}
+use Rattle.context.specs.Sound.{fieldsOk, closedOk, contextOk, zeroOk, slotOk}
 
 -- ---- an active context
 
@@ -114,7 +114,7 @@ module _ (c : Context) where
         closed = closed i;
       }
 
--- ---- a slot, and all of them
+-- ---- a slot
 
 module _ (limits : Limits) (zone clock accepted : ℕ) where
   module _ (c : Context) where
@@ -125,17 +125,3 @@ module _ (limits : Limits) (zone clock accepted : ℕ) where
     pub slot-free : (c .active ≡ 1 → ⊥) → slotOk limits zone clock accepted c ≡ zeroOk c
     unfolding slotOk
     slot-free e = rw (ne-eqb (c .active) 1 e)
-
-  pub slots-at : (cs : List Context) (i : ℕ) (d : Context) → slotsOk limits zone clock accepted cs ≡ true → i < length cs → slotOk limits zone clock accepted (getD cs i d) ≡ true
-  unfolding slotsOk
-  slots-at [] i d h k = absurd (omega arith)
-  slots-at (c ∷ cs) zero d h k = both (slotOk limits zone clock accepted c) (slotsOk limits zone clock accepted cs) h .0
-  slots-at (c ∷ cs) (suc i) d h k = slots-at cs i d (both (slotOk limits zone clock accepted c) (slotsOk limits zone clock accepted cs) h .1) (omega arith)
-
-  pub slots-set : (cs : List Context) (i : ℕ) (x : Context) → slotsOk limits zone clock accepted cs ≡ true → slotOk limits zone clock accepted x ≡ true → slotsOk limits zone clock accepted (set cs i x) ≡ true
-  unfolding slotsOk
-  slots-set [] i x h k = refl
-  slots-set (c ∷ cs) zero x h k = rw (k, both (slotOk limits zone clock accepted c) (slotsOk limits zone clock accepted cs) h .1)
-  slots-set (c ∷ cs) (suc i) x h k =
-      let w = both (slotOk limits zone clock accepted c) (slotsOk limits zone clock accepted cs) h in
-      rw (w .0, slots-set cs i x (w .1) k)

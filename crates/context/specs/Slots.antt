@@ -1,8 +1,10 @@
--- The names of the table's slots. Assumes nothing.
-use mathlib.Core.Bool.{Bool, true, not, cond, _&&_, _||_}
-use mathlib.Core.List.{List, [], _∷_}
-use Prim.Native.Nat.{ℕ, suc}
+-- The names of the table's slots.
+use mathlib.Core.Bool.{Bool, not, _&&_}
+use mathlib.Core.List.{List}
+use mathlib.Core.Option.{Option, none, some}
+use Prim.Native.Nat.{ℕ}
 use lib.Dec.{eqb}
+use Rattle.history.specs.Slots as S
 use Rattle.event.specs.declared.Name.{Name}
 use Rattle.context.specs.declared.Context.{Context}
 use Rattle.context.specs.declared.slots.Slot.{Slot}
@@ -23,21 +25,23 @@ isActive s = eqb (s .active) 1
 unfoldable pub isFree : Slot → Bool
 isFree s = not (isActive s)
 
+-- how the slots are named: history's specs/Slots.antt says of any such slots what bears a name, what stands first, and when names are distinct
+abbrev pub naming : S.Naming Name Slot
+naming = record { active = isActive; name = λ s. s .name; same = sameName }
+
 -- an active slot with this name
 unfoldable pub bears : Name → Slot → Bool
-bears n s = isActive s && sameName n (s .name)
+bears n s = S.bears naming n s
+
+-- a place, if there is one
+abbrev pub foundAt : Option ℕ → Found
+foundAt none = Nothing
+foundAt (some i) = At i
 
 -- the first place at which a test passes, where the list begins at place i
-unfoldable pub firstFrom : (Slot → Bool) → ℕ → List Slot → Found
-firstFrom p i [] = Nothing
-firstFrom p i (s ∷ ss) = cond (p s) (At i) (firstFrom p (suc i) ss)
-
--- no slot has this name
-unfoldable pub noneBears : Name → List Slot → Bool
-noneBears n [] = true
-noneBears n (s ∷ ss) = not (bears n s) && noneBears n ss
+abbrev pub firstFrom : (Slot → Bool) → ℕ → List Slot → Found
+firstFrom p i ss = foundAt (S.firstFrom p i ss)
 
 -- "active names distinct"
-unfoldable pub distinct : List Slot → Bool
-distinct [] = true
-distinct (s ∷ ss) = (isFree s || noneBears (s .name) ss) && distinct ss
+abbrev pub distinct : List Slot → Bool
+distinct ss = S.distinct naming ss

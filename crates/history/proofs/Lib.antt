@@ -1,4 +1,7 @@
 pub mod Lists
+pub mod Scans
+pub mod Ranges
+pub mod Slots
 pub mod Records
 pub mod Whole
 pub mod Tables

@@ -1,5 +1,4 @@
 -- Laws of lists and of what may be missing.
--- Assumes nothing.
 use Prim.Native.Nat.{ℕ, _+_, _≤_}
 use mathlib.Core.Path.{_≡_, refl, ap}
 use mathlib.Core.Bool.{Bool, true, false, not, cond, _&&_, false≢true}
@@ -16,6 +15,15 @@ each-append f (x ∷ xs) b = rw (append-assoc, each-append f xs b)
 pub each-one : {A : Type 0} (a : List A) → each (λ x. x ∷ []) a ≡ a
 each-one [] = refl
 each-one (x ∷ xs) = rw (each-one xs)
+
+-- of things of two kinds, those that are picked, and those that are passed over
+pub each-picks : {A O : Type 0} (pick : O → List A) (f : A → O) → ((a : A) → pick (f a) ≡ a ∷ []) → (xs : List A) → each pick (map f xs) ≡ xs
+each-picks pick f p [] = refl
+each-picks pick f p (x ∷ xs) = rw (p x, each-picks pick f p xs)
+
+pub each-passes : {A B O : Type 0} (pick : O → List A) (f : B → O) → ((b : B) → pick (f b) ≡ []) → (xs : List B) → each pick (map f xs) ≡ []
+each-passes pick f p [] = refl
+each-passes pick f p (x ∷ xs) = rw (p x, each-passes pick f p xs)
 
 pub append-cancel : {A : Type 0} (a b c : List A) → a ++ b ≡ a ++ c → b ≡ c
 append-cancel [] b c p = p
@@ -48,6 +56,11 @@ length-ifAny a (some k) f = omega (arith, length-append a (f k ∷ []))
 pub both : (a b : Bool) → (a && b) ≡ true → (a ≡ true) × (b ≡ true)
 both true b p = (refl, p)
 both false b p = absurd (false≢true p)
+
+-- what is shown where a test passes and where it fails, is shown
+pub by : {X : Type 0} (t : Bool) → (t ≡ true → X) → (t ≡ false → X) → X
+by true f g = f refl
+by false f g = g refl
 
 pub not-true : (a : Bool) → not a ≡ true → a ≡ false
 not-true true p = absurd (false≢true p)

@@ -1,17 +1,17 @@
 -- A node's run is the run of its table over the events that its calls applied.
--- Assumes nothing.
 use Prim.Native.Nat.{ℕ, _≤_}
-use mathlib.Core.Path.{_≡_, refl, sym, _∙_}
-use mathlib.Core.Bool.{true}
-use mathlib.Core.List.{List, [], _∷_, _++_, append-assoc, append-nil}
+use mathlib.Core.Path.{_≡_, refl, sym, ap, _∙_}
+use mathlib.Core.Bool.{Bool, true}
+use mathlib.Core.List.{List, [], _∷_, _++_, map, append-assoc, append-nil}
+use lib.ListN.{length, take}
 use mathlib.Core.Option.{Option}
 use native.Mathlib.Omega.{arith}
 use Rattle.history.specs.Lists.{each}
 use Rattle.history.specs.Log.{Accepted}
 use Rattle.history.specs.Table.{Handling, slotsAfter, writes, settled, table, output}
-use Rattle.history.specs.Run.{Machine, applied, run, allWritten, log}
+use Rattle.history.specs.Run.{Machine, applied, run, allWritten, log, upToRefusal}
 use Rattle.history.specs.Demand.{Sight}
-use Rattle.history.proofs.Lists.{each-append}
+use Rattle.history.proofs.Lists.{by, each-append}
 use Rattle.history.proofs.Tables.{admits}
 use Rattle.history.proofs.Told.{Admitted}
 use Rattle.history.proofs.Histories.{Ordered, ordered-append}
@@ -86,6 +86,16 @@ module _ {G N S E W C B M I J O : Type 0} (K : Handling G N S E W C B) (L : Sigh
     admitted = λ a i. rw (f a i .events) (runs K L Z settings clock Y (f a i .calls) a .admitted);
     timely = λ a i. rw (f a i .events, f a i .node) (runs K L Z settings clock Y (f a i .calls) a .timely);
   }
+
+-- Calls of one event each, done one by one up to the first that is refused: what was applied is the log of those that were done.
+module _ {M J W O : Type 0} (Z : Machine M J W O) (accepts : M → J → Bool) (event : J → Accepted W) (holds-one : (j : J) → Z .holds j ≡ event j ∷ [])
+    (applies-one : (a : M) (j : J) → accepts a j ≡ true → Z .applies a j ≡ 1) where
+  pub done-log : (a : M) (js : List J) → take (length (upToRefusal Z accepts a js)) (map event js) ≡ log Z a (upToRefusal Z accepts a js)
+  done-log a [] = refl
+  done-log a (j ∷ js) =
+      by (accepts a j)
+      (λ e. rw (e, applies-one a j e, holds-one j) (ap (λ (l : List (Accepted W)). event j ∷ l) (done-log (Z .after a j) js)))
+      (λ e. rw e)
 
 -- ---- A node whose calls apply one event or none.
 

@@ -6,4 +6,5 @@ pub mod Run
 pub mod Demand
 pub mod Calls
 pub mod Table
+pub mod Slots
 pub mod Sample

@@ -1,6 +1,6 @@
 -- A run: calls one after another, each on the node that the last one handed back.
--- Assumes nothing.
 use Prim.Native.Nat.{ℕ, zero, suc}
+use mathlib.Core.Bool.{Bool, cond}
 use mathlib.Core.List.{List, [], _∷_, _++_}
 use lib.ListN.{take}
 use Rattle.history.specs.Log.{Accepted}
@@ -36,3 +36,8 @@ module _ {M I W O : Type 0} (X : Machine M I W O) where
   abbrev pub log : M → List I → List (Accepted W)
   log a [] = []
   log a (i ∷ is) = applied a i ++ log (X .after a i) is
+
+  -- Of calls to be done one by one, those that are done, up to the first that is not accepted: what one call of several events does.
+  abbrev pub upToRefusal : (M → I → Bool) → M → List I → List I
+  upToRefusal accepts a [] = []
+  upToRefusal accepts a (i ∷ is) = cond (accepts a i) (i ∷ upToRefusal accepts (X .after a i) is) []

@@ -8,9 +8,11 @@
 //   Demand    what one history must be, and demand 3 of a node with slots
 //   Calls     demand 3 of one call
 //   Table     how a node of slots hears events: for the step of such a node, and no part of demand 3
-//   Sample    a small node that meets the demand
+//   Slots     such a table as an array of slots, each active or free: for the code of such a node, and no part of demand 3
+//   Sample    a small node that meets the demand: two kinds of subject, two settings, calls of one event and of several
 // Lists has the short words that these use.
 //
 // proofs/ has the theorem for every kind and every such node (Demand), the same of each call (Calls), what it says of all that is
-// written and stored under a name (Everything), the laws of one history (Records, Whole), and what an instance uses (Tables, Runs).
+// written and stored under a name (Everything), the laws of one history (Records, Whole), and what an instance uses (Tables, Runs;
+// and for its code Scans, Ranges and Slots: loops over the slots, some of them one after another, and what the table does).
 // Sample shows how a node takes all this.

@@ -1,57 +1,48 @@
--- The first slot that passes a test. Assumes nothing.
-use mathlib.Core.Path.{_≡_, refl, sym, ap, _∙_}
-use mathlib.Core.Bool.{Bool, true, false, cond}
-use mathlib.Core.List.{List, [], _∷_, map}
-use Prim.Native.Nat.{ℕ, zero, suc, _+_, _<_}
-use native.Mathlib.Omega.{arith}
-use lib.ListN.{length}
-use Rattle.format.proofs.Tests.{by}
-use Rattle.history.specs.Lists.{All}
+-- What is found in the table by the names of its slots is found in the table itself: history's laws (proofs/Scans.antt) of contexts.
+use mathlib.Core.Path.{_≡_, sym, _∙_}
+use mathlib.Core.Bool.{Bool, false, not}
+use mathlib.Core.List.{List, map}
+use Prim.Native.Nat.{ℕ}
+use Rattle.event.specs.declared.Name.{Name}
 use Rattle.context.specs.declared.Context.{Context}
-use Rattle.context.specs.declared.slots.Slot.{Slot}
-use Rattle.context.specs.declared.slots.Found.{Found}
 use Rattle.context.specs.declared.slots.Found.the-variants.{At, Nothing}
-use Rattle.context.specs.Slots.{slotOf, firstFrom}
+use Rattle.context.specs.Slots as slots
+use Rattle.context.specs.Slots.{slotOf, sameName, isActive, isFree, firstFrom}
+use Rattle.context.proofs.Scans.{found-at, found-none}
+use Rattle.history.specs.Lists.{All}
+use Rattle.history.specs.Slots.{Naming, bears, distinct}
+use Rattle.history.specs.Slots as S
+use Rattle.history.proofs.Scans.{First, first-is, none-is, first-through, distinct-through}
+use Rattle.node.specs.Step.{taken}
 
--- the first element that passes stands at i
-pub data First (q : Context → Bool) : List Context → ℕ → Type 0 where
-  here : {c : Context} {cs : List Context} → q c ≡ true → First q (c ∷ cs) zero
-  there : {c : Context} {cs : List Context} {i : ℕ} → q c ≡ false → First q cs i → First q (c ∷ cs) (suc i)
+-- how contexts are named
+abbrev pub contexts : Naming Name Context
+contexts = record { active = taken; name = λ c. c .name; same = sameName }
 
-pub first-below : {q : Context → Bool} {cs : List Context} {i : ℕ} → First q cs i → i < length cs
-first-below (here e) = omega arith
-first-below (there e f) = omega (arith, first-below f)
+-- an active context of this name, and a free slot
+abbrev pub named : Name → Context → Bool
+named m c = bears contexts m c
 
-module _ (p : Slot → Bool) where
-  abbrev passes : Context → Bool
-  passes c = p (slotOf c)
+abbrev pub idle : Context → Bool
+idle c = not (taken c)
 
-  pub record FirstAt (k j : ℕ) (cs : List Context) : Type 0 where
-    pub i : ℕ
-    pub place : j ≡ k + i
-    pub first : First passes cs i
+pub apart : (cs : List Context) → slots.distinct (map slotOf cs) ≡ distinct contexts cs
+unfolding isActive
+apart cs = distinct-through slotOf slots.naming cs
 
-  pub first-at : (k : ℕ) (cs : List Context) {j : ℕ} → firstFrom p k (map slotOf cs) ≡ At j → FirstAt k j cs
-  unfolding firstFrom
-  first-at k [] {j} e = absurd (let z : _≡_ {A = ℕ} 0 1 = cc in omega arith)
-  first-at k (c ∷ cs) {j} e =
-      by (passes c)
-      (λ y.
-      let f : At k ≡ At j = rw y at e in
-      let z : k ≡ j = cc in
-      record { i = 0; place = omega arith; first = here y })
-      (λ n.
-      let r = first-at (suc k) cs (rw n at e) in
-      record { i = suc (r .i); place = omega (arith, r .place); first = there n (r .first) })
+module _ (cs : List Context) where
+  pub named-at : (m : Name) {i : ℕ} → firstFrom (slots.bears m) 0 (map slotOf cs) ≡ At i → First (named m) cs i
+  unfolding slots.bears isActive
+  named-at m e = first-is (named m) cs (sym (first-through slotOf (slots.bears m) 0 cs) ∙ found-at (S.firstFrom (slots.bears m) 0 (map slotOf cs)) e)
 
-  pub none-at : (k : ℕ) (cs : List Context) → firstFrom p k (map slotOf cs) ≡ Nothing → All (λ c. passes c ≡ false) cs
-  unfolding firstFrom
-  none-at k [] e = tt
-  none-at k (c ∷ cs) e =
-      by (passes c)
-      (λ y. let f : At k ≡ Nothing = rw y at e in absurd (let z : _≡_ {A = ℕ} 0 1 = cc in omega arith))
-      (λ n. (n, none-at (suc k) cs (rw n at e)))
+  pub none-named : (m : Name) → firstFrom (slots.bears m) 0 (map slotOf cs) ≡ Nothing → All (λ c. named m c ≡ false) cs
+  unfolding slots.bears isActive
+  none-named m e = none-is (named m) cs (sym (first-through slotOf (slots.bears m) 0 cs) ∙ found-none (S.firstFrom (slots.bears m) 0 (map slotOf cs)) e)
 
-  -- looked for from the start of the table
-  pub first-is : (cs : List Context) {j : ℕ} → firstFrom p 0 (map slotOf cs) ≡ At j → First passes cs j
-  first-is cs {j} e = let f = first-at 0 cs e in let z : f .i ≡ j = omega (arith, f .place) in rw z at (f .first)
+  pub free-at : {i : ℕ} → firstFrom isFree 0 (map slotOf cs) ≡ At i → First idle cs i
+  unfolding isFree isActive
+  free-at e = first-is idle cs (sym (first-through slotOf isFree 0 cs) ∙ found-at (S.firstFrom isFree 0 (map slotOf cs)) e)
+
+  pub all-taken : firstFrom isFree 0 (map slotOf cs) ≡ Nothing → All (λ c. idle c ≡ false) cs
+  unfolding isFree isActive
+  all-taken e = none-is idle cs (sym (first-through slotOf isFree 0 cs) ∙ found-none (S.firstFrom isFree 0 (map slotOf cs)) e)

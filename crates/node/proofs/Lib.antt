@@ -13,7 +13,6 @@ pub mod Served
 pub mod Copied
 pub mod Calls
 pub mod Tasks
-pub mod Looks
 pub mod Demands
 pub mod Fixes
 pub mod Printed

@@ -1,4 +1,4 @@
--- 01's two sessions, computed. Assumes nothing.
+-- 01's two sessions, computed.
 use mathlib.Core.Path.{_≡_, refl}
 use mathlib.Core.List.{[], _∷_}
 use Rattle.ber.specs.Int.{intEnc, spelt, octetsFrom, numberIn, lowest}
@@ -23,7 +23,8 @@ use Rattle.event.specs.Event.{eventOf}
 use Rattle.event.specs.Sample.{activate, traffic, released}
 use Rattle.profile.specs.Profile.{limitsOk, profileOk}
 use Rattle.context.specs.Sound.{fieldsOk as storedOk, unusedOk, closedOk, countOk, containersOk, volumeOk, contextOk, zeroOk, slotOk, slotsOk}
-use Rattle.context.specs.Slots.{sameName, isActive, isFree, bears, noneBears, distinct}
+use Rattle.context.specs.Slots.{sameName, isActive, isFree, bears}
+use Rattle.history.specs.Slots.{noneBears, distinct}
 use Rattle.node.specs.Hear.{reported, qosAfter, changeOf, reached, closing, changed, opened, numberFor, recordOf, goesOn, closedBy, afterClosing, hearWith, hear}
 use Rattle.node.specs.Sound.{sound}
 use Rattle.node.specs.Step.{activated, markedOctets, octetsOf, nodeAfter, recordsOf, output, notActive, isActive as wasActive, allTaken, refusals, outcome, stepOf}

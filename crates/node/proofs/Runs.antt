@@ -1,5 +1,4 @@
 -- A fresh node is sound, and whatever calls are made on it one after another, it stays so: none of them is ever answered 13.
--- Assumes nothing.
 use mathlib.Core.Path.{_≡_, refl, sym, _∙_}
 use mathlib.Core.Bool.{Bool, true, false, not, _&&_}
 use mathlib.Core.List.{List, [], _∷_, _++_, map}
@@ -15,7 +14,8 @@ use Rattle.event.specs.Fields.{timeOf}
 use Rattle.event.specs.Rows.{Row, row, firstFit, rows}
 use Rattle.context.specs.Context.{noContext}
 use Rattle.context.specs.Sound.{slotsOk}
-use Rattle.context.specs.Slots.{slotOf, isActive, isFree, distinct}
+use Rattle.context.specs.Slots.{slotOf, isActive, distinct}
+use Rattle.history.specs.Slots as S
 use Rattle.history.specs.Lists.{All}
 use Rattle.node.specs.declared.Node.{Node}
 use Rattle.node.specs.Sound.{sound, freshNode, noNode}
@@ -37,7 +37,7 @@ module _ (l : Limits) (z clock accepted : ℕ) where
   free-slots (suc k) = rw (nothing-ok l z clock accepted, free-slots k)
 
 free-distinct : (k : ℕ) → distinct (map slotOf (replicate k noContext)) ≡ true
-unfolding distinct isFree isActive
+unfolding S.distinct isActive
 free-distinct zero = refl
 free-distinct (suc k) = rw (free-distinct k)
 

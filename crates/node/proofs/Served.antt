@@ -1,4 +1,4 @@
--- What a call answers, by what the table did. Assumes nothing.
+-- What a call answers, by what the table did.
 use mathlib.Core.Path.{_≡_, refl, sym, ap, _∙_}
 use mathlib.Core.Bool.{true, false}
 use mathlib.Core.List.{List, _++_, map}
@@ -11,21 +11,26 @@ use Rattle.format.proofs.Tests.{either}
 use Rattle.event.specs.declared.Name.{Name}
 use Rattle.event.specs.Rows.{Row, firstFit}
 use Rattle.context.specs.declared.Context.{Context}
-use Rattle.context.specs.Slots.{slotOf, isFree, bears, distinct}
+use Rattle.context.specs.Context.{noContext}
 use Rattle.history.specs.Lists.{All}
+use Rattle.history.specs.Slots.{distinct, across, along}
 use Rattle.history.specs.Log.{Said, activates, tells, tellsAll}
 use Rattle.history.specs.Table.{free, slotsAfter}
+use Rattle.history.proofs.Scans.{First}
+use Rattle.history.proofs.Slots.{found-active, none-active, found-free, none-free, filled}
 use Rattle.node.specs.declared.Node.{Node}
 use Rattle.node.specs.declared.Message.{Message}
 use Rattle.node.specs.Sound.{sound, latest, mostAccepted}
-use Rattle.node.specs.Step.{Brought, handling, stood, slots, octetsOf, activated, nodeAfter, recordsOf, output, notActive, isActive, allTaken, outcome}
+use Rattle.node.specs.Step.{Brought, handling, taken, stood, slots, octetsOf, activated, nodeAfter, recordsOf, output}
+use Rattle.node.specs.Step.{notActive, isActive, allTaken, outcome}
 use Rattle.node.specs.Held.{Shaped}
 use Rattle.node.specs.Private.Told.{Ready}
-use Rattle.node.specs.Private.Range.{across, along, slotNext, slotOut, Turns, advanced, servedOf, Serves}
+use Rattle.node.specs.Private.Range.{slotNext, slotOut, Turns, advanced, servedOf, Serves}
 use Rattle.node.proofs.Rowed.{tableRows}
 use Rattle.node.proofs.Rules.{rules}
-use Rattle.node.proofs.Found.{First}
-use Rattle.node.proofs.Heards.{Settled, all-settled, all-after, all-outs, tells-after, tells-outs, found-active, none-active, found-free, none-free, filled}
+use Rattle.node.proofs.Found.{contexts, named, idle}
+use Rattle.node.proofs.Found as found
+use Rattle.node.proofs.Heards.{Settled, all-settled, all-after, all-outs, tells-after, tells-outs}
 
 -- ---- a sound node
 
@@ -43,8 +48,8 @@ module _ (n : Node) (t : ℕ) (s : Sounding n t) where
     sound = rules n (s .sound) .slots;
   }
 
-  pub apart : distinct (map slotOf (n .contexts)) ≡ true
-  apart = rules n (s .sound) .names
+  pub apart : distinct contexts (n .contexts) ≡ true
+  apart = sym (found.apart (n .contexts)) ∙ rules n (s .sound) .names
 
   pub settleds : All Shaped (n .contexts) → All Settled (n .contexts)
   settleds z = all-settled (n .profile .limits) (n .profile .zone) (n .clock) (n .accepted) (n .contexts) z (rules n (s .sound) .slots)
@@ -126,12 +131,13 @@ module _ (n : Node) (t : ℕ) (w : Said (Unit {0}) Name Brought Message) (b : Li
 -- ---- the three kinds of events
 
 module _ (n : Node) (t : ℕ) (b : List ℕ) (s : Sounding n t) (z : All Shaped (n .contexts)) where
-  pub outs-tell : (m : Name) (h : Message) {i : ℕ} → First (λ c. bears m (slotOf c)) (n .contexts) i
+  pub outs-tell : (m : Name) (h : Message) {i : ℕ} → First (named m) (n .contexts) i
       → {b′ : List ℕ} {a k : ℕ} {r : Node} → Serves n i (i + 1) t h b b′ a r k → Outs (tableRows n t (tells m h) b) n t (tells m h) b b′ a r k
   unfolding notActive isActive allTaken output recordsOf
   outs-tell m h {i} f {b′} {a} {k} {r} v =
-      outs-served n t (tells m h) b (record { known = rw (found-active (n .profile) t m f); new = refl; room = refl }) i (suc i) h
-      (tells-after (n .profile) t h m f (settleds n t s z) (apart n t s)) (tells-outs (n .profile) t h m f (settleds n t s z) (apart n t s)) (rw (add-one i) at v)
+      outs-served n t (tells m h) b (record { known = rw (found-active (handling (n .profile)) taken m f); new = refl; room = refl }) i (suc i) h
+      (tells-after (n .profile) t h m f (settleds n t s z) (apart n t s))
+      (tells-outs (n .profile) t h m f (settleds n t s z) (apart n t s)) (rw (add-one i) at v)
 
   pub outs-all : (h : Message) → length (n .contexts) ≡ 16 → {b′ : List ℕ} {a k : ℕ} {r : Node} → Serves n 0 16 t h b b′ a r k
       → Outs (tableRows n t (tellsAll h) b) n t (tellsAll h) b b′ a r k
@@ -141,27 +147,34 @@ module _ (n : Node) (t : ℕ) (b : List ℕ) (s : Sounding n t) (z : All Shaped 
       (rw l at (all-after (n .profile) t h (n .contexts) (settleds n t s z))) (rw l at (all-outs (n .profile) t h (n .contexts) (settleds n t s z))) v
 
   module _ (m : Name) (f : Unit {0} → Brought) where
-    pub outs-activate : {i : ℕ} → All (λ c. bears m (slotOf c) ≡ false) (n .contexts) → First (λ c. isFree (slotOf c)) (n .contexts) i
+    pub outs-activate : {i : ℕ} → All (λ c. named m c ≡ false) (n .contexts) → First idle (n .contexts) i
         → {c : Context} {a k : ℕ} {r : Node} → c ≡ activated (n .profile) t m (f tt) → a ≡ 0 → r ≡ advanced n t (set (n .contexts) i c) → k ≡ 0
         → Outs (tableRows n t (activates m f) b) n t (activates m f) b b a r k
     unfolding notActive isActive allTaken output recordsOf octetsOf
     outs-activate {i} none free {c} {a} {k} {r} e p q u =
         let g : set (n .contexts) i c ≡ map stood (slotsAfter (handling (n .profile)) tt t (activates m f) (slots n)) =
-        ap (λ (d : Context). set (n .contexts) i d) e ∙ sym (filled (activated (n .profile) t m (f tt)) free (settleds n t s z)) in
-        outs-done n t (activates m f) b (record { known = refl; new = none-active (n .profile) t m (n .contexts) none; room = rw (found-free free) }) (omega arith) g p q u refl
+        ap (λ (d : Context). set (n .contexts) i d) e ∙ sym (filled taken noContext (activated (n .profile) t m (f tt)) free (settleds n t s z)) in
+        outs-done n t (activates m f) b
+        (record { known = refl; new = none-active (handling (n .profile)) taken m (n .contexts) none; room = rw (found-free taken noContext free) })
+        (omega arith) g p q u refl
 
 module _ (n : Node) (t : ℕ) (b : List ℕ) (m : Name) {a k : ℕ} {r : Node} (q : r ≡ n) (u : k ≡ 0) where
-  pub outs-8 : (h : Message) → All (λ c. bears m (slotOf c) ≡ false) (n .contexts) → a ≡ 8 → Outs (tableRows n t (tells m h) b) n t (tells m h) b b a r k
+  pub outs-8 : (h : Message) → All (λ c. named m c ≡ false) (n .contexts) → a ≡ 8 → Outs (tableRows n t (tells m h) b) n t (tells m h) b b a r k
   unfolding tableRows firstFit notActive
-  outs-8 h none p = outs-refused n t (tells m h) b (tableRows n t (tells m h) b) 8 (rw (none-active (n .profile) t m (n .contexts) none)) (λ i. omega arith) p q u
+  outs-8 h none p =
+      outs-refused n t (tells m h) b (tableRows n t (tells m h) b) 8 (rw (none-active (handling (n .profile)) taken m (n .contexts) none))
+      (λ i. omega arith) p q u
 
   module _ (f : Unit {0} → Brought) where
-    pub outs-9 : {i : ℕ} → First (λ c. bears m (slotOf c)) (n .contexts) i → a ≡ 9 → Outs (tableRows n t (activates m f) b) n t (activates m f) b b a r k
+    pub outs-9 : {i : ℕ} → First (named m) (n .contexts) i → a ≡ 9 → Outs (tableRows n t (activates m f) b) n t (activates m f) b b a r k
     unfolding tableRows firstFit notActive isActive
-    outs-9 g p = outs-refused n t (activates m f) b (tableRows n t (activates m f) b) 9 (rw (found-active (n .profile) t m g)) (λ i. omega arith) p q u
+    outs-9 g p =
+        outs-refused n t (activates m f) b (tableRows n t (activates m f) b) 9 (rw (found-active (handling (n .profile)) taken m g))
+        (λ i. omega arith) p q u
 
-    pub outs-10 : All (λ c. bears m (slotOf c) ≡ false) (n .contexts) → All (λ c. isFree (slotOf c) ≡ false) (n .contexts) → a ≡ 10
+    pub outs-10 : All (λ c. named m c ≡ false) (n .contexts) → All (λ c. idle c ≡ false) (n .contexts) → a ≡ 10
         → Outs (tableRows n t (activates m f) b) n t (activates m f) b b a r k
     unfolding tableRows firstFit notActive isActive allTaken
     outs-10 none full p =
-        outs-refused n t (activates m f) b (tableRows n t (activates m f) b) 10 (rw (none-active (n .profile) t m (n .contexts) none, none-free (n .contexts) full)) (λ i. omega arith) p q u
+        outs-refused n t (activates m f) b (tableRows n t (activates m f) b) 10
+        (rw (none-active (handling (n .profile)) taken m (n .contexts) none, none-free taken noContext (n .contexts) full)) (λ i. omega arith) p q u

@@ -1,6 +1,5 @@
 -- Every accepted call keeps the node sound and as the types have it, and each record that it writes is within the rules and reads back.
--- Assumes nothing.
-use mathlib.Core.Path.{_≡_, refl, _∙_}
+use mathlib.Core.Path.{_≡_, refl, sym, _∙_}
 use mathlib.Core.Bool.{true, false, not, _&&_, _||_}
 use mathlib.Core.List.{List, [], _∷_, _++_, map}
 use Prim.Native.Nat.{ℕ, _+_, _≤_, _<_}
@@ -18,24 +17,27 @@ use Rattle.event.specs.Event.{eventOf, saidBy, decoded}
 use Rattle.event.proofs.Firsts.{passed}
 use Rattle.context.specs.declared.Context.{Context}
 use Rattle.context.specs.Sound.{slotsOk}
-use Rattle.context.specs.Slots.{slotOf, distinct}
+use Rattle.context.specs.Context.{noContext}
 use Rattle.context.proofs.Sounds.{slot-active}
 use Rattle.history.specs.Lists.{All}
+use Rattle.history.specs.Slots.{distinct}
+use Rattle.history.proofs.Slots.{neither, fill-is, filled-all, filled-length, filled-distinct, none-bears, pairs-length}
 use Rattle.history.specs.Log.{Said, activates, tells, tellsAll, nothing}
 use Rattle.node.specs.declared.Node.{Node}
 use Rattle.node.specs.declared.Message.{Message}
 use Rattle.node.specs.Sound.{sound, latest, mostAccepted}
-use Rattle.node.specs.Step.{Brought, slots, activated, nodeAfter, recordsOf, output, notActive, isActive, allTaken, saidOf, refusals}
+use Rattle.node.specs.Step.{Brought, handling, taken, slots, activated, nodeAfter, recordsOf, output, notActive, isActive, allTaken, saidOf, refusals}
 use Rattle.node.specs.Private.Told.{Due}
 use Rattle.node.specs.Private.Range.{advanced}
 use Rattle.node.specs.Held.{Octets, HeldContext, Held, Whole}
 use Rattle.node.proofs.Rules.{rules}
 use Rattle.node.proofs.Rowed.{tableRows, laterRows, parted, numbered-rows, none-fits}
-use Rattle.node.proofs.Heards.{all-settled}
+use Rattle.node.proofs.Found.{contexts, apart}
+use Rattle.node.proofs.Heards.{same-exactly, all-settled}
 use Rattle.node.proofs.Kept.{Fine}
 use Rattle.node.proofs.Brings.{Fairly, fair-said, activated-sound, activated-held}
-use Rattle.node.proofs.Tabled.{shapes, Onward, onward-slots, onward-held, onward-length, onward-distinct, all-stay, all-fine}
-use Rattle.node.proofs.Filled.{slots-later, fill-is, filled-slots, filled-held, filled-length, filled-distinct, neither, none-bears}
+use Rattle.node.proofs.Tabled.{shapes, Onward, onward-slots, onward-held, onward-distinct, all-stay, all-fine}
+use Rattle.node.proofs.Filled.{slots-later, filled-slots}
 
 -- ---- a call that no row of the table refuses
 
@@ -95,16 +97,16 @@ module _ (n : Node) (t : ℕ) (ok : sound n ≡ true) (h : Held n) (since : n .c
   due = record { clock = n .clock; accepted = n .accepted; profile = rules n ok .profile; since = since; until = until; few = few }
 
   -- with this table then
-  whole : (cs : List Context) → slotsOk (n .profile .limits) (n .profile .zone) t (n .accepted + 1) cs ≡ true → distinct (map slotOf cs) ≡ true
+  whole : (cs : List Context) → slotsOk (n .profile .limits) (n .profile .zone) t (n .accepted + 1) cs ≡ true → distinct contexts cs ≡ true
       → All HeldContext cs → length cs ≡ length (n .contexts) → Whole (advanced n t cs)
   unfolding sound
   whole cs k d a l = record {
-    sound = rw (rules n ok .profile, le-leb t latest until, le-leb (n .accepted + 1) mostAccepted (omega arith), d, k);
+    sound = rw (rules n ok .profile, le-leb t latest until, le-leb (n .accepted + 1) mostAccepted (omega arith), apart cs ∙ d, k);
     held = record { profile = h .profile; size = l ∙ h .size; contexts = a };
   }
 
   onward-whole : (cs : List Context) → Onward (n .profile) t (n .accepted + 1) (n .contexts) cs → Whole (advanced n t cs)
-  onward-whole cs o = whole cs (onward-slots o) (onward-distinct o (rules n ok .names)) (onward-held o) (onward-length o)
+  onward-whole cs o = whole cs (onward-slots o) (onward-distinct o (sym (apart (n .contexts)) ∙ rules n ok .names)) (onward-held o) (pairs-length o)
 
   node-kept : (w : Said (Unit {0}) Name Brought Message) → Fairly w → isActive (n .profile) w (slots n) ≡ false → Whole (nodeAfter n t w)
   unfolding nodeAfter isActive activated
@@ -112,12 +114,14 @@ module _ (n : Node) (t : ℕ) (ok : sound n ≡ true) (h : Held n) (since : n .c
       let p = n .profile in
       let r = rules n ok in
       let x = activated p t m (b tt) in
-      let g = fill-is x (n .contexts) (all-settled (p .limits) (p .zone) (n .clock) (n .accepted) (n .contexts) (shapes (n .contexts) (h .contexts)) (r .slots)) in
+      let s = all-settled (p .limits) (p .zone) (n .clock) (n .accepted) (n .contexts) (shapes (n .contexts) (h .contexts)) (r .slots) in
+      let g = fill-is taken noContext x (n .contexts) s in
       let k = activated-sound p t m (b tt) f (r .profile) (n .accepted) in
       whole _
       (filled-slots (p .limits) (p .zone) t (n .accepted + 1) g (slot-active (p .limits) (p .zone) t (n .accepted + 1) x refl ∙ k)
       (slots-later (p .limits) (p .zone) (n .clock) (n .accepted) t (n .accepted + 1) since (omega arith) (n .contexts) (r .slots)))
-      (filled-distinct g (none-bears p m (n .contexts) new) (r .names)) (filled-held g (activated-held p t m (b tt) f) (h .contexts)) (filled-length g)
+      (filled-distinct contexts same-exactly noContext g (none-bears (handling p) taken m (n .contexts) new) (sym (apart (n .contexts)) ∙ r .names))
+      (filled-all taken noContext HeldContext g (activated-held p t m (b tt) f) (h .contexts)) (filled-length taken noContext g)
   node-kept (tells m x) f new = onward-whole _ (all-stay (n .profile) t due (h .profile) (tells m x) f (n .contexts) (rules n ok .slots) (h .contexts))
   node-kept (tellsAll x) f new = onward-whole _ (all-stay (n .profile) t due (h .profile) (tellsAll x) f (n .contexts) (rules n ok .slots) (h .contexts))
   node-kept nothing f new = absurd f

@@ -1,14 +1,13 @@
--- The table after an event: each slot as it must be, the names still apart, and what was written. Assumes nothing.
+-- The table after an event: each slot as it must be, the names still apart, and what was written.
 use mathlib.Core.Path.{_≡_, refl, sym, ap, _∙_}
-use mathlib.Core.Bool.{true, not, _&&_, _||_}
+use mathlib.Core.Bool.{true}
 use mathlib.Core.Option.{Option, none, some}
-use mathlib.Core.List.{List, [], _∷_, _++_, map}
-use Prim.Native.Nat.{ℕ, suc, _+_}
+use mathlib.Core.List.{List, map}
+use Prim.Native.Nat.{ℕ, _+_}
 use native.Mathlib.Omega.{arith}
 use lib.Dec.{eqb}
-use lib.ListN.{length}
-use borrow.Author.Tests.{eqb-true, not-true as not-true-false}
-use Rattle.format.proofs.Tests.{both, by}
+use borrow.Author.Tests.{eqb-true}
+use Rattle.format.proofs.Tests.{by}
 use Rattle.scdr.specs.declared.Record.{Record}
 use Rattle.octets.specs.Filled.{fillTo}
 use Rattle.container.specs.List.{noContainers}
@@ -19,15 +18,21 @@ use Rattle.event.specs.declared.Event.{Event}
 use Rattle.context.specs.declared.Context.{Context}
 use Rattle.context.specs.Context.{noContext}
 use Rattle.context.specs.Sound.{slotOk, slotsOk}
-use Rattle.context.specs.Slots.{slotOf, sameName, isActive, isFree, bears, noneBears, distinct}
+use Rattle.context.specs.Slots.{sameName}
+use Rattle.context.proofs.Scans.{slots-ask}
 use Rattle.context.proofs.Sounds.{slot-active, slot-free, is-zero}
 use Rattle.history.specs.Lists.{All}
 use Rattle.history.specs.Log.{Said, activates, tells, tellsAll, nothing}
 use Rattle.history.specs.Table.{Handling, hears, listen, slot, slotsHear, slotsWrite}
+use Rattle.history.specs.Slots.{distinct}
+use Rattle.history.proofs.Lists.{all-map, all-both}
+use Rattle.history.proofs.Scans.{asks-all, all-ask}
+use Rattle.history.proofs.Slots.{Keeps, same, freed, Pairs, pairs-all, pairs-distinct, hear-pairs, hear-all}
 use Rattle.node.specs.declared.Message.{Message}
-use Rattle.node.specs.Step.{Brought, handling, seen, stood}
+use Rattle.node.specs.Step.{Brought, handling, taken, seen, stood}
 use Rattle.node.specs.Private.Told.{Fair, Due, Apt}
 use Rattle.node.specs.Held.{Shaped, HeldContext, HeldProfile}
+use Rattle.node.proofs.Found.{contexts}
 use Rattle.node.proofs.Kept.{keeps-held, Fine, NextKeeps, Leaves, same-keeps, leaves}
 use Rattle.node.proofs.Brings.{Fairly}
 
@@ -39,82 +44,44 @@ module _ (l : Limits) (z clock accepted : ℕ) where
 
 pub nothing-held : HeldContext noContext
 unfolding fillTo noContainers
-nothing-held = record { shape = record { imsi = refl; apn = refl; containers = refl }; id = omega arith; ggsn = omega arith; pdptype = omega arith; address = omega arith }
+nothing-held =
+    record { shape = record { imsi = refl; apn = refl; containers = refl }; id = omega arith; ggsn = omega arith; pdptype = omega arith; address = omega arith }
 
 pub shapes : (cs : List Context) → All HeldContext cs → All Shaped cs
-shapes [] h = tt
-shapes (c ∷ cs) h = (h .0 .shape, shapes cs (h .1))
-
-fine-append : (a b : List Record) → All Fine a → All Fine b → All Fine (a ++ b)
-fine-append [] b p q = q
-fine-append (r ∷ a) b p q = (p .0, fine-append a b (p .1) q)
+shapes cs h = all-map HeldContext Shaped (λ c k. k .shape) cs h
 
 -- ---- those that hear
 
--- d stands where c stood: it has its name, or the slot is free
-pub data Names (c d : Context) : Type 0 where
-  same : d .active ≡ c .active → d .name ≡ c .name → Names c d
-  freed : isFree (slotOf d) ≡ true → Names c d
-
+-- d stands where c stood
 pub record Stays (p : Profile) (t m : ℕ) (c d : Context) : Type 0 where
   pub slot : slotOk (p .limits) (p .zone) t m d ≡ true
   pub held : HeldContext d
-  pub names : Names c d
+  pub names : Keeps contexts c d
 
 -- the table ds follows the table cs
-pub data Onward (p : Profile) (t m : ℕ) : List Context → List Context → Type 0 where
-  end : Onward p t m [] []
-  next : {c d : Context} {cs ds : List Context} → Stays p t m c d → Onward p t m cs ds → Onward p t m (c ∷ cs) (d ∷ ds)
+abbrev pub Onward : Profile → ℕ → ℕ → List Context → List Context → Type 0
+Onward p t m cs ds = Pairs (Stays p t m) cs ds
 
-names-none : (k : Name) {c d : Context} → Names c d → not (bears k (slotOf c)) ≡ true → not (bears k (slotOf d)) ≡ true
-unfolding bears isFree isActive
-names-none k (same a n) e = rw (a, n) e
-names-none k {d = d} (freed e) f = rw (not-true-false (eqb (d .active) 1) e)
+module _ {p : Profile} {t m : ℕ} {cs ds : List Context} (o : Pairs (Stays p t m) cs ds) where
+  pub onward-slots : slotsOk (p .limits) (p .zone) t m ds ≡ true
+  onward-slots = all-ask (slots-ask (p .limits) (p .zone) t m) ds (pairs-all (λ d. slotOk (p .limits) (p .zone) t m d ≡ true) (λ c d s. s .slot) o)
 
-module _ {p : Profile} {t m : ℕ} where
-  pub onward-slots : {cs ds : List Context} → Onward p t m cs ds → slotsOk (p .limits) (p .zone) t m ds ≡ true
-  unfolding slotsOk
-  onward-slots end = refl
-  onward-slots (next s o) = rw (s .slot, onward-slots o)
+  pub onward-held : All HeldContext ds
+  onward-held = pairs-all HeldContext (λ c d s. s .held) o
 
-  pub onward-held : {cs ds : List Context} → Onward p t m cs ds → All HeldContext ds
-  onward-held end = tt
-  onward-held (next s o) = (s .held, onward-held o)
-
-  pub onward-length : {cs ds : List Context} → Onward p t m cs ds → length ds ≡ length cs
-  onward-length end = refl
-  onward-length (next s o) = ap suc (onward-length o)
-
-  onward-none : (k : Name) {cs ds : List Context} → Onward p t m cs ds → noneBears k (map slotOf cs) ≡ true → noneBears k (map slotOf ds) ≡ true
-  unfolding noneBears
-  onward-none k end e = refl
-  onward-none k (next {c} {d} {cs} {ds} s o) e =
-      let w = both (not (bears k (slotOf c))) (noneBears k (map slotOf cs)) e in
-      rw (names-none k (s .names) (w .0), onward-none k o (w .1))
-
-  pub onward-distinct : {cs ds : List Context} → Onward p t m cs ds → distinct (map slotOf cs) ≡ true → distinct (map slotOf ds) ≡ true
-  unfolding distinct isFree isActive
-  onward-distinct end e = refl
-  onward-distinct (next {c} {d} {cs} {ds} s o) e =
-      let w = both (not (eqb (c .active) 1) || noneBears (c .name) (map slotOf cs)) (distinct (map slotOf cs)) e in
-      rw (onward-distinct o (w .1)) (go (s .names) (w .0))
-    where
-      go : Names c d → (not (eqb (c .active) 1) || noneBears (c .name) (map slotOf cs)) ≡ true
-          → ((not (eqb (d .active) 1) || noneBears (d .name) (map slotOf ds)) && true) ≡ true
-      go (freed f) h = rw f
-      go (same a n) h =
-          rw (a, n)
-          (by (eqb (c .active) 1)
-          (λ i. rw (i, onward-none (c .name) o (rw i at h)))
-          (λ i. rw i))
+  pub onward-distinct : distinct contexts cs ≡ true → distinct contexts ds ≡ true
+  onward-distinct e = pairs-distinct contexts (λ c d s. s .names) o e
 
 module _ (p : Profile) (t m : ℕ) (c : Context) where
   -- what stands in the slot of an active context
   next-stays : (o : Option Context) → c .active ≡ 1 → HeldContext c → NextKeeps p t m c o → Stays p t m c (stood o)
-  unfolding isFree isActive
   next-stays none e h k = record { slot = nothing-ok (p .limits) (p .zone) t m; held = nothing-held; names = freed refl }
   next-stays (some d) e h k =
-      record { slot = slot-active (p .limits) (p .zone) t m d (k .active ∙ e) ∙ k .sound; held = keeps-held k h; names = same (k .active) (k .name) }
+      record {
+        slot = slot-active (p .limits) (p .zone) t m d (k .active ∙ e) ∙ k .sound;
+        held = keeps-held k h;
+        names = same (ap (λ (a : ℕ). eqb a 1) (k .active)) (k .name);
+      }
 
 module _ (p : Profile) (t : ℕ) (u : Due p t) (o : HeldProfile p) where
   abbrev m : ℕ
@@ -128,10 +95,6 @@ module _ (p : Profile) (t : ℕ) (u : Due p t) (o : HeldProfile p) where
 
   abbrev SlotsOk : List Context → Type 0
   SlotsOk cs = slotsOk (p .limits) (p .zone) (u .clock) (u .accepted) cs ≡ true
-
-  slots-both : (c : Context) (cs : List Context) → SlotsOk (c ∷ cs) → SlotOk c × SlotsOk cs
-  unfolding slotsOk
-  slots-both c cs k = both (slotOk (p .limits) (p .zone) (u .clock) (u .accepted) c) (slotsOk (p .limits) (p .zone) (u .clock) (u .accepted) cs) k
 
   module _ (c : Context) (k : SlotOk c) (h : HeldContext c) (e : c .active ≡ 1) where
     abbrev apt : Apt p t c
@@ -156,7 +119,6 @@ module _ (p : Profile) (t : ℕ) (u : Due p t) (o : HeldProfile p) where
     active-leaves c k h e = listens c k h e (hears K (c .name) w) (hears-fair c k h e w f)
 
     slot-stays : (c : Context) → SlotOk c → HeldContext c → Stays p t m c (stood (slot K tt t w (seen c) .next))
-    unfolding isFree isActive
     slot-stays c k h =
         by (eqb (c .active) 1)
         (λ e. let a = eqb-true (c .active) 1 e in rw e (next-stays p t m c (slot K tt t w (some c) .next) a h (active-leaves c k h a .next)))
@@ -166,12 +128,14 @@ module _ (p : Profile) (t : ℕ) (u : Due p t) (o : HeldProfile p) where
     slot-fine c k h = by (eqb (c .active) 1) (λ e. rw e (active-leaves c k h (eqb-true (c .active) 1 e) .out)) (λ e. rw e tt)
 
     -- the whole table
+    abbrev Ok : Context → Type 0
+    Ok c = SlotOk c × HeldContext c
+
+    all-ok : (cs : List Context) → SlotsOk cs → All HeldContext cs → All Ok cs
+    all-ok cs k h = all-both SlotOk HeldContext cs (asks-all (slots-ask (p .limits) (p .zone) (u .clock) (u .accepted)) cs k) h
+
     pub all-stay : (cs : List Context) → SlotsOk cs → All HeldContext cs → Onward p t m cs (map stood (slotsHear K tt t w (map seen cs)))
-    all-stay [] k h = end
-    all-stay (c ∷ cs) k h = let v = slots-both c cs k in next (slot-stays c (v .0) (h .0)) (all-stay cs (v .1) (h .1))
+    all-stay cs k h = hear-pairs K taken noContext tt t (Stays p t m) Ok w (λ c q. slot-stays c (q .0) (q .1)) cs (all-ok cs k h)
 
     pub all-fine : (cs : List Context) → SlotsOk cs → All HeldContext cs → All Fine (slotsWrite K tt t w (map seen cs))
-    all-fine [] k h = tt
-    all-fine (c ∷ cs) k h =
-        let v = slots-both c cs k in
-        fine-append (slot K tt t w (seen c) .out) (slotsWrite K tt t w (map seen cs)) (slot-fine c (v .0) (h .0)) (all-fine cs (v .1) (h .1))
+    all-fine cs k h = hear-all K taken noContext tt t Fine Ok w (λ c q. slot-fine c (q .0) (q .1)) cs (all-ok cs k h)

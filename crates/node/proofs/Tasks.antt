@@ -1,10 +1,9 @@
--- What a call is to do is what the table of refusals and the rules say. Assumes nothing.
+-- What a call is to do is what the table of refusals and the rules say.
 use mathlib.Core.Path.{_≡_, refl, sym, ap, _∙_}
 use mathlib.Core.Bool.{Bool, true, false, cond, _&&_}
 use mathlib.Core.List.{List, _++_, map}
 use Prim.Native.Nat.{ℕ, _+_, _≤_, _<_}
 use native.Mathlib.Omega.{arith}
-use native.Mathlib.Numerals.{add-one}
 use lib.Dec.{leb, eqb}
 use lib.ListN.{length, drop, getD, set}
 use borrow.Author.Tests.{le-leb, lt-leb, le-ltb, lt-ltb}
@@ -27,6 +26,9 @@ use Rattle.context.specs.declared.slots.Found.the-variants.{At, Nothing}
 use Rattle.context.specs.Sound.{slotsOk}
 use Rattle.context.specs.Slots.{slotOf, isFree, bears, firstFrom, distinct}
 use Rattle.history.specs.Lists.{All}
+use Rattle.history.specs.Slots.{across, along}
+use Rattle.history.proofs.Scans.{first-below}
+use Rattle.history.proofs.Ranges.{across-one, along-one}
 use Rattle.history.specs.Log.{Said, activates, tells, tellsAll}
 use Rattle.node.specs.declared.Node.{Node}
 use Rattle.node.specs.declared.Message.{Message}
@@ -36,11 +38,10 @@ use Rattle.node.specs.declared.task.Task.the-variants as K
 use Rattle.node.specs.Sound.{sound, latest, mostAccepted}
 use Rattle.node.specs.Step.{Brought, broughtBy, takes, activated, stepOf, Steps}
 use Rattle.node.specs.Held.{Shaped}
-use Rattle.node.specs.Private.Range.{across, along, slotNext, slotOut, Turns, advanced, triedOf, Tries, servedOf, Serves}
+use Rattle.node.specs.Private.Range.{slotNext, slotOut, Turns, advanced, triedOf, Tries, servedOf, Serves}
 use Rattle.node.specs.Private.Task.{oneAt, namedTask, openAt, openTask, taskOf, timelyTask, taskFor, doneBy, FairEvent}
 use Rattle.node.proofs.Rowed.{tableRows}
-use Rattle.node.proofs.Found.{first-is, none-at, first-below}
-use Rattle.node.proofs.Ranges.{across-none, across-more, along-none, along-more}
+use Rattle.node.proofs.Found.{named-at, none-named, free-at, all-taken}
 use Rattle.node.proofs.Served.{Sounding, Outs, outs-tell, outs-all, outs-activate, outs-8, outs-9, outs-10}
 use Rattle.node.proofs.Calls.{outs-late, outs-early, outs-many, outs-timely, is-sound, steps-13, steps-octets, steps-said}
 
@@ -61,10 +62,10 @@ module _ (n : Node) (i t : ℕ) (h : Message) (d : Context) (l : i < length (n .
   here = getD (n .contexts) i d
 
   alone : along i (i + 1) (slotOut (n .profile) t h) (n .contexts) ≡ slotOut (n .profile) t h here
-  alone = rw (add-one i) (along-more (slotOut (n .profile) t h) i i (n .contexts) d (omega arith) l ∙ rw (along-none (slotOut (n .profile) t h) i (n .contexts)))
+  alone = along-one (slotOut (n .profile) t h) i (n .contexts) d l
 
   placed : across i (i + 1) (slotNext (n .profile) t h) (n .contexts) ≡ set (n .contexts) i (slotNext (n .profile) t h here)
-  placed = rw (add-one i) (across-more (slotNext (n .profile) t h) i i (n .contexts) d (omega arith) l ∙ rw (across-none (slotNext (n .profile) t h) i (n .contexts)))
+  placed = across-one (slotNext (n .profile) t h) i (n .contexts) d l
 
   -- what is answered of it is answered of the node, with what then stands in its place
   served-one : {b b′ : List ℕ} {a k a′ k′ : ℕ} {c : Context} {m : Node} → Tries (n .profile) t h here b b′ a c k → a′ ≡ a
@@ -131,12 +132,12 @@ module _ (n : Node) (s b : List ℕ) (z : All Shaped (n .contexts)) (whole : len
       tell-task : (m : Name) (h : Message) → w ≡ tells m h → (f : Found) → firstFrom (bears m) 0 names ≡ f → Tasked n s b (oneAt t h f)
       unfolding doneBy
       tell-task m h e (At i) q =
-          let f = first-is (bears m) (n .contexts) q in
+          let f = named-at (n .contexts) m q in
           let r = servedOf n i (i + 1) t h b in
           let v : Serves n i (i + 1) t h b (r .1 .1 .1) (r .0) (r .1 .0) (r .1 .1 .0) = record { is = refl } in
           let o : Outs (tableRows n t w b) n t w b (r .1 .1 .1) (r .0) (r .1 .0) (r .1 .1 .0) = rw e (outs-tell n t b so z m h f v) in
           record { done = sym (conv _ _ _ _ o .is); fit = (omega (arith, first-below f), so) }
-      tell-task m h e Nothing q = refused-task (conv _ _ _ _ (rw e (outs-8 n t b m refl refl h (none-at (bears m) 0 (n .contexts) q) refl)))
+      tell-task m h e Nothing q = refused-task (conv _ _ _ _ (rw e (outs-8 n t b m refl refl h (none-named (n .contexts) m q) refl)))
 
       all-task : (h : Message) → w ≡ tellsAll h → Tasked n s b (K.All t h)
       unfolding doneBy
@@ -149,13 +150,16 @@ module _ (n : Node) (s b : List ℕ) (z : All Shaped (n .contexts)) (whole : len
       open-task : (a : Activation) → w ≡ activates (a .name) (λ g. broughtBy a s) → Activated s a → (f g : Found) → firstFrom (bears (a .name)) 0 names ≡ f → firstFrom isFree 0 names ≡ g
           → Tasked n s b (openAt t a f g)
       unfolding doneBy
-      open-task a e x (At i) g q r = refused-task (conv _ _ _ _ (rw e (outs-9 n t b (a .name) refl refl (λ g. broughtBy a s) (first-is (bears (a .name)) (n .contexts) q) refl)))
+      open-task a e x (At i) g q r =
+          refused-task (conv _ _ _ _ (rw e (outs-9 n t b (a .name) refl refl (λ g. broughtBy a s) (named-at (n .contexts) (a .name) q) refl)))
       open-task a e x Nothing (At i) q r =
-          let f = first-is isFree (n .contexts) r in
-          let o = outs-activate n t b so z (a .name) (λ g. broughtBy a s) (none-at (bears (a .name)) 0 (n .contexts) q) f {c = activated (n .profile) t (a .name) (broughtBy a s)} refl refl refl refl in
+          let f = free-at (n .contexts) r in
+          let new = activated (n .profile) t (a .name) (broughtBy a s) in
+          let o = outs-activate n t b so z (a .name) (λ g. broughtBy a s) (none-named (n .contexts) (a .name) q) f {c = new} refl refl refl refl in
           record { done = sym (conv _ _ _ _ (rw e o) .is); fit = (omega (arith, first-below f), (so, x)) }
       open-task a e x Nothing Nothing q r =
-          refused-task (conv _ _ _ _ (rw e (outs-10 n t b (a .name) refl refl (λ g. broughtBy a s) (none-at (bears (a .name)) 0 (n .contexts) q) (none-at isFree 0 (n .contexts) r) refl)))
+          refused-task (conv _ _ _ _ (rw e
+          (outs-10 n t b (a .name) refl refl (λ g. broughtBy a s) (none-named (n .contexts) (a .name) q) (all-taken (n .contexts) r) refl)))
 
     module _ (ok : sound n ≡ true) where
       kind-task : (e : Event) → decoded s ≡ D.Said t e → Tasked n s b (taskOf names t e)

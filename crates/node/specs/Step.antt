@@ -1,7 +1,7 @@
--- One call: the refusal table, and what an accepted event does to the node. Assumes nothing.
+-- One call: the refusal table, and what an accepted event does to the node.
 use mathlib.Core.Path.{_≡_}
 use mathlib.Core.Bool.{Bool, false, not, cond, _||_}
-use mathlib.Core.Option.{Option, none, some}
+use mathlib.Core.Option.{Option}
 use mathlib.Core.List.{List, [], _∷_, _++_, map}
 use Prim.Native.Nat.{ℕ, _+_}
 use lib.Dec.{leb, ltb, eqb}
@@ -23,6 +23,7 @@ use Rattle.context.specs.declared.Context.{Context}
 use Rattle.context.specs.Context.{noContext}
 use Rattle.context.specs.Slots.{sameName}
 use Rattle.history.specs.Lists.{each}
+use Rattle.history.specs.Slots as S
 use Rattle.history.specs.Log.{Said, activates, tells, tellsAll, nothing}
 use Rattle.history.specs.Table.{Handling, free, active, slotsAfter, writes}
 use Rattle.node.specs.declared.Node.{Node}
@@ -88,13 +89,15 @@ handling p = record {
   hear = λ g c t h. hear p c t h;
 }
 
--- a slot of the table, and what stands in it
+-- a slot of the table, and what stands in it (`seen`, `stood` of history's specs/Slots.antt)
+abbrev pub taken : Context → Bool
+taken c = eqb (c .active) 1
+
 abbrev pub seen : Context → Option Context
-seen c = cond (eqb (c .active) 1) (some c) none
+seen c = S.seen taken c
 
 abbrev pub stood : Option Context → Context
-stood none = noContext
-stood (some c) = c
+stood o = S.stood noContext o
 
 abbrev pub slots : Node → List (Option Context)
 slots n = map seen (n .contexts)

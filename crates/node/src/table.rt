@@ -7,7 +7,8 @@ ghost use mathlib.Core.Path.{_≡_};
 ghost use Prim.Native.Nat.{_≤_};
 ghost use lib.ListN.{length};
 ghost use Rattle.node.specs.Private.Told.{Fair, Ready};
-ghost use Rattle.node.specs.Private.Range.{across, along, slotNext, slotOut, Turns};
+ghost use Rattle.history.specs.Slots.{across, along};
+ghost use Rattle.node.specs.Private.Range.{slotNext, slotOut, Turns};
 
 // The table after it, and the place after what was written.
 pub struct Heard16 {

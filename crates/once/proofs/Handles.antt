@@ -1,8 +1,8 @@
 -- How the node handles contexts, in the words of the histories; and that this is sound: names are kept, an activation stores and
--- hearing does what the history says. Assumes nothing.
-use mathlib.Core.Path.{_≡_, refl, ap, ap₂}
+-- hearing does what the history says.
+use mathlib.Core.Path.{_≡_, refl, ap}
 use mathlib.Core.Logic.{_↔_}
-use mathlib.Core.Bool.{Bool, true, false, cond, _&&_}
+use mathlib.Core.Bool.{Bool, true, false, cond}
 use mathlib.Core.Option.{Option, none, some}
 use mathlib.Core.List.{List, [], _∷_, map}
 use Prim.Native.Nat.{ℕ}
@@ -23,7 +23,7 @@ use Rattle.node.specs.declared.Message as node
 use Rattle.node.specs.declared.Message.the-variants as N
 use Rattle.node.specs.Hear.{reported, qosAfter, changed, opened, recordOf, changeOf, closing, goesOn, closedBy, afterClosing, isRelease, hearWith, hear}
 use Rattle.node.specs.Step as step
-use Rattle.node.proofs.Heards.{same-name}
+use Rattle.node.proofs.Heards as heards
 use Rattle.once.specs.Charging.{Force, Heard, same, says, meaning, rules, forms}
 use Rattle.once.specs.Once.{sight}
 use Rattle.once.proofs.Hears.{nodes, hears-told}
@@ -195,7 +195,7 @@ module _ (p : Profile) where
 
   same-exactly : (m n : Name) → (same m n ≡ true) ↔ (m ≡ n)
   unfolding sameName
-  same-exactly m n = ((λ e. same-name m n e), (λ e. rw e (ap₂ {C = Bool} (λ a b. a && b) (eq-eqb (n .id) (n .id) refl) (eq-eqb (n .ggsn) (n .ggsn) refl))))
+  same-exactly m n = heards.same-exactly m n
 
   pub sound : Sound (rules (p .limits)) meaning (forms p) K (sight .nameOf) (λ s. tt)
   unfolding step.activated

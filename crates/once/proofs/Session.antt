@@ -1,5 +1,4 @@
 -- 01's "One session, whole", by the definitions: the histories of its events, the records that they make, and 01's octets.
--- Assumes nothing.
 use mathlib.Core.Path.{_≡_, refl, ap, _∙_}
 use mathlib.Core.List.{List, [], _∷_, _++_, map}
 use Prim.Native.Nat.{ℕ}
@@ -36,7 +35,8 @@ use Rattle.event.specs.Event.{eventOf}
 use Rattle.context.specs.Sound as context
 use Rattle.context.specs.Sound.{unusedOk, closedOk, countOk, containersOk, volumeOk, contextOk, zeroOk, slotOk, slotsOk}
 use Rattle.context.specs.Slots as slots
-use Rattle.context.specs.Slots.{sameName, isFree, bears, noneBears, distinct}
+use Rattle.context.specs.Slots.{sameName, isFree, bears}
+use Rattle.history.specs.Slots.{noneBears, distinct}
 use Rattle.history.specs.History.{History, start, _▸_∶_}
 use Rattle.history.specs.Records.{Rules, records}
 use Rattle.history.specs.Log.{Accepted, histories}

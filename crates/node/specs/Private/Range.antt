@@ -1,38 +1,26 @@
--- Some of the table's slots, from one place up to another: what is done there, and what that writes. Assumes nothing.
+-- Some of the table's slots, from one place up to another: what is done there, and what that writes.
 use mathlib.Core.Path.{_≡_}
 use mathlib.Core.Bool.{cond}
-use mathlib.Core.List.{List, [], _∷_, _++_}
-use Prim.Native.Nat.{ℕ, zero, suc, _+_, _≤_}
-use lib.Dec.{leb, eqb}
+use mathlib.Core.List.{List, _++_}
+use Prim.Native.Nat.{ℕ, _+_, _≤_}
+use lib.Dec.{leb}
 use lib.ListN.{length, drop}
 use Rattle.ber.specs.Private.Wrote.{Put}
 use Rattle.profile.specs.declared.Profile.{Profile}
 use Rattle.context.specs.declared.Context.{Context}
+use Rattle.context.specs.Context.{noContext}
+use Rattle.history.specs.Slots as S
+use Rattle.history.specs.Slots.{across, along}
 use Rattle.node.specs.declared.Node.{Node}
 use Rattle.node.specs.declared.Message.{Message}
-use Rattle.node.specs.Hear.{hear}
-use Rattle.node.specs.Step.{stood, octetsOf}
+use Rattle.node.specs.Step.{handling, taken, octetsOf}
 
--- f of each element from the place a up to b, the others as they are
-unfoldable pub across : {A : Type 0} → ℕ → ℕ → (A → A) → List A → List A
-across a zero f xs = xs
-across a (suc b) f [] = []
-across zero (suc b) f (x ∷ xs) = f x ∷ across zero b f xs
-across (suc a) (suc b) f (x ∷ xs) = x ∷ across a b f xs
-
--- what those yield, in order
-unfoldable pub along : {A B : Type 0} → ℕ → ℕ → (A → List B) → List A → List B
-along a zero g xs = []
-along a (suc b) g [] = []
-along zero (suc b) g (x ∷ xs) = g x ++ along zero b g xs
-along (suc a) (suc b) g (x ∷ xs) = along a b g xs
-
--- a slot whose context, if it has one, hears h at t: what then stands in it, and what it writes
+-- a slot whose context, if it has one, hears h at t: what then stands in it, and the octets that it writes
 unfoldable pub slotNext : Profile → ℕ → Message → Context → Context
-slotNext p t h c = cond (eqb (c .active) 1) (stood (hear p c t h .next)) c
+slotNext p t h c = S.slotNext (handling p) taken noContext tt t h c
 
 unfoldable pub slotOut : Profile → ℕ → Message → Context → List ℕ
-slotOut p t h c = cond (eqb (c .active) 1) (octetsOf (hear p c t h .out)) []
+slotOut p t h c = S.slotOut (handling p) taken octetsOf tt t h c
 
 -- a number of octets, few enough to add up
 pub record Counts (x : List ℕ) (n : ℕ) : Type 0 where

@@ -1,4 +1,4 @@
--- `context::slots::all_distinct` meets its contract. Both loops' invariant: what is left to look at decides. Assumes nothing.
+-- `context::slots::all_distinct` meets its contract. Both loops' invariant: what is left to look at decides.
 use mathlib.Core.Path.{_≡_, refl, sym, ap}
 use mathlib.Core.Bool.{not}
 use Prim.Native.Nat.{_+_, _-_}
@@ -6,13 +6,14 @@ use native.Mathlib.Omega.{arith}
 use lib.ListN.{length}
 use borrow.Author.Needs.{needs}
 use Rattle.format.proofs.Arrays.{length-of-map}
-use Rattle.context.specs.Slots.{distinct}
-use Rattle.context.proofs.Scans.{Rest, rest-all, rest-no, rest-next, rest-end, alone, alone-asks, distinct-asks}
+use Rattle.history.proofs.Scans.{Rest, rest-all, rest-no, rest-next, rest-end, alone}
+use Rattle.context.specs.Slots.{naming, distinct}
+use Rattle.context.proofs.Scans.{alone-asks, distinct-asks}
 use Rattle.context.proofs.slots.all_distinct.Statement.{statement}
 use Rattle.context.proofs.slots.all_distinct.Tie as tie
 
 abbrev Inv-loop2 : tie.InvT-loop2
-Inv-loop2 slots i s j₀ j = Rest (alone s) slots (i + 1) j
+Inv-loop2 slots i s j₀ j = Rest (alone naming s) slots (i + 1) j
 
 abbrev μ-loop2 : tie.MeasureT-loop2
 μ-loop2 slots i s j₀ j = 16 - j

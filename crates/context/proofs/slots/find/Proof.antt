@@ -1,12 +1,12 @@
--- `context::slots::find` meets its contract. The loop's invariant: none before i passes. Assumes nothing.
-use mathlib.Core.Path.{_≡_}
+-- `context::slots::find` meets its contract. The loop's invariant: none before i passes.
+use mathlib.Core.Path.{_≡_, ap}
 use Prim.Native.Nat.{_-_}
 use native.Mathlib.Omega.{arith}
 use lib.ListN.{length}
 use borrow.Author.Needs.{needs}
 use Rattle.format.proofs.Arrays.{length-of-map}
-use Rattle.context.specs.Slots.{bears}
-use Rattle.context.proofs.Scans.{Scan, scan-all, scan-here, scan-next, scan-end}
+use Rattle.context.specs.Slots.{bears, foundAt}
+use Rattle.history.proofs.Scans.{Scan, scan-all, scan-here, scan-next, scan-end}
 use Rattle.context.proofs.slots.find.Statement.{statement}
 use Rattle.context.proofs.slots.find.Tie as tie
 
@@ -35,7 +35,7 @@ returns : tie.Need-returns Inv-loop μ-loop
 returns c =
     let s = c .before .before .before .before in
     let l = long (s .before) in
-    scan-here (s .loop .inv) _ (omega arith) (c .before .bears .ensures) (c .if1 .taken)
+    ap foundAt (scan-here (s .loop .inv) _ (omega arith) (c .before .bears .ensures) (c .if1 .taken))
 
 add-i : tie.Need-add-i Inv-loop μ-loop
 add-i c = search needs
@@ -52,7 +52,7 @@ loop-again c =
 returns-2 : tie.Need-returns-2 Inv-loop μ-loop
 returns-2 c =
     let l = long (c .before .before) in
-    scan-end (c .before .loop .inv) (omega arith)
+    ap foundAt (scan-end (c .before .loop .inv) (omega arith))
 
 pub find-spec : {M : Type 1} → statement M
 find-spec =

@@ -1,16 +1,17 @@
--- `context::slots::slots_of` meets its contract. The loop's invariant: the first i names are copied. Assumes nothing.
+-- `context::slots::slots_of` meets its contract. The loop's invariant: the first i names are copied.
 use mathlib.Core.Path.{_≡_}
 use Prim.Native.Nat.{_-_}
 use native.Mathlib.Omega.{arith}
 use lib.ListN.{length}
 use borrow.Author.Needs.{needs}
 use Rattle.format.proofs.Arrays.{length-of-map}
-use Rattle.context.proofs.Scans.{Copied, copied-none, copied-more, copied-all}
+use Rattle.history.proofs.Scans.{Copied, copied-none, copied-more, copied-all}
+use Rattle.context.specs.Slots.{slotOf}
 use Rattle.context.proofs.slots.slots_of.Statement.{statement}
 use Rattle.context.proofs.slots.slots_of.Tie as tie
 
 abbrev Inv-loop : tie.InvT-loop
-Inv-loop cs slots₀ i₀ slots i = Copied cs slots i
+Inv-loop cs slots₀ i₀ slots i = Copied slotOf cs slots i
 
 abbrev μ-loop : tie.MeasureT-loop
 μ-loop cs slots₀ i₀ slots i = 16 - i

@@ -1,4 +1,4 @@
--- `context::sound::slots_ok` meets its contract. The loop's invariant: what is left to look at decides. Assumes nothing.
+-- `context::sound::slots_ok` meets its contract. The loop's invariant: what is left to look at decides.
 use mathlib.Core.Path.{_≡_}
 use Prim.Native.Nat.{_-_}
 use native.Mathlib.Omega.{arith}
@@ -7,7 +7,8 @@ use borrow.Author.Needs.{needs}
 use borrow.Author.Tests.{not-true, not-false}
 use Rattle.format.proofs.Arrays.{length-of-map}
 use Rattle.context.specs.Sound.{slotsOk}
-use Rattle.context.proofs.Scans.{Rest, rest-all, rest-no, rest-next, rest-end, slots-ask}
+use Rattle.history.proofs.Scans.{Rest, rest-all, rest-no, rest-next, rest-end}
+use Rattle.context.proofs.Scans.{slots-ask}
 use Rattle.context.proofs.sound.slots_ok.Statement.{statement}
 use Rattle.context.proofs.sound.slots_ok.Tie as tie
 

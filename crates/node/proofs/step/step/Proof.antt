@@ -1,24 +1,26 @@
--- `node::step::step` meets its contract. Assumes nothing.
+-- `node::step::step` meets its contract.
 use mathlib.Core.Path.{_≡_, sym, _∙_}
 use Prim.Native.Nat.{_-_}
 use native.Mathlib.Omega.{arith}
 use lib.ListN.{length}
 use Rattle.format.proofs.Arrays.{length-of-map}
 use Rattle.history.specs.Lists.{All}
-use Rattle.node.specs.declared.Message.the-variants as M
+use Rattle.history.proofs.Scans.{Looking, looking-none, looking-more, looking-end}
+use Rattle.context.specs.Slots.{slotOf}
+use Rattle.context.specs.Sound.{slotsOk}
+use Rattle.context.proofs.Scans.{slots-ask}
 use Rattle.node.specs.declared.task.Task.{Task}
 use Rattle.node.specs.Held.{Shaped}
 use Rattle.node.proofs.Shapes.{all-shaped}
 use Rattle.node.proofs.Ranges.{slotted}
 use Rattle.node.proofs.Served.{ready}
-use Rattle.node.proofs.Looks.{Looking, looking-none, looking-more, looking-end}
 use Rattle.node.proofs.Tasks.{Tasked, tasked-by, steps-refused, steps-one, steps-all, steps-open}
 use borrow.Author.Needs.{needs}
 use Rattle.node.proofs.step.step.Statement.{statement}
 use Rattle.node.proofs.step.step.Tie as tie
 
 abbrev Inv-loop : tie.InvT-loop
-Inv-loop event out node p l names₀ good₀ i₀ names good i = Looking l (p .zone) (node .clock) (node .accepted) (node .contexts) names good i
+Inv-loop event out node p l names₀ good₀ i₀ names good i = Looking slotOf (slotsOk l (p .zone) (node .clock) (node .accepted)) (node .contexts) names good i
 
 abbrev μ-loop : tie.MeasureT-loop
 μ-loop event out node p l names₀ good₀ i₀ names good i = 16 - i
@@ -38,10 +40,12 @@ the-task : (c : tie.After-task-for Inv-loop μ-loop) (k : Task) → c .task-for 
 the-task c k e =
     let s = start c in
     let w = whole s in
-    tasked-by (s .args .t1) (s .args .event .now) (s .args .out .now) (shapes s) w (looking-end _ _ _ _ _ (c .before .before .before .loop .inv) (omega (arith, c .before .before .loop-test .left))) (c .before .keeps-rules .ensures) (sym e ∙ c .task-for .ensures .0)
+    tasked-by (s .args .t1) (s .args .event .now) (s .args .out .now) (shapes s) w
+    (looking-end (slots-ask _ _ _ _) (c .before .before .before .loop .inv) (omega (arith, c .before .before .loop-test .left)))
+    (c .before .keeps-rules .ensures) (sym e ∙ c .task-for .ensures .0)
 
 loop-holds : tie.Need-loop-holds Inv-loop μ-loop
-loop-holds c = let s = c .before .before .before .before in let w = whole s in looking-none _ _ _ _ _ (omega arith)
+loop-holds c = let s = c .before .before .before .before in let w = whole s in looking-none (omega arith)
 
 mul-c : tie.Need-mul-c Inv-loop μ-loop
 mul-c c = search needs
@@ -65,7 +69,10 @@ loop-less : tie.Need-loop-less Inv-loop μ-loop
 loop-less c = search needs
 
 loop-again : tie.Need-loop-again Inv-loop μ-loop
-loop-again c = let s = c .before .before .before .before .before .before .before .before .before in let w = whole s in looking-more _ _ _ _ _ (c .before .before .before .before .loop .inv) _ (omega arith) (c .before .slot-ok .ensures)
+loop-again c =
+    let s = c .before .before .before .before .before .before .before .before .before in
+    let w = whole s in
+    looking-more (slots-ask _ _ _ _) (c .before .before .before .before .loop .inv) _ (omega arith) (c .before .slot-ok .ensures)
 
 keeps-rules-requires : tie.Need-keeps-rules-requires Inv-loop μ-loop
 keeps-rules-requires c κs = search needs
@@ -92,7 +99,7 @@ try-slot-requires : tie.Need-try-slot-requires Inv-loop μ-loop
 try-slot-requires c κs =
     let s = c .before .before .before .before .before .before .before .before .before .before .before .before .before in
     let t = the-task (c .before .before .before .before .before) _ (c .before .before .before .k2 .given .1) in (
-      slotted (s .args .t1 .profile) _ M.Tick 0 16 (s .args .t1 .contexts) _ (t .fit .0) (omega (arith, whole s)) (ready (s .args .t1) _ (t .fit .1)),
+      slotted (s .args .t1 .profile) _ (s .args .t1 .contexts) _ (omega (arith, whole s, t .fit .0)) (ready (s .args .t1) _ (t .fit .1)),
       rw (c .before .before .before .k2 .given .1) at (c .before .before .before .before .before .task-for .ensures .1),
     )
 
