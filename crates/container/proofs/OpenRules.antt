@@ -18,7 +18,7 @@ use Rattle.container.specs.declared.OpenRecord.{OpenRecord}
 use Rattle.container.specs.Qos.{qosOk, sameQos, noQos}
 use Rattle.container.specs.Container.{containerOk}
 use Rattle.container.specs.List.{changes, listOk, noContainers, padded, blanks, isBlank}
-use Rattle.container.specs.Open.{used, opened, noOpen, reported, running, ended, changed, volumeOf, openOk, volumeMet, changesMet}
+use Rattle.container.specs.Open.{used, opened, noOpen, reported, running, endedAll, changed, volumeOf, openOk, volumeMet, changesMet}
 use Rattle.container.specs.Open.{unusedOk, countOk, containersOk, volumeOk, soundOpen, blankOpen}
 use Rattle.container.specs.Private.Held.{heldOk}
 use Rattle.container.proofs.Goods.{same-qos}
@@ -180,50 +180,30 @@ module _ (most limit z clock : ℕ) (o : OpenRecord) (g : SoundOpen most limit z
     volume = g .volume;
   }
 
-  module _ (size : length (o .containers) ≡ 15) (few : o .count < 15) where
-    used-size : length (used o) ≡ o .count
-    used-size = length-take-le (o .count) (o .containers) (omega arith)
+  -- a change leaves it open: one container and one change more, both below the limit
+  pub changed-sound : (size : length (used o) ≡ o .count) (k : ℕ) (q : Qos) → containerOk (running o k (record { seconds = t; zone = z })) ≡ true → k < 2
+      → qosOk q ≡ true → changes (running o k (record { seconds = t; zone = z })) q ≡ true → o .changes + 1 < limit
+      → SoundOpen most limit z t (changed o k (record { seconds = t; zone = z }) q)
+  changed-sound size k q ok h range e below =
+      let x = running o k (record { seconds = t; zone = z }) in
+      let cs = endedAll o k (record { seconds = t; zone = z }) in
+      record {
+        qos = range;
+        unused = padded-rest cs;
+        count = omega (arith, length-append (used o) (x ∷ []), size, g .count);
+        changes = below;
+        zone = g .zone;
+        containers = rw (take-padded cs)
+            (open-more z (o .opening .seconds) (o .qos) clock (used o) (g .containers) x ok refl refl since h q t (omega arith) e);
+        volume = rw (take-padded cs, volume-more x (used o)) (omega (arith, g .volume));
+      }
 
-    -- the containers of one that ended, in their array
-    pub ended-all : (x : Container) → set (o .containers) (o .count) x ≡ padded (used o ++ (x ∷ []))
-    ended-all x = padded-more (o .containers) (o .count) x size few (g .unused)
-
-    pub ended-count : (x : Container) → o .count + 1 ≡ length (used o ++ (x ∷ []))
-    ended-count x = sym (length-append (used o) (x ∷ []) ∙ ap (λ (n : ℕ). n + 1) used-size)
-
-    ended-used : (x : Container) → take (o .count + 1) (set (o .containers) (o .count) x) ≡ used o ++ (x ∷ [])
-    ended-used x = rw (ended-all x, ended-count x) (take-padded (used o ++ (x ∷ [])))
-
-    ended-rest : (x : Container) → blanks (drop (o .count + 1) (set (o .containers) (o .count) x)) ≡ true
-    ended-rest x = rw (ended-all x, ended-count x) (padded-rest (used o ++ (x ∷ [])))
-
-    -- a change leaves it open: one container and one change more, both below the limit
-    pub changed-sound : (k : ℕ) (q : Qos) → let x = running o k (record { seconds = t; zone = z }) in
-        containerOk x ≡ true → k < 2 → qosOk q ≡ true → changes x q ≡ true → o .changes + 1 < limit
-        → SoundOpen most limit z t (changed o k (record { seconds = t; zone = z }) q)
-    changed-sound k q ok h range e below =
-        let x = running o k (record { seconds = t; zone = z }) in
-        record {
-          qos = range;
-          unused = ended-rest x;
-          count = omega (arith, g .count);
-          changes = below;
-          zone = g .zone;
-          containers = rw (ended-used x) (open-more z (o .opening .seconds) (o .qos) clock (used o) (g .containers) x ok refl refl since h q t (omega arith) e);
-          volume = rw (ended-used x, volume-more x (used o)) (omega (arith, g .volume));
-        }
-
-    -- the record closes: its list keeps the rules of records, and the places after it are blank
-    pub closed-list : (up down : ℕ) → let x = running (reported o up down) 2 (record { seconds = t; zone = z }) in
-        containerOk x ≡ true → listOk (o .opening) (take (o .count + 1) (set (o .containers) (o .count) x)) ≡ true
-    closed-list up down ok =
-        let x = running (reported o up down) 2 (record { seconds = t; zone = z }) in
-        rw (ended-used x)
-        (open-closes (o .opening .zone) (o .opening .seconds) (o .qos) clock (used o) (rw (g .zone) (g .containers)) x ok refl (sym (g .zone)) since refl
-        (omega (arith, used-size)))
-
-    pub closed-rest : (x : Container) → blanks (drop (o .count + 1) (set (o .containers) (o .count) x)) ≡ true
-    closed-rest = ended-rest
+  -- the record closes: its list keeps the rules of records
+  pub closed-list : length (used o) ≤ 14 → (up down : ℕ) → containerOk (running (reported o up down) 2 (record { seconds = t; zone = z })) ≡ true
+      → listOk (o .opening) (endedAll (reported o up down) 2 (record { seconds = t; zone = z })) ≡ true
+  closed-list few up down ok =
+      let x = running (reported o up down) 2 (record { seconds = t; zone = z }) in
+      open-closes (o .opening .zone) (o .opening .seconds) (o .qos) clock (used o) (rw (g .zone) (g .containers)) x ok refl (sym (g .zone)) since refl few
 
   pub opening-ok : t ≤ 3155759999 → z ≤ 1560 → stampOk (o .opening) ≡ true
   unfolding stampOk
@@ -250,3 +230,18 @@ opened-sound most limit z t q range some any = record {
   containers = open-none z t q t (omega arith);
   volume = some;
 }
+
+-- ---- one container more, in its array
+
+pub used-length : (o : OpenRecord) → o .count ≤ 15 → length (o .containers) ≡ 15 → length (used o) ≡ o .count
+used-length o h l = length-take-le (o .count) (o .containers) (omega arith)
+
+module _ (o : OpenRecord) (few : o .count < 15) (unused : blanks (drop (o .count) (o .containers)) ≡ true) (l : length (o .containers) ≡ 15) where
+  pub places : (k : ℕ) (now : Stamp) {x : Container} → x ≡ running o k now → set (o .containers) (o .count) x ≡ padded (endedAll o k now)
+  places k now e =
+      ap (λ (x : Container). set (o .containers) (o .count) x) e ∙ padded-more (o .containers) (o .count) (running o k now) l few unused
+
+  pub more : (k : ℕ) (now : Stamp) → o .count + 1 ≡ length (endedAll o k now)
+  more k now =
+      let u = used-length o (omega arith) l in
+      sym (length-append (used o) (running o k now ∷ []) ∙ ap (λ (n : ℕ). n + 1) u)

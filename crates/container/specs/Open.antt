@@ -1,9 +1,9 @@
 -- A record that is still open: what becomes of it, what the limits say of it (01, "What an event does"), and its rules (01, "A sound node").
 use mathlib.Core.Bool.{Bool, true, _&&_}
-use mathlib.Core.List.{List, [], _∷_}
+use mathlib.Core.List.{List, [], _∷_, _++_}
 use Prim.Native.Nat.{ℕ, _+_, _-_, _^_}
 use lib.Dec.{leb, ltb, eqb}
-use lib.ListN.{take, drop, set}
+use lib.ListN.{length, take, drop}
 use Rattle.calendar.specs.declared.Stamp.{Stamp}
 use Rattle.container.specs.declared.Qos.{Qos}
 use Rattle.container.specs.declared.Container.{Container}
@@ -42,6 +42,10 @@ reported o up down = record {
 abbrev pub running : OpenRecord → ℕ → Stamp → Container
 running o condition now = record { qos = o .qos; uplink = o .uplink; downlink = o .downlink; condition = condition; time = now }
 
+-- all its containers once the running one has ended
+abbrev pub endedAll : OpenRecord → ℕ → Stamp → List Container
+endedAll o condition now = used o ++ (running o condition now ∷ [])
+
 -- the running container has ended: it stands after the others, and nothing is counted
 abbrev pub ended : OpenRecord → ℕ → Stamp → OpenRecord
 ended o condition now = record {
@@ -50,8 +54,8 @@ ended o condition now = record {
   uplink = 0;
   downlink = 0;
   changes = o .changes;
-  containers = set (o .containers) (o .count) (running o condition now);
-  count = o .count + 1;
+  containers = padded (endedAll o condition now);
+  count = length (endedAll o condition now);
 }
 
 -- a change that closes nothing: the running container has ended, and the next one runs under q
@@ -62,8 +66,8 @@ changed o condition now q = record {
   uplink = 0;
   downlink = 0;
   changes = o .changes + 1;
-  containers = set (o .containers) (o .count) (running o condition now);
-  count = o .count + 1;
+  containers = padded (endedAll o condition now);
+  count = length (endedAll o condition now);
 }
 
 -- What the code can do at all: counters that can take a report more, and a place for one container more. Every open record of a sound node has both.
@@ -71,7 +75,7 @@ abbrev pub ample : OpenRecord → Bool
 ample o = ltb (o .uplink) (2 ^ 63) && ltb (o .downlink) (2 ^ 63)
 
 abbrev pub roomy : OpenRecord → Bool
-roomy o = ltb (o .count) 15
+roomy o = ltb (o .count) 15 && blanks (drop (o .count) (o .containers))
 
 -- ---- the containers of an open record, and the running one after them
 

@@ -80,7 +80,11 @@ pub fn ended(o: OpenRecord, condition: u8, now: Stamp) -> OpenRecord
     ensures { λ r. ⌜ r ≡ cond (roomy o) (ended o condition now) o ⌝ }
 {
     let at = o.count;
+    let v = o.containers;
     if 15 <= at {
+        return o;
+    }
+    if !unused::unused_blank(v, at) {
         return o;
     }
     let x = running(o, condition, now);
@@ -97,10 +101,15 @@ pub fn changed(o: OpenRecord, condition: u8, now: Stamp, q: Qos) -> OpenRecord
     ensures { λ r. ⌜ r ≡ cond (roomy o && ltb (o .changes) 255) (changed o condition now q) o ⌝ }
 {
     let more = o.changes;
+    let at = o.count;
+    let v = o.containers;
     if 255 <= more {
         return o;
     }
-    if 15 <= o.count {
+    if 15 <= at {
+        return o;
+    }
+    if !unused::unused_blank(v, at) {
         return o;
     }
     let mut n = ended(o, condition, now);
