@@ -1,4 +1,4 @@
--- What a context writes: how long it is, and that it was written. Assumes nothing.
+-- What a context writes: how long it is, and that it was written.
 use mathlib.Core.Path.{_≡_, refl, sym, ap, _∙_}
 use mathlib.Core.Bool.{Bool, true, false, cond}
 use mathlib.Core.Option.{Option, none, some}
@@ -72,46 +72,46 @@ module _ (r : Record) {b b₁ : List ℕ} {at a : ℕ} (w : within r ≡ true) (
 
 -- ---- what an active context does
 
-module _ (p : Profile) (c : Context) (t : ℕ) (h : Message) where
-  hear-closes : {cause : ℕ} → closing (p .limits) c t h ≡ some cause
-      → hear p c t h ≡ record { next = afterClosing p c t h; out = closedBy p c t h cause ∷ [] }
+module _ (p : Profile) (c : Context) (t : ℕ) (m : Message) where
+  hear-closes : {cause : ℕ} → closing (p .limits) (c .current) t m ≡ some cause
+      → hear p c t m ≡ record { next = afterClosing p c t m; out = closedBy p c t m cause ∷ [] }
   unfolding hear hearWith
   hear-closes e = rw e
 
-  hear-on : closing (p .limits) c t h ≡ none → hear p c t h ≡ record { next = some (goesOn p c t h (changeOf c h)); out = [] }
+  hear-on : closing (p .limits) (c .current) t m ≡ none → hear p c t m ≡ record { next = some (going c (goesOn p (c .current) t m (changeOf (c .current) m)) (c .closed)); out = [] }
   unfolding hear hearWith
   hear-on e = rw e
 
-  octets-closes : {cause : ℕ} → closing (p .limits) c t h ≡ some cause → octetsOf (hear p c t h .out) ≡ markedOctets (closedBy p c t h cause)
+  octets-closes : {cause : ℕ} → closing (p .limits) (c .current) t m ≡ some cause → octetsOf (hear p c t m .out) ≡ markedOctets (closedBy p c t m cause)
   unfolding octetsOf
-  octets-closes {cause} e = rw (hear-closes e) (append-nil (markedOctets (closedBy p c t h cause)))
+  octets-closes {cause} e = rw (hear-closes e) (append-nil (markedOctets (closedBy p c t m cause)))
 
-  octets-on : closing (p .limits) c t h ≡ none → octetsOf (hear p c t h .out) ≡ []
+  octets-on : closing (p .limits) (c .current) t m ≡ none → octetsOf (hear p c t m .out) ≡ []
   unfolding octetsOf
   octets-on e = rw (hear-on e)
 
-  pub counts-closes : {cause : ℕ} {r : Record} {n : ℕ} → closing (p .limits) c t h ≡ some cause → r ≡ closedBy p c t h cause → within (closedBy p c t h cause) ≡ true
-      → Sizes r n → Counts (octetsOf (hear p c t h .out)) (2 + n)
+  pub counts-closes : {cause : ℕ} {r : Record} {n : ℕ} → closing (p .limits) (c .current) t m ≡ some cause → r ≡ closedBy p c t m cause → within (closedBy p c t m cause) ≡ true
+      → Sizes r n → Counts (octetsOf (hear p c t m .out)) (2 + n)
   unfolding markedOctets sizeOf
   counts-closes {cause} {r} {n} e i w s =
-      let z : n ≡ length (scdr .enc (closedBy p c t h cause)) = s .is ∙ rw (i, w) in
+      let z : n ≡ length (scdr .enc (closedBy p c t m cause)) = s .is ∙ rw (i, w) in
       record { is = rw (octets-closes e) (omega arith); most = omega (arith, s .most) }
 
-  pub counts-on : closing (p .limits) c t h ≡ none → Counts (octetsOf (hear p c t h .out)) 0
+  pub counts-on : closing (p .limits) (c .current) t m ≡ none → Counts (octetsOf (hear p c t m .out)) 0
   counts-on e = record { is = rw (octets-on e); most = omega arith }
 
   -- room for what it writes is room for the record
-  pub room-closes : (at : ℕ) {cause : ℕ} {r : Record} {n : ℕ} → closing (p .limits) c t h ≡ some cause → r ≡ closedBy p c t h cause
-      → at + length (octetsOf (hear p c t h .out)) ≤ n → at + length (markedOctets r) ≤ n
+  pub room-closes : (at : ℕ) {cause : ℕ} {r : Record} {n : ℕ} → closing (p .limits) (c .current) t m ≡ some cause → r ≡ closedBy p c t m cause
+      → at + length (octetsOf (hear p c t m .out)) ≤ n → at + length (markedOctets r) ≤ n
   room-closes at e i k = rw i (rw (octets-closes e) at k)
 
-  pub turns-closes : {cause : ℕ} {r : Record} {d : Context} {b b′ : List ℕ} {at next : ℕ} → closing (p .limits) c t h ≡ some cause → r ≡ closedBy p c t h cause
-      → d ≡ stood (afterClosing p c t h) → Put (markedOctets r) b b′ at next
-      → Turns (stood (hear p c t h .next)) (octetsOf (hear p c t h .out)) b b′ at d next
+  pub turns-closes : {cause : ℕ} {r : Record} {d : Context} {b b′ : List ℕ} {at next : ℕ} → closing (p .limits) (c .current) t m ≡ some cause → r ≡ closedBy p c t m cause
+      → d ≡ stood (afterClosing p c t m) → Put (markedOctets r) b b′ at next
+      → Turns (stood (hear p c t m .next)) (octetsOf (hear p c t m .out)) b b′ at d next
   turns-closes e i j q = record { value = rw (hear-closes e) j; written = put-is (ap markedOctets i ∙ sym (octets-closes e)) q }
 
-  pub turns-on : {d : Context} {b : List ℕ} {at : ℕ} → closing (p .limits) c t h ≡ none → d ≡ goesOn p c t h (changeOf c h) → at ≤ length b
-      → Turns (stood (hear p c t h .next)) (octetsOf (hear p c t h .out)) b b at d at
+  pub turns-on : {d : Context} {b : List ℕ} {at : ℕ} → closing (p .limits) (c .current) t m ≡ none → d ≡ going c (goesOn p (c .current) t m (changeOf (c .current) m)) (c .closed) → at ≤ length b
+      → Turns (stood (hear p c t m .next)) (octetsOf (hear p c t m .out)) b b at d at
   turns-on {b = b} e j k = record { value = rw (hear-on e) j; written = put-is (sym (octets-on e)) (put-none k) }
     where
       put-none : {b : List ℕ} {at : ℕ} → at ≤ length b → Put [] b b at at
@@ -119,12 +119,12 @@ module _ (p : Profile) (c : Context) (t : ℕ) (h : Message) where
 
 -- ---- a slot
 
-module _ (p : Profile) (t : ℕ) (h : Message) (c : Context) where
-  pub slot-active : c .active ≡ 1 → (slotNext p t h c ≡ stood (hear p c t h .next)) × (slotOut p t h c ≡ octetsOf (hear p c t h .out))
+module _ (p : Profile) (t : ℕ) (m : Message) (c : Context) where
+  pub slot-active : c .active ≡ 1 → (slotNext p t m c ≡ stood (hear p c t m .next)) × (slotOut p t m c ≡ octetsOf (hear p c t m .out))
   unfolding slotNext slotOut
   slot-active e = (rw e, rw e)
 
-  pub slot-free : (c .active ≡ 1 → ⊥) → (slotNext p t h c ≡ c) × (slotOut p t h c ≡ [])
+  pub slot-free : (c .active ≡ 1 → ⊥) → (slotNext p t m c ≡ c) × (slotOut p t m c ≡ [])
   unfolding slotNext slotOut
   slot-free e = let f = ne-eqb (c .active) 1 e in (rw f, rw f)
 
@@ -132,17 +132,17 @@ module _ (p : Profile) (t : ℕ) (h : Message) (c : Context) where
   unfolding slotOk
   slot-apt e s = record { due = s .due; sound = rw (eq-eqb (c .active) 1 e) at (s .sound) }
 
-  pub slot-counts : {n : ℕ} → c .active ≡ 1 → Counts (octetsOf (hear p c t h .out)) n → Counts (slotOut p t h c) n
+  pub slot-counts : {n : ℕ} → c .active ≡ 1 → Counts (octetsOf (hear p c t m .out)) n → Counts (slotOut p t m c) n
   slot-counts e k = rw (slot-active e .1) k
 
-  pub free-counts : (c .active ≡ 1 → ⊥) → Counts (slotOut p t h c) 0
+  pub free-counts : (c .active ≡ 1 → ⊥) → Counts (slotOut p t m c) 0
   free-counts e = record { is = rw (slot-free e .1); most = omega arith }
 
   pub slot-turns : {d : Context} {b b′ : List ℕ} {at next : ℕ} → c .active ≡ 1
-      → Turns (stood (hear p c t h .next)) (octetsOf (hear p c t h .out)) b b′ at d next → Turns (slotNext p t h c) (slotOut p t h c) b b′ at d next
+      → Turns (stood (hear p c t m .next)) (octetsOf (hear p c t m .out)) b b′ at d next → Turns (slotNext p t m c) (slotOut p t m c) b b′ at d next
   slot-turns e k = record { value = k .value ∙ sym (slot-active e .0); written = put-is (sym (slot-active e .1)) (k .written) }
 
-  pub free-turns : {b : List ℕ} {at : ℕ} → (c .active ≡ 1 → ⊥) → at + length (slotOut p t h c) ≤ length b → Turns (slotNext p t h c) (slotOut p t h c) b b at c at
+  pub free-turns : {b : List ℕ} {at : ℕ} → (c .active ≡ 1 → ⊥) → at + length (slotOut p t m c) ≤ length b → Turns (slotNext p t m c) (slotOut p t m c) b b at c at
   free-turns {b} {at} e k =
       record {
         value = sym (slot-free e .0);

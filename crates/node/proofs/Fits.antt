@@ -1,21 +1,18 @@
--- What a profile in range and a sound context say, as the code and the laws want it. Assumes nothing.
+-- What a profile in range and a sound context say, as the code and the laws want it.
 use mathlib.Core.Path.{_≡_}
 use mathlib.Core.Bool.{Bool, true, _&&_}
 use Prim.Native.Nat.{ℕ, _+_, _^_, _≤_, _<_}
 use native.Mathlib.Omega.{arith}
 use lib.Dec.{leb}
-use lib.ListN.{length}
-use borrow.Author.Tests.{leb-true}
+use borrow.Author.Tests.{leb-true, lt-ltb}
 use Rattle.format.proofs.Tests.{both}
-use Rattle.container.specs.Open.{volumeOf}
 use Rattle.octets.specs.Names.{nodeOk}
 use Rattle.profile.specs.declared.Limits.{Limits}
 use Rattle.profile.specs.declared.Profile.{Profile}
 use Rattle.profile.specs.Profile.{limitsOk, profileOk}
 use Rattle.context.specs.declared.Context.{Context}
-use Rattle.context.specs.Context.{used}
 use Rattle.context.proofs.Sounds.{Good, good}
-use Rattle.node.specs.Private.Told.{Roomy, Ample, Apt}
+use Rattle.node.specs.Private.Told.{Grows, Apt}
 
 -- ---- a profile in range
 
@@ -61,19 +58,19 @@ module _ (p : Profile) (t : ℕ) (c : Context) (a : Apt p t c) where
   pub apt-good : Good (p .limits) (p .zone) (a .due .clock) (a .due .accepted) c
   apt-good = good (p .limits) (p .zone) (a .due .clock) (a .due .accepted) c (a .sound)
 
-  pub apt-roomy : Roomy c
-  apt-roomy =
-      let g = apt-good in
+  pub apt-grows : Grows c
+  apt-grows =
+      let g = apt-good .current in
       let f = fit p (a .due .profile) in
       record {
-        few = omega (arith, g .count, g .changes, f .changes);
-        unused = g .unused;
+        counters = rw (lt-ltb (c .current .uplink) (2 ^ 63) (omega (arith, g .volume, f .volume)), lt-ltb (c .current .downlink) (2 ^ 63) (omega (arith, g .volume, f .volume)));
+        place = rw (lt-ltb (c .current .count) 15 (omega (arith, g .count, g .changes, f .changes)), g .unused);
         changes = omega (arith, g .changes, f .changes);
-        closed = omega (arith, g .closed, a .due .few);
+        closed = omega (arith, apt-good .closed, a .due .few);
       }
 
-  pub apt-ample : Ample c
-  apt-ample =
-      let g = apt-good in
+  pub apt-few : c .current .count < 15
+  apt-few =
+      let g = apt-good .current in
       let f = fit p (a .due .profile) in
-      record { uplink = omega (arith, g .volume, f .volume); downlink = omega (arith, g .volume, f .volume) }
+      omega (arith, g .count, g .changes, f .changes)

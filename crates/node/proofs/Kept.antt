@@ -1,45 +1,44 @@
--- A context that hears an event stays as it must be, and so is the record that it closes. Assumes nothing.
-use mathlib.Core.Path.{_≡_, refl, sym}
-use mathlib.Core.Bool.{Bool, true, false}
+-- A context that hears an event stays as it must be, and so is the record that it closes.
+use mathlib.Core.Path.{_≡_, refl, sym, ap, _∙_}
+use mathlib.Core.Bool.{Bool, true, false, not, cond, _&&_}
 use mathlib.Core.Option.{Option, none, some}
 use mathlib.Core.List.{[], _∷_}
 use Prim.Native.Nat.{ℕ, _+_, _^_, _≤_, _<_}
 use native.Mathlib.Omega.{arith}
 use lib.Dec.{leb}
 use lib.ListN.{length, length-append}
-use borrow.Author.Tests.{leb-false, le-leb, lt-ltb}
+use borrow.Author.Tests.{leb-false}
 use Rattle.format.proofs.Tests.{by, true-T, and-i}
-use Rattle.calendar.specs.Stamp.{stampOk}
 use Rattle.container.specs.declared.Qos.{Qos}
+use Rattle.container.specs.declared.OpenRecord.{OpenRecord}
 use Rattle.container.specs.Qos.{qosOk, sameQos}
 use Rattle.container.specs.Container.{containerOk}
 use Rattle.container.specs.List.{changes}
-use Rattle.container.specs.Open.{volumeOf}
+use Rattle.container.specs.Open as O
+use Rattle.container.specs.Open.{volumeOf, used, running, endedAll}
 use Rattle.container.proofs.Goods.{qos-same}
-use Rattle.container.proofs.Opens.{volume-more, open-none, open-later, open-more, padded-rest}
+use Rattle.container.proofs.OpenRules.{SoundOpen, counted-sound, later-sound, changed-sound, running-ok, opened-sound, used-length}
+use Rattle.container.proofs.Padded.{padded-length}
 use Rattle.scdr.specs.declared.Record.{Record}
 use Rattle.scdr.specs.Rules.{shaped, within}
 use Rattle.scdr.specs.Layout.{scdr}
-use Rattle.container.proofs.Padded.{take-padded, padded-length}
 use Rattle.scdr.proofs.Answering.{shaped-is}
 use Rattle.scdr.proofs.Theorems.{at-most-1024, round-trip}
 use Rattle.profile.specs.declared.Limits.{Limits}
 use Rattle.profile.specs.declared.Profile.{Profile}
 use Rattle.context.specs.declared.Context.{Context}
-use Rattle.context.specs.Context.{used}
 use Rattle.context.specs.Sound.{contextOk}
 use Rattle.context.proofs.Sounds.{good, good-is}
-use Rattle.history.specs.Lists.{test, All}
+use Rattle.history.specs.Lists.{isSome, orElse, test, All}
 use Rattle.history.specs.Table.{Step}
 use Rattle.history.proofs.Lists.{none≢some}
 use Rattle.node.specs.declared.Message.{Message}
-use Rattle.node.specs.declared.Message.the-variants as M
-use Rattle.node.specs.Hear.{counted, reported, qosAfter, changeOf, reached, closing, isRelease, ended, endedAll, changed, opened, recordOf, goesOn, closedBy, afterClosing, hearWith, hear, numberFor}
+use Rattle.node.specs.Hear.{reported, qosAfter, changeOf, closing, timeAt, going, numberFor, recordOf, goesOn, closedBy, afterClosing, hearWith, hear}
 use Rattle.node.specs.Private.Told.{Fair, Apt}
 use Rattle.node.specs.Held.{Shaped, HeldContext, HeldProfile}
-use Rattle.node.proofs.Turned.{used-length, more}
-use Rattle.node.proofs.Fits.{fit, apt-good, apt-roomy}
-use Rattle.node.proofs.Closed.{ended-ok, closed-within}
+use Rattle.node.proofs.Fits.{fit, apt-good, apt-grows, apt-few}
+use Rattle.node.proofs.Closed.{closed-within}
+use Rattle.node.proofs.Perhaps.{test-none, neither-none}
 
 -- ---- what is to be shown
 
@@ -82,205 +81,180 @@ pub record Leaves (p : Profile) (t m : ℕ) (c : Context) (s : Step Context Reco
   pub next : NextKeeps p t m c (s .next)
   pub out : All Fine (s .out)
 
--- ---- a later clock, and other counters
+-- ---- a later clock
 
-module _ (l : Limits) (z clock accepted : ℕ) (c : Context) (h : contextOk l z clock accepted c ≡ true) (t m : ℕ) (since : clock ≤ t) (few : accepted ≤ m) where
-  counted-sound : (up down : ℕ) → volumeOf (used c) + up + down < l .volume → contextOk l z t m (counted c up down) ≡ true
-  counted-sound up down v =
-      let g = good l z clock accepted c h in
-      good-is l z t m (counted c up down) (record {
-        flags = g .flags;
-        imsi = g .imsi;
-        apn = g .apn;
-        qos = g .qos;
-        unused = g .unused;
-        closed = omega (arith, g .closed);
-        count = g .count;
-        changes = g .changes;
-        zone = g .zone;
-        containers = open-later z (c .opening .seconds) (c .qos) clock (used c) (g .containers) t since;
-        volume = v;
-      })
-
-  -- a context that does not hear
-  pub later-sound : contextOk l z t m c ≡ true
-  later-sound = counted-sound (c .uplink) (c .downlink) (good l z clock accepted c h .volume)
+-- a context that does not hear
+pub later-context : (l : Limits) (z clock accepted : ℕ) (c : Context) → contextOk l z clock accepted c ≡ true → (t m : ℕ) → clock ≤ t → accepted ≤ m
+    → contextOk l z t m c ≡ true
+later-context l z clock accepted c h t m since few =
+    let g = good l z clock accepted c h in
+    good-is l z t m c (record {
+      flags = g .flags;
+      imsi = g .imsi;
+      apn = g .apn;
+      closed = omega (arith, g .closed);
+      current = later-sound (l .volume) (l .changes) z clock (c .current) (g .current) t since;
+    })
 
 -- ---- one that hears
 
-test-none : (b : Bool) (n : ℕ) → test b n ≡ none → b ≡ false
-test-none true n e = absurd (none≢some (sym e))
-test-none false n e = refl
+-- what is known where nothing closes
+record Still (l : Limits) (o : OpenRecord) (t : ℕ) (m : Message) : Type 0 where
+  volume : (m .counts && O.volumeMet (l .volume) (reported o m)) ≡ false
+  changes : (isSome (changeOf o m) && O.changesMet (l .changes) o) ≡ false
 
--- what a report is: other counters
-record Reports (c d : Context) : Type 0 where
-  up : ℕ
-  down : ℕ
-  is : d ≡ counted c up down
+still : (l : Limits) (o : OpenRecord) (t : ℕ) (m : Message) → closing l o t m ≡ none → Still l o t m
+unfolding closing
+still l o t m e = by (m .closes) (λ y. absurd (none≢some (sym (rw y at e)))) (λ n. go (rw n at e))
+  where
+    go : orElse (test (m .counts && O.volumeMet (l .volume) (reported o m)) 16)
+        (orElse (test (m .ticks && O.timeMet (l .seconds) t o) 17) (test (isSome (changeOf o m) && O.changesMet (l .changes) o) 19)) ≡ none → Still l o t m
+    go i =
+        let a = neither-none (m .counts && O.volumeMet (l .volume) (reported o m)) 16 _ i in
+        let b = neither-none (m .ticks && O.timeMet (l .seconds) t o) 17 _ (a .1) in
+        record { volume = a .0; changes = test-none (isSome (changeOf o m) && O.changesMet (l .changes) o) 19 (b .1) }
 
-reports : (c : Context) (h : Message) → Reports c (reported c h)
-unfolding reported
-reports c (M.Traffic up down) = record { up = c .uplink + up; down = c .downlink + down; is = refl }
-reports c (M.Qos q) = record { up = c .uplink; down = c .downlink; is = refl }
-reports c M.Tariff = record { up = c .uplink; down = c .downlink; is = refl }
-reports c (M.Release cause) = record { up = c .uplink; down = c .downlink; is = refl }
-reports c M.Tick = record { up = c .uplink; down = c .downlink; is = refl }
-reports c M.Management = record { up = c .uplink; down = c .downlink; is = refl }
+-- which change it is: to another QoS, or of the tariff
+record Changes (o : OpenRecord) (m : Message) (k : ℕ) : Type 0 where
+  small : k < 2
+  right : (x : OpenRecord) → x .qos ≡ o .qos → (time : _) → changes (running x k time) (qosAfter o m) ≡ true
 
-module _ (p : Profile) (t : ℕ) (c : Context) (a : Apt p t c) (w : Shaped c) where
+module _ (p : Profile) (t : ℕ) (c : Context) (a : Apt p t c) (w : Shaped c) (m : Message) (f : Fair m) where
+  abbrev o : OpenRecord
+  o = c .current
+
+  range : qosOk (qosAfter o m) ≡ true
+  unfolding qosAfter
+  range = by (m .brings) (λ y. rw y (f .qos y)) (λ n. rw n (apt-good p t c a .current .qos))
+
   -- the report leaves the record open
-  counted-keeps : (up down : ℕ) → volumeOf (used c) + up + down < p .limits .volume → Keeps p t (a .due .accepted + 1) c (counted c up down)
-  counted-keeps up down v = record {
-    sound = counted-sound (p .limits) (p .zone) (a .due .clock) (a .due .accepted) c (a .sound) t (a .due .accepted + 1) (a .due .since) (omega arith) up down v;
-    active = refl;
-    name = refl;
-    pdptype = refl;
-    address = refl;
-    shape = record { imsi = w .imsi; apn = w .apn; containers = w .containers };
-  }
+  report-sound : (m .counts && O.volumeMet (p .limits .volume) (reported o m)) ≡ false
+      → SoundOpen (p .limits .volume) (p .limits .changes) (p .zone) t (reported o m)
+  unfolding reported
+  report-sound e =
+      counted-sound (p .limits .volume) (p .limits .changes) (p .zone) (a .due .clock) o (apt-good p t c a .current) t (a .due .since) (m .up) (m .down)
+      (by (m .counts) (λ y. leb-false (p .limits .volume) (volumeOf (used o) + (o .uplink + m .up) + (o .downlink + m .down)) (rw y at e)) (λ n.
+      let z = f .uncounted n in
+      omega (arith, z .0, z .1, apt-good p t c a .current .volume)))
 
-  pub same-keeps : Keeps p t (a .due .accepted + 1) c c
-  same-keeps = counted-keeps (c .uplink) (c .downlink) (apt-good p t c a .volume)
-
-  cut-ok : (k : ℕ) → k ≤ 2 → containerOk (ended p c t k) ≡ true
-  cut-ok k h =
+  keeps : (d : OpenRecord) (closed : ℕ) → closed ≤ c .closed + 1 → length (d .containers) ≡ 15
+      → SoundOpen (p .limits .volume) (p .limits .changes) (p .zone) t d → Keeps p t (a .due .accepted + 1) c (going c d closed)
+  keeps d closed l size s =
       let g = apt-good p t c a in
-      let f = fit p (a .due .profile) in
-      ended-ok p t c f k h (g .qos) (omega (arith, g .volume, f .volume)) (omega (arith, g .volume, f .volume)) (a .due .until)
+      record {
+        sound = good-is (p .limits) (p .zone) t (a .due .accepted + 1) (going c d closed) (record {
+          flags = g .flags;
+          imsi = g .imsi;
+          apn = g .apn;
+          closed = omega (arith, g .closed);
+          current = s;
+        });
+        active = refl;
+        name = refl;
+        pdptype = refl;
+        address = refl;
+        shape = record { imsi = w .imsi; apn = w .apn; containers = size };
+      }
 
-  one-more : (k : ℕ) → length (endedAll p c t k) ≡ c .count + 1
-  one-more k = sym (more p c t k (apt-roomy p t c a) (w .containers))
+  used-few : length (used o) ≡ o .count
+  used-few = used-length o (omega (arith, apt-few p t c a)) (w .containers)
+
+  cut-ok : (k : ℕ) → k ≤ 2 → containerOk (running (reported o m) k (timeAt p t)) ≡ true
+  unfolding reported
+  cut-ok k h =
+      let g = apt-good p t c a .current in
+      let x = fit p (a .due .profile) in
+      running-ok (reported o m) k t (p .zone) h (g .qos) (omega (arith, g .volume, x .volume, f .up)) (omega (arith, g .volume, x .volume, f .down))
+      (a .due .until) (x .zone)
 
   -- a change leaves it open: one container and one change more, both below the limit
-  changed-keeps : (k : ℕ) (q : Qos) → k < 2 → qosOk q ≡ true → changes (ended p c t k) q ≡ true → c .changes + 1 < p .limits .changes
-      → Keeps p t (a .due .accepted + 1) c (changed p c t k q)
-  unfolding changed
-  changed-keeps k q h ok e few =
-      let g = apt-good p t c a in
-      let r = apt-roomy p t c a in
-      let n = one-more k in
-      let cs = endedAll p c t k in
-      record {
-        sound = good-is (p .limits) (p .zone) t (a .due .accepted + 1) (changed p c t k q) (record {
-          flags = g .flags;
-          imsi = g .imsi;
-          apn = g .apn;
-          qos = ok;
-          unused = padded-rest cs;
-          closed = omega (arith, g .closed);
-          count = omega (arith, g .count);
-          changes = few;
-          zone = g .zone;
-          containers = rw (take-padded cs)
-              (open-more (p .zone) (c .opening .seconds) (c .qos) (a .due .clock) (used c) (g .containers) (ended p c t k) (cut-ok k (omega arith)) refl refl (a .due .since) h q t (omega arith) e);
-          volume = rw (take-padded cs, volume-more (ended p c t k) (used c)) (omega (arith, g .volume));
-        });
-        active = refl;
-        name = refl;
-        pdptype = refl;
-        address = refl;
-        shape = record { imsi = w .imsi; apn = w .apn; containers = padded-length cs (omega (arith, r .few)) };
-      }
-
-  -- the next record opens, with nothing counted
-  opened-keeps : (q : Qos) → qosOk q ≡ true → Keeps p t (a .due .accepted + 1) c (opened p c t q)
-  unfolding opened volumeOf
-  opened-keeps q ok =
-      let g = apt-good p t c a in
-      let f = fit p (a .due .profile) in
-      record {
-        sound = good-is (p .limits) (p .zone) t (a .due .accepted + 1) (opened p c t q) (record {
-          flags = g .flags;
-          imsi = g .imsi;
-          apn = g .apn;
-          qos = ok;
-          unused = padded-rest [];
-          closed = omega (arith, g .closed);
-          count = refl;
-          changes = f .some-changes;
-          zone = refl;
-          containers = open-none (p .zone) t q t (omega arith);
-          volume = omega (arith, f .some-volume);
-        });
-        active = refl;
-        name = refl;
-        pdptype = refl;
-        address = refl;
-        shape = record { imsi = w .imsi; apn = w .apn; containers = padded-length [] (omega arith) };
-      }
-
-  -- ---- what an event does
-
-  reached-none : reached (p .limits) c ≡ none → c .changes + 1 < p .limits .changes
-  unfolding reached
-  reached-none e = let b = leb (p .limits .changes) (c .changes + 1) in leb-false (p .limits .changes) (c .changes + 1) (test-none b 19 e)
+  changed-size : (k : ℕ) → length (O.changed (reported o m) k (timeAt p t) (qosAfter o m) .containers) ≡ 15
+  unfolding reported
+  changed-size k =
+      padded-length (endedAll (reported o m) k (timeAt p t))
+      (omega (arith, length-append (used o) (running (reported o m) k (timeAt p t) ∷ []), used-few, apt-few p t c a))
 
   -- where nothing closes
-  goes-on : (h : Message) → Fair h → closing (p .limits) c t h ≡ none → Keeps p t (a .due .accepted + 1) c (goesOn p c t h (changeOf c h))
-  unfolding goesOn changeOf closing reported qosAfter
-  goes-on (M.Traffic up down) f e =
-      let sum = volumeOf (used c) + (c .uplink + up) + (c .downlink + down) in
-      counted-keeps (c .uplink + up) (c .downlink + down) (leb-false (p .limits .volume) sum (test-none (leb (p .limits .volume) sum) 16 e))
-  goes-on (M.Qos q) f e =
-      by (sameQos (c .qos) q)
-      (λ s. rw s same-keeps)
-      (λ s. rw s (changed-keeps 0 q (omega arith) f (rw s) (reached-none (rw s at e))))
-  goes-on M.Tariff f e = changed-keeps 1 (c .qos) (omega arith) (apt-good p t c a .qos) (rw (qos-same (c .qos) (c .qos) refl)) (reached-none e)
-  goes-on (M.Release cause) f e = absurd (none≢some (sym e))
-  goes-on M.Tick f e = same-keeps
-  goes-on M.Management f e = absurd (none≢some (sym e))
+  goes-on : (k : Option ℕ) → changeOf o m ≡ k → closing (p .limits) o t m ≡ none
+      → Keeps p t (a .due .accepted + 1) c (going c (goesOn p o t m k) (c .closed))
+  unfolding goesOn
+  goes-on none i e = keeps (reported o m) (c .closed) (omega arith) (report-size (w .containers)) (report-sound (still (p .limits) o t m e .volume))
+    where
+      report-size : length (o .containers) ≡ 15 → length (reported o m .containers) ≡ 15
+      unfolding reported
+      report-size l = l
+  goes-on (some k) i e =
+      let s = still (p .limits) o t m e in
+      let h = changes-is k i in
+      let below : o .changes + 1 < p .limits .changes = leb-false (p .limits .changes) (o .changes + 1) (rw i at (s .changes)) in
+      keeps (O.changed (reported o m) k (timeAt p t) (qosAfter o m)) (c .closed) (omega arith) (changed-size k) (sound k h below (report-sound (s .volume)))
+    where
+      changes-is : (k : ℕ) → changeOf o m ≡ some k → Changes o m k
+      unfolding changeOf qosAfter
+      changes-is k i =
+          by (m .brings)
+          (λ y. by (sameQos (o .qos) (m .qos)) (λ z. absurd (none≢some (rw (y, z) at i))) (λ z.
+          let j : some 0 ≡ some k = rw (y, z) at i in
+          let l : 0 ≡ k = cc in
+          record { small = omega arith; right = λ x q time. rw (y, ← l, q, z) }))
+          (λ y. by (m .tariff) (λ z.
+          let j : some 1 ≡ some k = rw (y, z) at i in
+          let l : 1 ≡ k = cc in
+          record { small = omega arith; right = λ x q time. rw (y, ← l, q, qos-same (o .qos) (o .qos) refl) })
+          (λ z. absurd (none≢some (rw (y, z) at i))))
+
+      sound : (k : ℕ) → Changes o m k → o .changes + 1 < p .limits .changes → SoundOpen (p .limits .volume) (p .limits .changes) (p .zone) t (reported o m)
+          → SoundOpen (p .limits .volume) (p .limits .changes) (p .zone) t (O.changed (reported o m) k (timeAt p t) (qosAfter o m))
+      unfolding reported
+      sound k h below s =
+          changed-sound (p .limits .volume) (p .limits .changes) (p .zone) t (reported o m) s t (omega arith) used-few k (qosAfter o m) (cut-ok k (omega (arith, h .small)))
+          (h .small) range (h .right (reported o m) refl _) below
 
   -- where the record closes
-  after-closing : (h : Message) → Fair h → NextKeeps p t (a .due .accepted + 1) c (afterClosing p c t h)
-  unfolding afterClosing reported qosAfter opened
-  after-closing (M.Traffic up down) f = opened-keeps (c .qos) (apt-good p t c a .qos)
-  after-closing (M.Qos q) f = opened-keeps q f
-  after-closing M.Tariff f = opened-keeps (c .qos) (apt-good p t c a .qos)
-  after-closing (M.Release cause) f = tt
-  after-closing M.Tick f = opened-keeps (c .qos) (apt-good p t c a .qos)
-  after-closing M.Management f = opened-keeps (c .qos) (apt-good p t c a .qos)
-
-  next-keeps : (h : Message) → Fair h → NextKeeps p t (a .due .accepted + 1) c (hear p c t h .next)
-  unfolding hear hearWith
-  next-keeps h f = go (closing (p .limits) c t h) refl
+  after-closing : NextKeeps p t (a .due .accepted + 1) c (afterClosing p c t m)
+  unfolding afterClosing
+  after-closing = go (m .releases)
     where
-      go : (k : Option ℕ) → closing (p .limits) c t h ≡ k → NextKeeps p t (a .due .accepted + 1) c (hearWith p c t h k .next)
-      go none e = goes-on h f e
-      go (some cause) e = after-closing h f
+      go : (b : Bool) → NextKeeps p t (a .due .accepted + 1) c (cond b none (some (going c (O.opened (timeAt p t) (qosAfter o m)) (c .closed + 1))))
+      go true = tt
+      go false =
+          let x = fit p (a .due .profile) in
+          keeps (O.opened (timeAt p t) (qosAfter o m)) (c .closed + 1) (omega arith) (padded-length [] (omega arith))
+          (opened-sound (p .limits .volume) (p .limits .changes) (p .zone) t (qosAfter o m) range (x .some-volume) (x .some-changes))
+
+  next-keeps : NextKeeps p t (a .due .accepted + 1) c (hear p c t m .next)
+  unfolding hear hearWith
+  next-keeps = go (closing (p .limits) o t m) refl
+    where
+      go : (k : Option ℕ) → closing (p .limits) o t m ≡ k → NextKeeps p t (a .due .accepted + 1) c (hearWith p c t m k .next)
+      go none e = goes-on (changeOf o m) refl e
+      go (some cause) e = after-closing
 
   -- whatever it hears, what stands after it follows it
-  pub heard-sound : (h : Message) → Fair h → {d : Context} → hear p c t h .next ≡ some d → Keeps p t (a .due .accepted + 1) c d
-  heard-sound h f {d} e = go (hear p c t h .next) (next-keeps h f) e
+  pub heard-sound : {d : Context} → hear p c t m .next ≡ some d → Keeps p t (a .due .accepted + 1) c d
+  heard-sound {d} e = go (hear p c t m .next) next-keeps e
     where
-      go : (o : Option Context) → NextKeeps p t (a .due .accepted + 1) c o → o ≡ some d → Keeps p t (a .due .accepted + 1) c d
+      go : (x : Option Context) → NextKeeps p t (a .due .accepted + 1) c x → x ≡ some d → Keeps p t (a .due .accepted + 1) c d
       go none k i = absurd (none≢some i)
-      go (some x) k i = let z : x ≡ d = cc in rw z at k
+      go (some y) k i = let z : y ≡ d = cc in rw z at k
 
-module _ (p : Profile) (t : ℕ) (c : Context) (a : Apt p t c) (w : HeldContext c) (o : HeldProfile p) where
-  shaped-with : (up down cause number : ℕ) → shaped (recordOf p (counted c up down) t cause number) ≡ true
-  unfolding recordOf
-  shaped-with up down cause number =
-      let d = counted c up down in
-      let r = apt-roomy p t c a in
-      let u = used-length c (omega (arith, r .few)) (w .shape .containers) in
-      let n : length (endedAll p d t 2) ≤ 15 = omega (arith, length-append (used c) (ended p d t 2 ∷ []), r .few) in
-      shaped-is (recordOf p d t cause number) (w .shape .apn) (padded-length (endedAll p d t 2) n) (o .nodeid) (o .sgsn) (w .id) (w .ggsn) (w .pdptype) (w .address)
-
-  closed-fine : (h : Message) (cause : ℕ) → Fair h → closing (p .limits) c t h ≡ some cause → Fine (closedBy p c t h cause)
-  unfolding closedBy
-  closed-fine h cause f e =
-      let r = reports c h in
-      fine (closedBy p c t h cause) (closed-within p t c a (w .shape .containers) h cause f e)
-      (rw (r .is) (shaped-with (r .up) (r .down) cause (numberFor c (isRelease h))))
+module _ (p : Profile) (t : ℕ) (c : Context) (a : Apt p t c) (w : HeldContext c) (h : HeldProfile p) (m : Message) (f : Fair m) where
+  closed-shaped : (cause : ℕ) → shaped (closedBy p c t m cause) ≡ true
+  unfolding closedBy recordOf reported
+  closed-shaped cause =
+      let cs = endedAll (reported (c .current) m) 2 (timeAt p t) in
+      let u = used-length (c .current) (omega (arith, apt-few p t c a)) (w .shape .containers) in
+      let n : length cs ≤ 15 = omega (arith, length-append (used (c .current)) (running (reported (c .current) m) 2 (timeAt p t) ∷ []), u, apt-few p t c a) in
+      shaped-is (closedBy p c t m cause) (w .shape .apn) (padded-length cs n) (h .nodeid) (h .sgsn) (w .id) (w .ggsn) (w .pdptype) (w .address)
 
   -- and what it writes keeps the rules of records
-  pub out-fine : (h : Message) → Fair h → All Fine (hear p c t h .out)
+  pub out-fine : All Fine (hear p c t m .out)
   unfolding hear hearWith
-  out-fine h f = go (closing (p .limits) c t h) refl
+  out-fine = go (closing (p .limits) (c .current) t m) refl
     where
-      go : (k : Option ℕ) → closing (p .limits) c t h ≡ k → All Fine (hearWith p c t h k .out)
+      go : (k : Option ℕ) → closing (p .limits) (c .current) t m ≡ k → All Fine (hearWith p c t m k .out)
       go none e = tt
-      go (some cause) e = (closed-fine h cause f e, tt)
+      go (some cause) e = (fine (closedBy p c t m cause) (closed-within p t c a (w .shape .containers) m f cause e) (closed-shaped cause), tt)
 
-  pub leaves : (h : Message) → Fair h → Leaves p t (a .due .accepted + 1) c (hear p c t h)
-  leaves h f = record { next = next-keeps p t c a (w .shape) h f; out = out-fine h f }
+  pub leaves : Leaves p t (a .due .accepted + 1) c (hear p c t m)
+  leaves = record { next = next-keeps p t c a (w .shape) m f; out = out-fine }

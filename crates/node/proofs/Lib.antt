@@ -1,5 +1,4 @@
-pub mod Tolds
-pub mod Turned
+pub mod Perhaps
 pub mod Fits
 pub mod Rules
 pub mod Rowed

@@ -19,7 +19,7 @@ Octets s = All (λ x. x < 256) s
 pub record Shaped (c : Context) : Type 0 where
   pub imsi : length (c .imsi) ≡ 8
   pub apn : length (c .apn) ≡ 63
-  pub containers : length (c .containers) ≡ 15
+  pub containers : length (c .current .containers) ≡ 15
 
 pub record HeldContext (c : Context) : Type 0 where
   pub shape : Shaped c

@@ -7,7 +7,7 @@ use Prim.Native.Nat.{ℕ, _+_}
 use lib.Dec.{leb, ltb, eqb}
 use lib.ListN.{length, drop}
 use Rattle.container.specs.declared.Qos.{Qos}
-use Rattle.container.specs.List.{padded}
+use Rattle.container.specs.Open.{opened}
 use Rattle.scdr.specs.declared.Record.{Record}
 use Rattle.octets.specs.Filled.{fillTo}
 use Rattle.scdr.specs.Layout.{scdr}
@@ -15,7 +15,6 @@ use Rattle.profile.specs.declared.Profile.{Profile}
 use Rattle.event.specs.declared.Name.{Name}
 use Rattle.event.specs.declared.Activation.{Activation}
 use Rattle.event.specs.declared.Event.{Event}
-use Rattle.event.specs.declared.Event.the-variants as E
 use Rattle.event.specs.Fields.{kindOf, timeOf, flagsOf, imsiOf, apnOf, fieldsOk}
 use Rattle.event.specs.Rows.{Row, row, firstFit, marked, known, measured}
 use Rattle.event.specs.Event.{eventOf}
@@ -28,7 +27,9 @@ use Rattle.history.specs.Log.{Said, activates, tells, tellsAll, nothing}
 use Rattle.history.specs.Table.{Handling, free, active, slotsAfter, writes}
 use Rattle.node.specs.declared.Node.{Node}
 use Rattle.node.specs.declared.Message.{Message}
-use Rattle.node.specs.declared.Message.the-variants as M
+use Rattle.node.specs.declared.meaning.Meaning.{Meaning}
+use Rattle.node.specs.declared.meaning.Meaning.the-variants as W
+use Rattle.node.specs.Meaning.{meaningOf}
 use Rattle.node.specs.Hear.{timeAt, hear}
 use Rattle.node.specs.Sound.{sound, latest, mostAccepted}
 
@@ -46,15 +47,14 @@ pub record Brought : Type 0 where
 abbrev pub broughtBy : Activation → List ℕ → Brought
 broughtBy a s = record { flags = flagsOf s; imsi = imsiOf s; apn = apnOf s; pdptype = a .pdptype; address = a .address; qos = a .qos }
 
--- An activate names a context that is to be; traffic, QoS, release and management name one; a tariff and a tick are for all.
+-- what is said to a table of contexts
+abbrev pub saying : Meaning → List ℕ → Said (Unit {0}) Name Brought Message
+saying (W.Opens a) s = activates (a .name) (λ g. broughtBy a s)
+saying (W.Tells n m) s = tells n m
+saying (W.TellsAll m) s = tellsAll m
+
 abbrev pub takes : Event → List ℕ → Said (Unit {0}) Name Brought Message
-takes (E.Activate a) s = activates (a .name) (λ g. broughtBy a s)
-takes (E.Traffic n up down) s = tells n (M.Traffic up down)
-takes (E.Qos n q) s = tells n (M.Qos q)
-takes E.Tariff s = tellsAll M.Tariff
-takes (E.Release n cause) s = tells n (M.Release cause)
-takes E.Tick s = tellsAll M.Tick
-takes (E.Management n) s = tells n M.Management
+takes e s = saying (meaningOf e) s
 
 -- "opens a record now with empty counters, no containers, change count 0"
 unfoldable pub activated : Profile → ℕ → Name → Brought → Context
@@ -67,13 +67,7 @@ activated p t n b = record {
   apnlen = length (b .apn);
   pdptype = b .pdptype;
   address = b .address;
-  qos = b .qos;
-  uplink = 0;
-  downlink = 0;
-  opening = timeAt p t;
-  changes = 0;
-  containers = padded [];
-  count = 0;
+  current = opened (timeAt p t) (b .qos);
   closed = 0;
 }
 

@@ -1,7 +1,7 @@
 // What a context writes when it hears something: nothing, or one record after its mark.
 use crate::Message;
 use crate::closing;
-use crate::closing::Told;
+use crate::closing::Perhaps;
 use crate::turn;
 use ber::tlv;
 use context::Context;
@@ -37,62 +37,64 @@ fn put_record(r: Record, out: &mut [u8], at: usize) -> usize
 }
 
 // How many octets an active context writes.
-fn size_of(p: Profile, c: Context, t: u32, h: Message) -> usize
+fn size_of(p: Profile, c: Context, t: u32, m: Message) -> usize
     requires { ⌜ Apt p t c ⌝ }
-    requires { ⌜ Fair h ⌝ }
-    ensures { λ r. ⌜ Counts (octetsOf (hear p c t h .out)) r ⌝ }
+    requires { ⌜ Fair m ⌝ }
+    ensures { λ r. ⌜ Counts (octetsOf (hear p c t m .out)) r ⌝ }
 {
     let l = p.limits;
-    let k = closing::cause_of(l, c, t, h);
+    let o = c.current;
+    let k = closing::cause_of(l, o, t, m);
     match k {
-        Told::With(cause) => 2 + write::record_size(turn::closed_by(p, c, t, h, cause)),
-        Told::Not => 0,
+        Perhaps::Is(cause) => 2 + write::record_size(turn::closed_by(p, c, t, m, cause)),
+        Perhaps::Nothing => 0,
     }
 }
 
 // An active context hears something, and writes at a place.
-fn hear(p: Profile, c: Context, t: u32, h: Message, out: &mut [u8], at: usize) -> Turned
+fn hear(p: Profile, c: Context, t: u32, m: Message, out: &mut [u8], at: usize) -> Turned
     requires { ⌜ Apt p t c ⌝ }
-    requires { ⌜ Fair h ⌝ }
-    requires { ⌜ at + length (octetsOf (hear p c t h .out)) ≤ length (now out) ⌝ }
-    ensures { λ r. ⌜ Turns (stood (hear p c t h .next)) (octetsOf (hear p c t h .out)) (now (out .entry)) (now (out .exit)) at (r .context) (r .at) ⌝ }
+    requires { ⌜ Fair m ⌝ }
+    requires { ⌜ at + length (octetsOf (hear p c t m .out)) ≤ length (now out) ⌝ }
+    ensures { λ r. ⌜ Turns (stood (hear p c t m .next)) (octetsOf (hear p c t m .out)) (now (out .entry)) (now (out .exit)) at (r .context) (r .at) ⌝ }
 {
     let l = p.limits;
-    let k = closing::cause_of(l, c, t, h);
+    let o = c.current;
+    let k = closing::cause_of(l, o, t, m);
     match k {
-        Told::With(cause) => {
-            let r = turn::closed_by(p, c, t, h, cause);
+        Perhaps::Is(cause) => {
+            let r = turn::closed_by(p, c, t, m, cause);
             let next = put_record(r, out, at);
-            let context = turn::after_closing(p, c, t, h);
+            let context = turn::after_closing(p, c, t, m);
             Turned { context, at: next }
         }
-        Told::Not => {
-            let context = turn::goes_on(p, c, t, h);
+        Perhaps::Nothing => {
+            let context = turn::goes_on(p, c, t, m);
             Turned { context, at }
         }
     }
 }
 
 // The same of a slot, which may be free.
-pub fn slot_size(p: Profile, c: Context, t: u32, h: Message) -> usize
+pub fn slot_size(p: Profile, c: Context, t: u32, m: Message) -> usize
     requires { ⌜ Slotted p t c ⌝ }
-    requires { ⌜ Fair h ⌝ }
-    ensures { λ r. ⌜ Counts (slotOut p t h c) r ⌝ }
+    requires { ⌜ Fair m ⌝ }
+    ensures { λ r. ⌜ Counts (slotOut p t m c) r ⌝ }
 {
     if c.active == 1 {
-        return size_of(p, c, t, h);
+        return size_of(p, c, t, m);
     }
     0
 }
 
-pub fn hear_slot(p: Profile, c: Context, t: u32, h: Message, out: &mut [u8], at: usize) -> Turned
+pub fn hear_slot(p: Profile, c: Context, t: u32, m: Message, out: &mut [u8], at: usize) -> Turned
     requires { ⌜ Slotted p t c ⌝ }
-    requires { ⌜ Fair h ⌝ }
-    requires { ⌜ at + length (slotOut p t h c) ≤ length (now out) ⌝ }
-    ensures { λ r. ⌜ Turns (slotNext p t h c) (slotOut p t h c) (now (out .entry)) (now (out .exit)) at (r .context) (r .at) ⌝ }
+    requires { ⌜ Fair m ⌝ }
+    requires { ⌜ at + length (slotOut p t m c) ≤ length (now out) ⌝ }
+    ensures { λ r. ⌜ Turns (slotNext p t m c) (slotOut p t m c) (now (out .entry)) (now (out .exit)) at (r .context) (r .at) ⌝ }
 {
     if c.active == 1 {
-        return hear(p, c, t, h, out, at);
+        return hear(p, c, t, m, out, at);
     }
     Turned { context: c, at }
 }
@@ -106,12 +108,12 @@ pub struct Tried {
 }
 
 // A slot hears something alone, and writes from the start of out: first the room is looked for.
-pub fn try_slot(p: Profile, c: Context, t: u32, h: Message, out: &mut [u8]) -> Tried
+pub fn try_slot(p: Profile, c: Context, t: u32, m: Message, out: &mut [u8]) -> Tried
     requires { ⌜ Slotted p t c ⌝ }
-    requires { ⌜ Fair h ⌝ }
-    ensures { λ r. ⌜ Tries p t h c (now (out .entry)) (now (out .exit)) (r .answer) (r .context) (r .written) ⌝ }
+    requires { ⌜ Fair m ⌝ }
+    ensures { λ r. ⌜ Tries p t m c (now (out .entry)) (now (out .exit)) (r .answer) (r .context) (r .written) ⌝ }
 {
-    let n = slot_size(p, c, t, h);
+    let n = slot_size(p, c, t, m);
     if out.len() < n {
         return Tried {
             answer: 11,
@@ -119,7 +121,7 @@ pub fn try_slot(p: Profile, c: Context, t: u32, h: Message, out: &mut [u8]) -> T
             written: 0,
         };
     }
-    let e = hear_slot(p, c, t, h, out, 0);
+    let e = hear_slot(p, c, t, m, out, 0);
     let context = e.context;
     Tried {
         answer: 0,

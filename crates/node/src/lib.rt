@@ -1,12 +1,13 @@
 // The node: its profile, clock and sixteen contexts as one value; when it is sound; and what an event does to it.
 //
-// sound has the rules of a node and a fresh one; step the whole call. Under it: task finds out what a call is to do; closing says what an
-// event is to a context (a report, a change, a closing), turn what then stands of it, emit what it writes, table how the slots hear one
-// after another.
+// sound has the rules of a node and a fresh one; step the whole call. Under it: task finds out what a call is to do; meaning says who
+// hears an event and what it is to them, closing what that does to an open record, turn what then stands, emit what is written, table
+// how the slots hear one after another.
 //
 // No public function has a `requires`: each answers for every input.
 mod closing;
 mod emit;
+mod meaning;
 pub mod sound;
 pub mod step;
 mod table;
@@ -28,15 +29,21 @@ pub struct Node {
     pub contexts: [Context; 16],
 }
 
-// What a context hears of an event: one that names it, or one that all hear.
-pub enum Message {
-    // octets up and down
-    Traffic(u32, u32),
-    // the QoS profile from now on
-    Qos(Qos),
-    Tariff,
-    // the cause
-    Release(u8),
-    Tick,
-    Management,
+// What an event is to a context that hears it. What it is not is false, or zero.
+pub struct Message {
+    // a report, of octets up and down: the volume limit is looked at after it
+    pub counts: bool,
+    pub up: u32,
+    pub down: u32,
+    // it brings a QoS profile, which is in force from now on
+    pub brings: bool,
+    pub qos: Qos,
+    // a tariff change
+    pub tariff: bool,
+    // the time limit is looked at
+    pub ticks: bool,
+    // it closes the record with this cause, whatever the limits are; and the context is released
+    pub closes: bool,
+    pub cause: u8,
+    pub releases: bool,
 }

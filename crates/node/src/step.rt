@@ -8,7 +8,7 @@ use crate::table;
 use crate::task;
 use crate::task::Task;
 use calendar::Stamp;
-use container::single;
+use container::open;
 use context::Context;
 use context::slots::Slot;
 use event::Activation;
@@ -62,20 +62,20 @@ fn accepted(node: Node, t: u32, contexts: [Context; 16], written: usize) -> Step
     }
 }
 
-// All slots hear h: first the room is looked for, then each writes where the last ended.
-fn serve(node: Node, t: u32, h: Message, out: &mut [u8]) -> Stepped
+// All slots hear m: first the room is looked for, then each writes where the last ended.
+fn serve(node: Node, t: u32, m: Message, out: &mut [u8]) -> Stepped
     requires { ⌜ Ready (node .profile) t (node .contexts) ⌝ }
-    requires { ⌜ Fair h ⌝ }
+    requires { ⌜ Fair m ⌝ }
     requires { ⌜ node .accepted < mostAccepted ⌝ }
-    ensures { λ r. ⌜ Serves node 0 16 t h (now (out .entry)) (now (out .exit)) (r .answer) (r .node) (r .written) ⌝ }
+    ensures { λ r. ⌜ Serves node 0 16 t m (now (out .entry)) (now (out .exit)) (r .answer) (r .node) (r .written) ⌝ }
 {
     let p = node.profile;
     let cs = node.contexts;
-    let n = table::size_all(p, cs, t, h);
+    let n = table::size_all(p, cs, t, m);
     if out.len() < n {
         return refused(node, 11);
     }
-    let e = table::hear_all(p, cs, t, h, out);
+    let e = table::hear_all(p, cs, t, m, out);
     let contexts = e.contexts;
     accepted(node, t, contexts, e.at)
 }
@@ -110,6 +110,11 @@ fn opening(p: Profile, t: u32, a: Activation, event: &[u8]) -> Context
     let apn = apn_of(event);
     let qos = a.qos;
     let flags = event[15];
+    let now = Stamp {
+        seconds: t,
+        zone: p.zone,
+    };
+    let current = open::opened(now, qos);
     Context {
         active: 1,
         flags,
@@ -119,16 +124,7 @@ fn opening(p: Profile, t: u32, a: Activation, event: &[u8]) -> Context
         apnlen: a.apnlen,
         pdptype: a.pdptype,
         address: a.address,
-        qos,
-        uplink: 0,
-        downlink: 0,
-        opening: Stamp {
-            seconds: t,
-            zone: p.zone,
-        },
-        changes: 0,
-        containers: [single::no_container(); 15],
-        count: 0,
+        current,
         closed: 0,
     }
 }
@@ -198,11 +194,11 @@ pub fn step(node: Node, event: &[u8], out: &mut [u8]) -> Stepped
     let k = task::task_for(sound, node.clock, node.accepted, names, event);
     match k {
         Task::Refuse(answer) => refused(node, answer),
-        Task::One(at, t, h) => {
+        Task::One(at, t, m) => {
             let c = node.contexts[at];
-            placed(node, at, t, emit::try_slot(p, c, t, h, out))
+            placed(node, at, t, emit::try_slot(p, c, t, m, out))
         }
-        Task::All(t, h) => serve(node, t, h, out),
+        Task::All(t, m) => serve(node, t, m, out),
         Task::Open(at, t, a) => placed(node, at, t, opened(p, t, a, event)),
     }
 }

@@ -17,34 +17,34 @@ pub struct Heard16 {
 }
 
 // How many octets they write.
-pub fn size_all(p: Profile, cs: [Context; 16], t: u32, h: Message) -> usize
+pub fn size_all(p: Profile, cs: [Context; 16], t: u32, m: Message) -> usize
     requires { ⌜ Ready p t cs ⌝ }
-    requires { ⌜ Fair h ⌝ }
-    ensures { λ r. ⌜ r ≡ length (along 0 16 (slotOut p t h) cs) ⌝ }
+    requires { ⌜ Fair m ⌝ }
+    ensures { λ r. ⌜ r ≡ length (along 0 16 (slotOut p t m) cs) ⌝ }
 {
     let mut i: usize = 0;
     let mut n: usize = 0;
     while i < 16 {
         let c = cs[i];
-        n += emit::slot_size(p, c, t, h);
+        n += emit::slot_size(p, c, t, m);
         i += 1;
     }
     n
 }
 
-// They hear h at t, and write from the start of out.
-pub fn hear_all(p: Profile, cs: [Context; 16], t: u32, h: Message, out: &mut [u8]) -> Heard16
+// They hear m at t, and write from the start of out.
+pub fn hear_all(p: Profile, cs: [Context; 16], t: u32, m: Message, out: &mut [u8]) -> Heard16
     requires { ⌜ Ready p t cs ⌝ }
-    requires { ⌜ Fair h ⌝ }
-    requires { ⌜ length (along 0 16 (slotOut p t h) cs) ≤ length (now out) ⌝ }
-    ensures { λ r. ⌜ Turns (across 0 16 (slotNext p t h) cs) (along 0 16 (slotOut p t h) cs) (now (out .entry)) (now (out .exit)) 0 (r .contexts) (r .at) ⌝ }
+    requires { ⌜ Fair m ⌝ }
+    requires { ⌜ length (along 0 16 (slotOut p t m) cs) ≤ length (now out) ⌝ }
+    ensures { λ r. ⌜ Turns (across 0 16 (slotNext p t m) cs) (along 0 16 (slotOut p t m) cs) (now (out .entry)) (now (out .exit)) 0 (r .contexts) (r .at) ⌝ }
 {
     let mut contexts = cs;
     let mut i: usize = 0;
     let mut at: usize = 0;
     while i < 16 {
         let c = contexts[i];
-        let e = emit::hear_slot(p, c, t, h, out, at);
+        let e = emit::hear_slot(p, c, t, m, out, at);
         let d = e.context;
         contexts[i] = d;
         at = e.at;

@@ -1,6 +1,8 @@
 // What a call is to do, by the names of the slots and the event. Nothing here has the table in hand: a node has 12,232 octets, and each
 // function that takes it copies it.
 use crate::Message;
+use crate::meaning;
+use crate::meaning::Meaning;
 use context::slots;
 use context::slots::Found;
 use context::slots::Slot;
@@ -10,8 +12,9 @@ use event::Event;
 use event::Name;
 ghost use mathlib.Core.Path.{_≡_};
 ghost use Rattle.event.specs.Event.{decoded};
+ghost use Rattle.node.specs.Meaning.{meaningOf};
 ghost use Rattle.node.specs.Private.Told.{Fair};
-ghost use Rattle.node.specs.Private.Task.{namedTask, openTask, taskOf, timelyTask, taskFor, FairEvent, FairTask};
+ghost use Rattle.node.specs.Private.Task.{namedTask, openTask, taskOf, timelyTask, taskFor, FairMeaning, FairTask};
 
 pub enum Task {
     // the number of a refusal
@@ -24,14 +27,14 @@ pub enum Task {
     Open(usize, u32, Activation),
 }
 
-// The context of a name hears h.
-fn named(names: [Slot; 16], t: u32, name: Name, h: Message) -> Task
-    requires { ⌜ Fair h ⌝ }
-    ensures { λ r. ⌜ (r ≡ namedTask names t name h) × FairTask r ⌝ }
+// The context of a name hears m.
+fn named(names: [Slot; 16], t: u32, name: Name, m: Message) -> Task
+    requires { ⌜ Fair m ⌝ }
+    ensures { λ r. ⌜ (r ≡ namedTask names t name m) × FairTask r ⌝ }
 {
     let found = slots::find(names, name);
     match found {
-        Found::At(i) => Task::One(i, t, h),
+        Found::At(i) => Task::One(i, t, m),
         Found::Nothing => Task::Refuse(8),
     }
 }
@@ -51,25 +54,21 @@ fn open(names: [Slot; 16], t: u32, a: Activation) -> Task
     }
 }
 
-// What an event does that comes in time, by its kind.
-fn task_of(names: [Slot; 16], t: u32, e: Event) -> Task
-    requires { ⌜ FairEvent e ⌝ }
-    ensures { λ r. ⌜ (r ≡ taskOf names t e) × FairTask r ⌝ }
+// What an event does that comes in time, by its meaning.
+fn task_of(names: [Slot; 16], t: u32, w: Meaning) -> Task
+    requires { ⌜ FairMeaning w ⌝ }
+    ensures { λ r. ⌜ (r ≡ taskOf names t w) × FairTask r ⌝ }
 {
-    match e {
-        Event::Activate(a) => open(names, t, a),
-        Event::Traffic(name, up, down) => named(names, t, name, Message::Traffic(up, down)),
-        Event::Qos(name, q) => named(names, t, name, Message::Qos(q)),
-        Event::Tariff => Task::All(t, Message::Tariff),
-        Event::Release(name, cause) => named(names, t, name, Message::Release(cause)),
-        Event::Tick => Task::All(t, Message::Tick),
-        Event::Management(name) => named(names, t, name, Message::Management),
+    match w {
+        Meaning::Opens(a) => open(names, t, a),
+        Meaning::Tells(name, m) => named(names, t, name, m),
+        Meaning::TellsAll(m) => Task::All(t, m),
     }
 }
 
 // The time first, then whether one more event may be accepted.
 fn timely(clock: u32, accepted: u64, names: [Slot; 16], t: u32, e: Event) -> Task
-    requires { ⌜ FairEvent e ⌝ }
+    requires { ⌜ FairMeaning (meaningOf e) ⌝ }
     ensures { λ r. ⌜ (r ≡ timelyTask clock accepted names t e) × FairTask r ⌝ }
 {
     if 3155759999 < t {
@@ -81,7 +80,7 @@ fn timely(clock: u32, accepted: u64, names: [Slot; 16], t: u32, e: Event) -> Tas
     if 1000000000000000 <= accepted {
         return Task::Refuse(7);
     }
-    task_of(names, t, e)
+    task_of(names, t, meaning::meaning_of(e))
 }
 
 // The rows of the refusal table before room is looked for: 13, then those of the event's octets, then those of the time and the name.

@@ -1,99 +1,59 @@
-// What stands of a context after it heard something: the record that goes on, the record that closed, the next one.
+// What stands of a context after a message: the record that goes on, the record that closed, the next one.
 use crate::Message;
 use crate::closing;
-use crate::closing::Told;
+use crate::closing::Perhaps;
 use calendar::Stamp;
-use container::Container;
-use container::Qos;
-use container::single;
+use container::OpenRecord;
+use container::open;
 use context::Context;
 use profile::Profile;
 use scdr::Record;
 ghost use mathlib.Core.Path.{_≡_};
-ghost use Rattle.node.specs.Hear.{ended, changed, opened, numberFor, recordOf, goesOn, closedBy, afterClosing, changeOf, isRelease};
+ghost use Prim.Native.Nat.{_<_};
+ghost use Rattle.node.specs.Hear.{timeAt, going, numberFor, recordOf, goesOn, closedBy, afterClosing, changeOf};
+ghost use Rattle.node.specs.Sound.{mostAccepted};
 ghost use Rattle.node.specs.Step.{stood};
-ghost use Rattle.node.specs.Private.Told.{Roomy, Ample};
+ghost use Rattle.node.specs.Private.Told.{Grows};
 
-// The running container, ended now with a condition.
-fn ended(p: Profile, c: Context, t: u32, condition: u8) -> Container
-    ensures { λ r. ⌜ r ≡ ended p c t condition ⌝ }
+// A time of this node.
+fn time_at(p: Profile, t: u32) -> Stamp
+    ensures { λ r. ⌜ r ≡ timeAt p t ⌝ }
 {
-    let qos = c.qos;
-    Container {
-        qos,
-        uplink: c.uplink,
-        downlink: c.downlink,
-        condition,
-        time: Stamp {
-            seconds: t,
-            zone: p.zone,
-        },
+    Stamp {
+        seconds: t,
+        zone: p.zone,
     }
 }
 
-// A change that closes nothing: the running container has ended, and the next one runs.
-fn changed(p: Profile, c: Context, t: u32, condition: u8, q: Qos) -> Context
-    requires { ⌜ Roomy c ⌝ }
-    ensures { λ r. ⌜ r ≡ changed p c t condition q ⌝ }
+// A context with another open record, and so many closed before it.
+fn going(c: Context, o: OpenRecord, closed: u64) -> Context
+    ensures { λ r. ⌜ r ≡ going c o closed ⌝ }
 {
-    let x = ended(p, c, t, condition);
-    let at = c.count;
     let mut n = c;
-    n.containers[at] = x;
-    n.count = at + 1;
-    n.changes = c.changes + 1;
-    n.qos = q;
-    n.uplink = 0;
-    n.downlink = 0;
-    n
-}
-
-// The next record, which opens now.
-fn opened(p: Profile, c: Context, t: u32, q: Qos) -> Context
-    requires { ⌜ Roomy c ⌝ }
-    ensures { λ r. ⌜ r ≡ opened p c t q ⌝ }
-{
-    let blank = single::no_container();
-    let none = [blank; 15];
-    let now = Stamp {
-        seconds: t,
-        zone: p.zone,
-    };
-    let mut n = c;
-    n.qos = q;
-    n.uplink = 0;
-    n.downlink = 0;
-    n.opening = now;
-    n.changes = 0;
-    n.containers = none;
-    n.count = 0;
-    n.closed = c.closed + 1;
+    n.current = o;
+    n.closed = closed;
     n
 }
 
 // The number of the record that closes: 0 for none.
-fn number_for(c: Context, released: bool) -> u64
-    requires { ⌜ Roomy c ⌝ }
-    ensures { λ r. ⌜ r ≡ numberFor c released ⌝ }
+fn number_for(closed: u64, released: bool) -> u64
+    requires { ⌜ closed < mostAccepted ⌝ }
+    ensures { λ r. ⌜ r ≡ numberFor closed released ⌝ }
 {
-    if released & (c.closed == 0) {
+    if released & (closed == 0) {
         return 0;
     }
-    c.closed + 1
+    closed + 1
 }
 
-// The record that closes now.
-fn record_of(p: Profile, c: Context, t: u32, cause: u8, number: u64) -> Record
-    requires { ⌜ Roomy c ⌝ }
-    ensures { λ r. ⌜ r ≡ recordOf p c t cause number ⌝ }
+// The record of a context that closes, whose last container has ended.
+fn record_of(p: Profile, c: Context, o: OpenRecord, cause: u8, number: u64) -> Record
+    ensures { λ r. ⌜ r ≡ recordOf p c o cause number ⌝ }
 {
-    let x = ended(p, c, t, 2);
-    let at = c.count;
-    let mut containers = c.containers;
-    containers[at] = x;
     let imsi = c.imsi;
     let apn = c.apn;
-    let opening = c.opening;
+    let containers = o.containers;
+    let opening = o.opening;
     let nodeid = p.nodeid;
     Record {
         network: c.flags % 2 == 1,
@@ -106,7 +66,7 @@ fn record_of(p: Profile, c: Context, t: u32, cause: u8, number: u64) -> Record
         pdptype: c.pdptype,
         address: c.address,
         containers,
-        count: at + 1,
+        count: o.count,
         opening,
         change: (c.flags / 2 % 2 == 1) & (c.closed == 0),
         cause,
@@ -117,37 +77,45 @@ fn record_of(p: Profile, c: Context, t: u32, cause: u8, number: u64) -> Record
 }
 
 // The context where nothing closes.
-pub fn goes_on(p: Profile, c: Context, t: u32, h: Message) -> Context
-    requires { ⌜ Roomy c ⌝ }
-    requires { ⌜ Ample c ⌝ }
-    ensures { λ r. ⌜ r ≡ goesOn p c t h (changeOf c h) ⌝ }
+pub fn goes_on(p: Profile, c: Context, t: u32, m: Message) -> Context
+    requires { ⌜ Grows c ⌝ }
+    ensures { λ r. ⌜ r ≡ going c (goesOn p (c .current) t m (changeOf (c .current) m)) (c .closed) ⌝ }
 {
-    let k = closing::change_of(c, h);
+    let o = c.current;
+    let k = closing::change_of(o, m);
+    let n = closing::reported(o, m);
     match k {
-        Told::With(condition) => changed(p, c, t, condition, closing::qos_after(c, h)),
-        Told::Not => closing::reported(c, h),
+        Perhaps::Is(condition) => {
+            let q = closing::qos_after(o, m);
+            let now = time_at(p, t);
+            going(c, open::changed(n, condition, now, q), c.closed)
+        }
+        Perhaps::Nothing => going(c, n, c.closed),
     }
 }
 
 // The record that closes with a cause.
-pub fn closed_by(p: Profile, c: Context, t: u32, h: Message, cause: u8) -> Record
-    requires { ⌜ Roomy c ⌝ }
-    requires { ⌜ Ample c ⌝ }
-    ensures { λ r. ⌜ r ≡ closedBy p c t h cause ⌝ }
+pub fn closed_by(p: Profile, c: Context, t: u32, m: Message, cause: u8) -> Record
+    requires { ⌜ Grows c ⌝ }
+    ensures { λ r. ⌜ r ≡ closedBy p c t m cause ⌝ }
 {
-    let number = number_for(c, closing::is_release(h));
-    record_of(p, closing::reported(c, h), t, cause, number)
+    let o = c.current;
+    let now = time_at(p, t);
+    let e = open::ended(closing::reported(o, m), 2, now);
+    let number = number_for(c.closed, m.releases);
+    record_of(p, c, e, cause, number)
 }
 
 // What stands in the slot after a closing.
-pub fn after_closing(p: Profile, c: Context, t: u32, h: Message) -> Context
-    requires { ⌜ Roomy c ⌝ }
-    requires { ⌜ Ample c ⌝ }
-    ensures { λ r. ⌜ r ≡ stood (afterClosing p c t h) ⌝ }
+pub fn after_closing(p: Profile, c: Context, t: u32, m: Message) -> Context
+    requires { ⌜ Grows c ⌝ }
+    ensures { λ r. ⌜ r ≡ stood (afterClosing p c t m) ⌝ }
 {
-    if closing::is_release(h) {
+    if m.releases {
         return context::no_context();
     }
-    let q = closing::qos_after(c, h);
-    opened(p, closing::reported(c, h), t, q)
+    let o = c.current;
+    let q = closing::qos_after(o, m);
+    let now = time_at(p, t);
+    going(c, open::opened(now, q), c.closed + 1)
 }

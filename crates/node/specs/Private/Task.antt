@@ -5,12 +5,9 @@ use mathlib.Core.List.{List}
 use Prim.Native.Nat.{ℕ, _+_}
 use lib.Dec.{leb, ltb}
 use lib.ListN.{set}
-use Rattle.container.specs.Qos.{qosOk}
-use Rattle.event.specs.Fields.{release}
 use Rattle.event.specs.declared.Name.{Name}
 use Rattle.event.specs.declared.Activation.{Activation}
 use Rattle.event.specs.declared.Event.{Event}
-use Rattle.event.specs.declared.Event.the-variants as E
 use Rattle.event.specs.declared.Decoded.{Decoded}
 use Rattle.event.specs.declared.Decoded.the-variants as D
 use Rattle.context.specs.declared.slots.Slot.{Slot}
@@ -19,7 +16,9 @@ use Rattle.context.specs.declared.slots.Found.the-variants.{At, Nothing}
 use Rattle.context.specs.Slots.{isFree, bears, firstFrom}
 use Rattle.node.specs.declared.Node.{Node}
 use Rattle.node.specs.declared.Message.{Message}
-use Rattle.node.specs.declared.Message.the-variants as M
+use Rattle.node.specs.declared.meaning.Meaning.{Meaning}
+use Rattle.node.specs.declared.meaning.Meaning.the-variants as W
+use Rattle.node.specs.Meaning.{meaningOf}
 use Rattle.node.specs.declared.task.Task.{Task}
 use Rattle.node.specs.declared.task.Task.the-variants.{Refuse, One, All, Open}
 use Rattle.node.specs.Sound.{latest, mostAccepted}
@@ -49,18 +48,14 @@ openAt t a Nothing free = freeAt t a free
 unfoldable pub openTask : List Slot → ℕ → Activation → Task
 openTask names t a = openAt t a (firstFrom (bears (a .name)) 0 names) (firstFrom isFree 0 names)
 
-unfoldable pub taskOf : List Slot → ℕ → Event → Task
-taskOf names t (E.Activate a) = openTask names t a
-taskOf names t (E.Traffic n up down) = namedTask names t n (M.Traffic up down)
-taskOf names t (E.Qos n q) = namedTask names t n (M.Qos q)
-taskOf names t E.Tariff = All t M.Tariff
-taskOf names t (E.Release n cause) = namedTask names t n (M.Release cause)
-taskOf names t E.Tick = All t M.Tick
-taskOf names t (E.Management n) = namedTask names t n M.Management
+unfoldable pub taskOf : List Slot → ℕ → Meaning → Task
+taskOf names t (W.Opens a) = openTask names t a
+taskOf names t (W.Tells n m) = namedTask names t n m
+taskOf names t (W.TellsAll m) = All t m
 
 -- 6, then 7
 unfoldable pub timelyTask : ℕ → ℕ → List Slot → ℕ → Event → Task
-timelyTask clock accepted names t e = cond (ltb latest t || ltb t clock) (Refuse 6) (cond (leb mostAccepted accepted) (Refuse 7) (taskOf names t e))
+timelyTask clock accepted names t e = cond (ltb latest t || ltb t clock) (Refuse 6) (cond (leb mostAccepted accepted) (Refuse 7) (taskOf names t (meaningOf e)))
 
 -- 13, then 1 to 5
 unfoldable pub taskFor : Bool → ℕ → ℕ → List Slot → Decoded → Task
@@ -76,16 +71,12 @@ doneBy n s b (One i t h) = servedOf n i (i + 1) t h b
 doneBy n s b (All t h) = servedOf n 0 16 t h b
 doneBy n s b (Open i t a) = (0, (advanced n t (set (n .contexts) i (activated (n .profile) t (a .name) (broughtBy a s))), (0, b)))
 
--- ---- what an event and a task carry is in range
+-- ---- what is told is in range
 
-abbrev pub FairEvent : Event → Type 0
-FairEvent (E.Activate a) = Unit {0}
-FairEvent (E.Traffic n up down) = Unit {0}
-FairEvent (E.Qos n q) = qosOk q ≡ true
-FairEvent E.Tariff = Unit {0}
-FairEvent (E.Release n cause) = release cause ≡ true
-FairEvent E.Tick = Unit {0}
-FairEvent (E.Management n) = Unit {0}
+abbrev pub FairMeaning : Meaning → Type 0
+FairMeaning (W.Opens a) = Unit {0}
+FairMeaning (W.Tells n m) = Fair m
+FairMeaning (W.TellsAll m) = Fair m
 
 abbrev pub FairTask : Task → Type 0
 FairTask (Refuse k) = Unit {0}

@@ -1,48 +1,42 @@
--- How the code says what may be missing, and what it may count on while it works. Assumes nothing.
+-- How the code says what may be missing, and what it may count on while it works.
 use mathlib.Core.Path.{_≡_}
-use mathlib.Core.Bool.{true}
+use mathlib.Core.Bool.{true, false}
 use mathlib.Core.Option.{Option, none, some}
 use mathlib.Core.List.{List}
 use Prim.Native.Nat.{ℕ, _^_, _≤_, _<_}
-use lib.ListN.{drop}
 use Rattle.container.specs.Qos.{qosOk}
-use Rattle.container.specs.List.{blanks}
+use Rattle.container.specs.Open.{ample, roomy}
 use Rattle.event.specs.Fields.{release}
 use Rattle.profile.specs.declared.Profile.{Profile}
 use Rattle.profile.specs.Profile.{profileOk}
 use Rattle.context.specs.declared.Context.{Context}
 use Rattle.context.specs.Sound.{contextOk, slotOk, slotsOk}
 use Rattle.node.specs.declared.Message.{Message}
-use Rattle.node.specs.declared.Message.the-variants as M
-use Rattle.node.specs.declared.closing.Told.{Told}
-use Rattle.node.specs.declared.closing.Told.the-variants.{With, Not}
+use Rattle.node.specs.declared.closing.Perhaps.{Perhaps}
+use Rattle.node.specs.declared.closing.Perhaps.the-variants.{Is, Nothing}
 use Rattle.node.specs.Sound.{sound, latest, mostAccepted}
 
 -- a condition or a cause, if there is one
-abbrev pub toldBy : Option ℕ → Told
-toldBy none = Not
-toldBy (some k) = With k
+abbrev pub perhaps : Option ℕ → Perhaps
+perhaps none = Nothing
+perhaps (some k) = Is k
 
--- what an event in range tells a context
-abbrev pub Fair : Message → Type 0
-Fair (M.Traffic up down) = (up < 2 ^ 32) × (down < 2 ^ 32)
-Fair (M.Qos q) = qosOk q ≡ true
-Fair M.Tariff = Unit {0}
-Fair (M.Release cause) = release cause ≡ true
-Fair M.Tick = Unit {0}
-Fair M.Management = Unit {0}
+-- what an event in range is to a context: what is reported fits its octets, and is nothing where nothing is counted; a QoS is in range; a
+-- release closes with its cause, and what closes without one closes with 20
+pub record Fair (m : Message) : Type 0 where
+  pub up : m .up < 2 ^ 32
+  pub down : m .down < 2 ^ 32
+  pub uncounted : m .counts ≡ false → (m .up ≡ 0) × (m .down ≡ 0)
+  pub qos : m .brings ≡ true → qosOk (m .qos) ≡ true
+  pub released : m .releases ≡ true → (m .closes ≡ true) × (release (m .cause) ≡ true)
+  pub managed : m .closes ≡ true → m .releases ≡ false → m .cause ≡ 20
 
--- a place for one container more, and numbers that can grow
-pub record Roomy (c : Context) : Type 0 where
-  pub few : c .count < 15
-  pub unused : blanks (drop (c .count) (c .containers)) ≡ true
-  pub changes : c .changes < 15
+-- counters, a place and numbers that can take one more
+pub record Grows (c : Context) : Type 0 where
+  pub counters : ample (c .current) ≡ true
+  pub place : roomy (c .current) ≡ true
+  pub changes : c .current .changes < 255
   pub closed : c .closed < mostAccepted
-
--- counters that can take a report more
-pub record Ample (c : Context) : Type 0 where
-  pub uplink : c .uplink < 2 ^ 63
-  pub downlink : c .downlink < 2 ^ 63
 
 -- a time that a sound node takes, and its profile
 pub record Due (p : Profile) (t : ℕ) : Type 0 where

@@ -1,0 +1,100 @@
+// Who hears an event, and what it is to them: a line a kind.
+use crate::Message;
+use container::Qos;
+use container::profile;
+use event::Activation;
+use event::Event;
+use event::Name;
+ghost use mathlib.Core.Path.{_≡_};
+ghost use Rattle.node.specs.Meaning.{quiet, report, newQos, tariffChange, tick, closeWith, releaseWith, meaningOf};
+
+// An activation opens a context; any other event is told to the context of a name, or to all.
+pub enum Meaning {
+    Opens(Activation),
+    Tells(Name, Message),
+    TellsAll(Message),
+}
+
+pub fn meaning_of(e: Event) -> Meaning
+    ensures { λ r. ⌜ r ≡ meaningOf e ⌝ }
+{
+    match e {
+        Event::Activate(a) => Meaning::Opens(a),
+        Event::Traffic(name, up, down) => Meaning::Tells(name, report(up, down)),
+        Event::Qos(name, q) => Meaning::Tells(name, new_qos(q)),
+        Event::Tariff => Meaning::TellsAll(tariff_change()),
+        Event::Release(name, cause) => Meaning::Tells(name, release_with(cause)),
+        Event::Tick => Meaning::TellsAll(tick()),
+        Event::Management(name) => Meaning::Tells(name, close_with(20)),
+    }
+}
+
+fn quiet() -> Message
+    ensures { λ r. ⌜ r ≡ quiet ⌝ }
+{
+    let none = profile::no_qos();
+    Message {
+        counts: false,
+        up: 0,
+        down: 0,
+        brings: false,
+        qos: none,
+        tariff: false,
+        ticks: false,
+        closes: false,
+        cause: 0,
+        releases: false,
+    }
+}
+
+fn report(up: u32, down: u32) -> Message
+    ensures { λ r. ⌜ r ≡ report up down ⌝ }
+{
+    let mut m = quiet();
+    m.counts = true;
+    m.up = up;
+    m.down = down;
+    m
+}
+
+fn new_qos(q: Qos) -> Message
+    ensures { λ r. ⌜ r ≡ newQos q ⌝ }
+{
+    let mut m = quiet();
+    m.brings = true;
+    m.qos = q;
+    m
+}
+
+fn tariff_change() -> Message
+    ensures { λ r. ⌜ r ≡ tariffChange ⌝ }
+{
+    let mut m = quiet();
+    m.tariff = true;
+    m
+}
+
+fn tick() -> Message
+    ensures { λ r. ⌜ r ≡ tick ⌝ }
+{
+    let mut m = quiet();
+    m.ticks = true;
+    m
+}
+
+fn close_with(cause: u8) -> Message
+    ensures { λ r. ⌜ r ≡ closeWith cause ⌝ }
+{
+    let mut m = quiet();
+    m.closes = true;
+    m.cause = cause;
+    m
+}
+
+fn release_with(cause: u8) -> Message
+    ensures { λ r. ⌜ r ≡ releaseWith cause ⌝ }
+{
+    let mut m = close_with(cause);
+    m.releases = true;
+    m
+}
