@@ -1,4 +1,4 @@
--- The first row that fits, of any rows. Assumes nothing.
+-- The first row that fits, of any rows.
 use mathlib.Core.Path.{_≡_, refl}
 use mathlib.Core.Bool.{Bool, true, false}
 use mathlib.Core.List.{List, _∷_}

@@ -1,5 +1,6 @@
 pub mod Firsts
 pub mod Numbers
+pub mod Table
 pub mod Tried
 pub mod Saying
 pub mod Theorems

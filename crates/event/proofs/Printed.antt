@@ -1,4 +1,4 @@
--- Events that 01 tells of, and edges of the refusals. Assumes nothing.
+-- Events that 01 tells of, and edges of the refusals.
 use mathlib.Core.Path.{_≡_, refl}
 use mathlib.Core.Bool.{false}
 use mathlib.Core.List.{[]}
@@ -7,8 +7,9 @@ use Rattle.ber.specs.Imsi.{imsiOk, halves, leading, allF}
 use Rattle.ber.specs.Int.{spelt, octetsFrom, numberIn}
 use Rattle.container.specs.Qos.{qosOk}
 use Rattle.octets.specs.Chars.{allOf, apnChar}
-use Rattle.event.specs.Fields.{release, wholeLength, activateOk, fieldsOk}
-use Rattle.event.specs.Rows.{firstFit, rows, marked, known, measured}
+use Rattle.event.specs.Fields.{release, activateOk}
+use Rattle.event.specs.Kinds.{kinds, kindIn, wholeOf}
+use Rattle.event.specs.Rows.{firstFit, rows, marked, known, measured, fieldsOk}
 use Rattle.event.specs.Event.{eventOf, saidBy, decoded}
 use Rattle.event.specs.Sample.{activate, traffic, released, named}
 use Rattle.event.specs.declared.Event.the-variants.{Activate, Traffic, Release}
@@ -28,23 +29,23 @@ pub activate-said : decoded activate ≡
       qos = record { reliability = 1; delay = 3; precedence = 2; peak = 4; mean = 0 };
       apnlen = 1;
     }))
-unfolding activate decoded saidBy eventOf firstFit rows marked known measured wholeLength fieldsOk activateOk
+unfolding activate decoded saidBy eventOf firstFit rows marked kinds kindIn known measured wholeOf fieldsOk activateOk
     spelt octetsFrom numberIn imsiOk halves leading allF qosOk allOf apnChar
 activate-said = refl
 
 pub traffic-said : decoded traffic ≡ Said 5 (Traffic (record { id = 1; ggsn = 0x0A000002 }) 400 599)
-unfolding traffic decoded saidBy eventOf firstFit rows marked known measured wholeLength fieldsOk spelt octetsFrom numberIn
+unfolding traffic decoded saidBy eventOf firstFit rows marked kinds kindIn known measured wholeOf fieldsOk spelt octetsFrom numberIn
 traffic-said = refl
 
 pub release-said : decoded (released 0) ≡ Said 6 (Release (record { id = 1; ggsn = 0x0A000002 }) 0)
-unfolding released decoded saidBy eventOf firstFit rows marked known measured wholeLength fieldsOk release spelt octetsFrom numberIn
+unfolding released decoded saidBy eventOf firstFit rows marked kinds kindIn known measured wholeOf fieldsOk release spelt octetsFrom numberIn
 release-said = refl
 
 -- ---- refused
 
 -- 16 closes a record at the volume limit, and no release has it
 pub release-16 : decoded (released 16) ≡ Refused 5
-unfolding released decoded saidBy firstFit rows marked known measured wholeLength fieldsOk release
+unfolding released decoded saidBy firstFit rows marked kinds kindIn known measured wholeOf fieldsOk release
 release-16 = refl
 
 pub nothing : decoded [] ≡ Refused 1
@@ -52,19 +53,21 @@ unfolding decoded saidBy firstFit rows
 nothing = refl
 
 pub activate-35 : decoded (take 35 activate) ≡ Refused 4
-unfolding activate decoded saidBy firstFit rows marked known measured wholeLength
+unfolding activate decoded saidBy firstFit rows marked kinds kindIn known measured wholeOf
 activate-35 = refl
 
 -- n = 0 in 36 octets, and in 37
 pub n-0 : decoded (named 0 0) ≡ Refused 5
-unfolding activate named decoded saidBy firstFit rows marked known measured wholeLength fieldsOk activateOk imsiOk halves leading allF qosOk allOf apnChar
+unfolding activate named decoded saidBy firstFit rows marked kinds kindIn known measured wholeOf fieldsOk activateOk
+    imsiOk halves leading allF qosOk allOf apnChar
 n-0 = refl
 
 pub n-0-longer : decoded (named 0 1) ≡ Refused 4
-unfolding activate named decoded saidBy firstFit rows marked known measured wholeLength
+unfolding activate named decoded saidBy firstFit rows marked kinds kindIn known measured wholeOf
 n-0-longer = refl
 
 -- n = 64 in 100 octets
 pub n-64 : decoded (named 64 64) ≡ Refused 5
-unfolding activate named decoded saidBy firstFit rows marked known measured wholeLength fieldsOk activateOk imsiOk halves leading allF qosOk allOf apnChar
+unfolding activate named decoded saidBy firstFit rows marked kinds kindIn known measured wholeOf fieldsOk activateOk
+    imsiOk halves leading allF qosOk allOf apnChar
 n-64 = refl

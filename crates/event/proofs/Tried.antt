@@ -1,4 +1,4 @@
--- The refusals in their order, by what the code finds. Assumes nothing.
+-- The refusals in their order, by what the code finds.
 use mathlib.Core.Path.{_≡_, refl, sym, _∙_}
 use mathlib.Core.Bool.{Bool, true, false, not, _&&_}
 use mathlib.Core.List.{List}
@@ -6,13 +6,13 @@ use Prim.Native.Nat.{ℕ, _≤_, _<_}
 use native.Mathlib.Omega.{arith}
 use lib.Dec.{leb, eqb}
 use lib.ListN.{length, List·getD-eq-default}
-use borrow.Author.Tests.{lt-ltb, le-ltb, lt-leb, ne-eqb, not-true, not-false}
+use borrow.Author.Tests.{lt-ltb, le-ltb, lt-leb, not-true, not-false}
 use Rattle.ber.specs.Imsi.{imsiRoom}
 use Rattle.container.specs.Qos.{qosOk}
 use Rattle.octets.specs.Chars.{allOf, apnChar}
-use Rattle.event.specs.Fields.{release, kindOf, qosAt, flagsOf, imsiOf, countOf, apnOf, causeOf, activateOk, fieldsOk}
+use Rattle.event.specs.Fields.{qosAt, flagsOf, imsiOf, countOf, apnOf, activateOk}
 use Rattle.ber.proofs.Imsis.{imsi-room}
-use Rattle.event.specs.Rows.{firstFit, rows, marked, known, measured}
+use Rattle.event.specs.Rows.{firstFit, rows, marked, known, measured, fieldsOk}
 
 -- ---- what a test's answer says
 
@@ -40,25 +40,6 @@ pub activate-is : (s : List ℕ) {f d n : ℕ} {q a : Bool} → f ≡ flagsOf s 
 unfolding activateOk
 activate-is s p e u v w = rw (p, e, u, v, w, imsi-room (imsiOf s))
 
--- ---- the fields of the kind
-
-module _ (k : ℕ) (s : List ℕ) where
-  pub fields-activate : k ≡ 1 → activateOk s ≡ fieldsOk k s
-  unfolding fieldsOk
-  fields-activate e = rw e
-
-  pub fields-qos : k ≡ 3 → qosOk (qosAt 15 s) ≡ fieldsOk k s
-  unfolding fieldsOk
-  fields-qos e = rw e
-
-  pub fields-release : k ≡ 5 → release (causeOf s) ≡ fieldsOk k s
-  unfolding fieldsOk
-  fields-release e = rw e
-
-  pub fields-none : (k ≡ 1 → ⊥) → (k ≡ 3 → ⊥) → (k ≡ 5 → ⊥) → true ≡ fieldsOk k s
-  unfolding fieldsOk
-  fields-none a b d = rw (ne-eqb k 1 a, ne-eqb k 3 b, ne-eqb k 5 d)
-
 -- ---- one row after another
 
 pub row-1 : (s : List ℕ) → length s < 7 → 1 ≡ firstFit (rows s)
@@ -80,10 +61,10 @@ module _ (s : List ℕ) (h : 7 ≤ length s) where
       unfolding firstFit rows
       row-4 l = rw (le-ltb (length s) 7 h, m, k, l)
 
-      pub row-5 : measured s ≡ true → fieldsOk (kindOf s) s ≡ false → 5 ≡ firstFit (rows s)
+      pub row-5 : measured s ≡ true → fieldsOk s ≡ false → 5 ≡ firstFit (rows s)
       unfolding firstFit rows
       row-5 l f = rw (le-ltb (length s) 7 h, m, k, l, f)
 
-      pub row-none : measured s ≡ true → fieldsOk (kindOf s) s ≡ true → 0 ≡ firstFit (rows s)
+      pub row-none : measured s ≡ true → fieldsOk s ≡ true → 0 ≡ firstFit (rows s)
       unfolding firstFit rows
       row-none l f = rw (le-ltb (length s) 7 h, m, k, l, f)

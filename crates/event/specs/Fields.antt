@@ -1,6 +1,6 @@
--- The fields of an event, as 01's table of kinds has them: where they stand, how long the event is, what is in range. Each is a
--- value for any octets. Assumes nothing.
-use mathlib.Core.Bool.{Bool, true, cond, _&&_, _||_}
+-- The fields of an event: where they stand, and what is in range. Each is a value for any octets. Which kind has which, and how long
+-- it is, the table of kinds says (Kinds.antt).
+use mathlib.Core.Bool.{Bool, _&&_, _||_}
 use mathlib.Core.List.{List}
 use Prim.Native.Nat.{ℕ, _+_, _/_, _%_}
 use lib.Dec.{leb, eqb}
@@ -67,18 +67,6 @@ activationOf s =
 abbrev pub causeOf : List ℕ → ℕ
 causeOf s = getD s 15 0
 
--- ---- how long the event is
-
--- by its kind; an activate has n octets after its first 36
-unfoldable pub wholeLength : ℕ → ℕ → ℕ
-wholeLength k n =
-    cond (eqb k 1) (36 + n)
-    (cond (eqb k 2) 23
-    (cond (eqb k 3) 20
-    (cond (eqb k 5) 16
-    (cond (eqb k 7) 15
-    7))))
-
 -- ---- what is in range
 
 -- flags 0..3; IMSI; QoS; n 1..63; APN letters, digits, '.', '-'. The PDP type and the PDP address are any.
@@ -94,11 +82,3 @@ activateOk s =
 -- a release has cause 0, 4 or 18
 unfoldable pub release : ℕ → Bool
 release c = eqb c 0 || eqb c 4 || eqb c 18
-
--- of a QoS its profile, of a release its cause; the other kinds have nothing that could be out of range
-unfoldable pub fieldsOk : ℕ → List ℕ → Bool
-fieldsOk k s =
-    cond (eqb k 1) (activateOk s)
-    (cond (eqb k 3) (qosOk (qosAt 15 s))
-    (cond (eqb k 5) (release (causeOf s))
-    true))

@@ -1,4 +1,5 @@
 pub mod Fields
+pub mod Kinds
 pub mod Rows
 pub mod Framing
 pub mod Event

@@ -1,10 +1,10 @@
--- The refusals of an event's octets, in their order. Assumes nothing.
+-- The refusals of an event's octets, in their order.
 use mathlib.Core.Bool.{Bool, not, cond, _&&_}
 use mathlib.Core.List.{List, [], _∷_}
 use Prim.Native.Nat.{ℕ}
-use lib.Dec.{leb, ltb, eqb}
+use lib.Dec.{ltb, eqb}
 use lib.ListN.{length, getD}
-use Rattle.event.specs.Fields.{kindOf, countOf, wholeLength, fieldsOk}
+use Rattle.event.specs.Kinds.{rowOf, isRow, theRow, wholeOf}
 
 -- a refusal: its number, and whether it fits
 pub data Row : Type 0 where
@@ -19,12 +19,17 @@ firstFit (row n t ∷ rs) = cond t n (firstFit rs)
 unfoldable pub marked : List ℕ → Bool
 marked s = eqb (getD s 0 0) 0xC3 && eqb (getD s 1 0) 0x5E
 
+-- a row of the table of kinds has its number
 unfoldable pub known : List ℕ → Bool
-known s = leb 1 (kindOf s) && leb (kindOf s) 7
+known s = isRow (rowOf s)
 
--- The kind's length. An activate under 36 octets has no octet 35, which then counts as 0: it is not 36 octets long.
+-- the kind's length
 unfoldable pub measured : List ℕ → Bool
-measured s = eqb (length s) (wholeLength (kindOf s) (countOf s))
+measured s = eqb (length s) (wholeOf s)
+
+-- the kind's fields in range
+unfoldable pub fieldsOk : List ℕ → Bool
+fieldsOk s = theRow (rowOf s) .inRange s
 
 unfoldable pub rows : List ℕ → List Row
 rows s =
@@ -32,5 +37,5 @@ rows s =
     ∷ row 2 (not (marked s))
     ∷ row 3 (not (known s))
     ∷ row 4 (not (measured s))
-    ∷ row 5 (not (fieldsOk (kindOf s) s))
+    ∷ row 5 (not (fieldsOk s))
     ∷ []

@@ -1,4 +1,4 @@
--- The events of 01's "One session, whole". Assumes nothing.
+-- The events of 01's "One session, whole".
 use mathlib.Core.List.{List, [], _∷_, _++_}
 use Prim.Native.Nat.{ℕ}
 use lib.ListN.{take, replicate}

@@ -1,11 +1,23 @@
-// What follows the head of an event.
+// The fields of an event: where they stand, and what is in range.
 use crate::Activation;
 use crate::Name;
 use crate::number;
+use ber::imsi;
 use container::Qos;
+use container::profile;
+use octets::chars;
+use octets::chars::Class;
 ghost use mathlib.Core.Path.{_≡_};
 ghost use Prim.Native.Nat.{_<_};
-ghost use Rattle.event.specs.Fields.{nameOf, qosAt, activationOf};
+ghost use Rattle.event.specs.Fields.{nameOf, qosAt, activationOf, activateOk, release};
+ghost use Rattle.event.specs.Rows.{marked};
+
+// The mark C3 5E.
+pub fn is_marked(s: &[u8]) -> bool
+    ensures { λ r. ⌜ r ≡ marked (now (s .entry)) ⌝ }
+{
+    (octets::octet(s, 0) == 0xC3) & (octets::octet(s, 1) == 0x5E)
+}
 
 // The name of the context.
 pub fn name_of(s: &[u8]) -> Name
@@ -54,4 +66,27 @@ pub fn activation_of(s: &[u8]) -> Activation
         qos,
         apnlen,
     }
+}
+
+// The fields of an activate in range. One under 36 octets has no n.
+pub fn activate_ok(s: &[u8]) -> bool
+    ensures { λ r. ⌜ r ≡ activateOk (now (s .entry)) ⌝ }
+{
+    if s.len() < 36 {
+        return false;
+    }
+    let flags = octets::octet(s, 15);
+    let digits = imsi::imsi_size(&s[16..24]);
+    let q = qos_at(s, 30);
+    let qos = profile::qos_ok(q);
+    let n = octets::octet(s, 35);
+    let apn = chars::all_chars(Class::Apn, &s[36..]);
+    (flags <= 3) & !(digits == 0) & qos & (1 <= n) & (n <= 63) & apn
+}
+
+// A release has cause 0, 4 or 18.
+pub fn is_release(cause: u8) -> bool
+    ensures { λ r. ⌜ r ≡ release cause ⌝ }
+{
+    (cause == 0) | (cause == 4) | (cause == 18)
 }

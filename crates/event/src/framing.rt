@@ -1,5 +1,5 @@
 // Where an event ends in a file of events, which has no framing: its kind says how long it is.
-use crate::rows;
+use crate::kinds;
 ghost use mathlib.Core.Path.{_≡_};
 ghost use Rattle.event.specs.Framing.{nextLength};
 
@@ -9,12 +9,9 @@ pub fn next_length(s: &[u8]) -> usize
     ensures { λ r. ⌜ r ≡ nextLength (now (s .entry)) ⌝ }
 {
     let here = s.len();
-    let known = rows::is_known(s);
-    let k = octets::octet(s, 2);
-    let n = octets::octet(s, 35);
-    let whole = rows::whole_length(k, n);
-    if known & (whole <= here) {
-        return whole;
+    let e = kinds::entry_of(s);
+    if e.known & (e.whole <= here) {
+        return e.whole;
     }
     here
 }

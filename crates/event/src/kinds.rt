@@ -1,60 +1,135 @@
-// The seven kinds.
+// The table of kinds: a line of `entry_of` a kind, and a function that gives the line's entry.
 use crate::Event;
 use crate::fields;
 use crate::number;
+use container::profile;
 ghost use mathlib.Core.Path.{_≡_};
-ghost use Rattle.event.specs.Fields.{kindOf};
-ghost use Rattle.event.specs.Event.{trafficOf, qosOf, releaseOf, eventOf};
+ghost use mathlib.Core.Bool.{true, false};
+ghost use Rattle.event.specs.Kinds.{activateKind, trafficKind, qosKind, tariffKind, releaseKind, tickKind, managementKind, noKind};
+ghost use Rattle.event.specs.Private.Entries.{entryBy, entryOf};
 
-fn traffic_of(s: &[u8]) -> Event
-    ensures { λ r. ⌜ r ≡ trafficOf (now (s .entry)) ⌝ }
+// What the table says of an event's octets, whatever they are: that a kind has their number, how long such an event is as a whole, whether its
+// fields are in range, and what it says.
+pub struct Entry {
+    pub known: bool,
+    pub whole: usize,
+    pub right: bool,
+    pub event: Event,
+}
+
+// 36 octets, and n more of name.
+fn activate(s: &[u8]) -> Entry
+    ensures { λ r. ⌜ r ≡ entryBy true activateKind (now (s .entry)) ⌝ }
+{
+    let n = octets::octet(s, 35);
+    let right = fields::activate_ok(s);
+    let a = fields::activation_of(s);
+    Entry {
+        known: true,
+        whole: 36 + number::size(n),
+        right,
+        event: Event::Activate(a),
+    }
+}
+
+fn traffic(s: &[u8]) -> Entry
+    ensures { λ r. ⌜ r ≡ entryBy true trafficKind (now (s .entry)) ⌝ }
 {
     let name = fields::name_of(s);
     let up = number::four(s, 15);
     let down = number::four(s, 19);
-    Event::Traffic(name, up, down)
+    Entry {
+        known: true,
+        whole: 23,
+        right: true,
+        event: Event::Traffic(name, up, down),
+    }
 }
 
-fn qos_of(s: &[u8]) -> Event
-    ensures { λ r. ⌜ r ≡ qosOf (now (s .entry)) ⌝ }
+fn qos(s: &[u8]) -> Entry
+    ensures { λ r. ⌜ r ≡ entryBy true qosKind (now (s .entry)) ⌝ }
 {
     let name = fields::name_of(s);
     let q = fields::qos_at(s, 15);
-    Event::Qos(name, q)
+    Entry {
+        known: true,
+        whole: 20,
+        right: profile::qos_ok(q),
+        event: Event::Qos(name, q),
+    }
 }
 
-fn release_of(s: &[u8]) -> Event
-    ensures { λ r. ⌜ r ≡ releaseOf (now (s .entry)) ⌝ }
+fn tariff(s: &[u8]) -> Entry
+    ensures { λ r. ⌜ r ≡ entryBy true tariffKind (now (s .entry)) ⌝ }
+{
+    Entry {
+        known: true,
+        whole: 7,
+        right: true,
+        event: Event::Tariff,
+    }
+}
+
+fn release(s: &[u8]) -> Entry
+    ensures { λ r. ⌜ r ≡ entryBy true releaseKind (now (s .entry)) ⌝ }
 {
     let name = fields::name_of(s);
     let cause = octets::octet(s, 15);
-    Event::Release(name, cause)
+    Entry {
+        known: true,
+        whole: 16,
+        right: fields::is_release(cause),
+        event: Event::Release(name, cause),
+    }
 }
 
-// The event of octets that no row refuses.
-pub fn event_of(s: &[u8]) -> Event
-    ensures { λ r. ⌜ r ≡ eventOf (kindOf (now (s .entry))) (now (s .entry)) ⌝ }
+fn tick(s: &[u8]) -> Entry
+    ensures { λ r. ⌜ r ≡ entryBy true tickKind (now (s .entry)) ⌝ }
+{
+    Entry {
+        known: true,
+        whole: 7,
+        right: true,
+        event: Event::Tick,
+    }
+}
+
+fn management(s: &[u8]) -> Entry
+    ensures { λ r. ⌜ r ≡ entryBy true managementKind (now (s .entry)) ⌝ }
+{
+    let name = fields::name_of(s);
+    Entry {
+        known: true,
+        whole: 15,
+        right: true,
+        event: Event::Management(name),
+    }
+}
+
+// Octets of no kind.
+fn unknown(s: &[u8]) -> Entry
+    ensures { λ r. ⌜ r ≡ entryBy false noKind (now (s .entry)) ⌝ }
+{
+    Entry {
+        known: false,
+        whole: 0,
+        right: false,
+        event: Event::Tick,
+    }
+}
+
+pub fn entry_of(s: &[u8]) -> Entry
+    ensures { λ r. ⌜ r ≡ entryOf (now (s .entry)) ⌝ }
 {
     let k = octets::octet(s, 2);
-    if k == 1 {
-        let a = fields::activation_of(s);
-        return Event::Activate(a);
+    match k {
+        1 => return activate(s),
+        2 => return traffic(s),
+        3 => return qos(s),
+        4 => return tariff(s),
+        5 => return release(s),
+        6 => return tick(s),
+        7 => return management(s),
+        _ => return unknown(s),
     }
-    if k == 2 {
-        return traffic_of(s);
-    }
-    if k == 3 {
-        return qos_of(s);
-    }
-    if k == 4 {
-        return Event::Tariff;
-    }
-    if k == 5 {
-        return release_of(s);
-    }
-    if k == 6 {
-        return Event::Tick;
-    }
-    let name = fields::name_of(s);
-    Event::Management(name)
 }

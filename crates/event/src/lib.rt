@@ -1,15 +1,15 @@
 // An event's octets decoded: what an event says, or the number of the first refusal that fits. The time's range is the node's to
 // look at, and so is what a context has to do with the event.
 //
-// number has numbers at a place, fields what follows the head, rows the refusals in their order, kinds the seven kinds, framing where an
-// event ends in a file of them.
+// number has numbers at a place, fields where each field stands and what is in range, kinds the table of kinds, framing where an event
+// ends in a file of them. One kind more is a case of `Event` here, a row of specs/Kinds.antt, and in kinds a line of `entry_of` with its
+// function.
 //
 // No public function has a `requires`: each answers for every input.
 mod fields;
 pub mod framing;
 mod kinds;
 mod number;
-mod rows;
 
 ghost use mathlib.Core.Path.{_≡_};
 ghost use Rattle.event.specs.Event.{decoded};
@@ -56,11 +56,25 @@ pub enum Decoded {
 pub fn decode(s: &[u8]) -> Decoded
     ensures { λ r. ⌜ r ≡ decoded (now (s .entry)) ⌝ }
 {
-    let n = rows::first_row(s);
-    if n == 0 {
-        let t = number::four(s, 3);
-        let e = kinds::event_of(s);
-        return Decoded::Said(t, e);
+    if s.len() < 7 {
+        return Decoded::Refused(1);
     }
-    Decoded::Refused(n)
+    if !fields::is_marked(s) {
+        return Decoded::Refused(2);
+    }
+    let e = kinds::entry_of(s);
+    if !e.known {
+        return Decoded::Refused(3);
+    }
+    let long = s.len() == e.whole;
+    let right = e.right;
+    if !long {
+        return Decoded::Refused(4);
+    }
+    if !right {
+        return Decoded::Refused(5);
+    }
+    let t = number::four(s, 3);
+    let event = e.event;
+    Decoded::Said(t, event)
 }

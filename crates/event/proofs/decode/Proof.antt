@@ -1,24 +1,68 @@
--- `event::decode` meets its contract. Assumes nothing.
+-- `event::decode` meets its contract: a law for each row.
+use native.Mathlib.Omega.{arith}
 use borrow.Author.Needs.{needs}
+use Rattle.event.proofs.Table.{entry-known, entry-long, entry-right, entry-says}
+use Rattle.event.proofs.Tried.{holds, fails, row-1, row-2, row-3, row-4, row-5, row-none}
 use Rattle.event.proofs.Saying.{said-is, refused-is}
 use Rattle.event.proofs.decode.Statement.{statement}
 use Rattle.event.proofs.decode.Tie as tie
 
-first-row-requires : tie.Need-first-row-requires
-first-row-requires c κs = search needs
+returns : tie.Need-returns
+returns c = let s = c .before .before .args .s .now in refused-is s (row-1 s (c .if1 .taken)) (λ z. omega arith)
+
+is-marked-requires : tie.Need-is-marked-requires
+is-marked-requires c κs = search needs
+
+returns-2 : tie.Need-returns-2
+returns-2 c =
+    let s = c .before .before .before .before .args .s .now in
+    refused-is s (row-2 s (c .before .before .if1 .left) (fails (c .before .is-marked .ensures) (c .if2 .taken))) (λ z. omega arith)
+
+entry-of-requires : tie.Need-entry-of-requires
+entry-of-requires c κs = search needs
+
+returns-3 : tie.Need-returns-3
+returns-3 c =
+    let b = c .before .before in
+    let s = b .before .before .before .before .before .args .s .now in
+    let m = holds (b .before .before .is-marked .ensures) (b .before .if2 .left) in
+    let e = b .entry-of .ensures in
+    refused-is s (row-3 s (b .before .before .before .if1 .left) m (fails (entry-known s e) (c .if3 .taken))) (λ z. omega arith)
+
+returns-4 : tie.Need-returns-4
+returns-4 c =
+    let b = c .before .before .before .before in
+    let s = b .before .before .before .before .before .args .s .now in
+    let m = holds (b .before .before .is-marked .ensures) (b .before .if2 .left) in
+    let e = b .entry-of .ensures in
+    let k = holds (entry-known s e) (c .before .before .if3 .left) in
+    refused-is s (row-4 s (b .before .before .before .if1 .left) m k (fails (entry-long s e) (c .if4 .taken))) (λ z. omega arith)
+
+returns-5 : tie.Need-returns-5
+returns-5 c =
+    let b = c .before .before .before .before .before in
+    let s = b .before .before .before .before .before .args .s .now in
+    let m = holds (b .before .before .is-marked .ensures) (b .before .if2 .left) in
+    let e = b .entry-of .ensures in
+    let k = holds (entry-known s e) (c .before .before .before .if3 .left) in
+    let l = holds (entry-long s e) (c .before .if4 .left) in
+    refused-is s (row-5 s (b .before .before .before .if1 .left) m k l (fails (entry-right s e) (c .if5 .taken))) (λ z. omega arith)
 
 four-requires : tie.Need-four-requires
 four-requires c κs = search needs
 
-event-of-requires : tie.Need-event-of-requires
-event-of-requires c κs = search needs
-
-returns : tie.Need-returns
-returns c = said-is (c .before .before .before .before .before .args .s .now) (c .before .before .before .first-row .ensures) (c .before .before .if1 .taken) (c .before .four .ensures) (c .event-of .ensures)
-
-returns-2 : tie.Need-returns-2
-returns-2 c = refused-is (c .before .before .before .args .s .now) (c .before .first-row .ensures) (c .if1 .left)
+returns-6 : tie.Need-returns-6
+returns-6 c =
+    let b = c .before .before .before .before .before .before in
+    let s = b .before .before .before .before .before .args .s .now in
+    let m = holds (b .before .before .is-marked .ensures) (b .before .if2 .left) in
+    let e = b .entry-of .ensures in
+    let k = holds (entry-known s e) (c .before .before .before .before .if3 .left) in
+    let l = holds (entry-long s e) (c .before .before .if4 .left) in
+    let f = holds (entry-right s e) (c .before .if5 .left) in
+    said-is s (row-none s (b .before .before .before .if1 .left) m k l f) (c .four .ensures) (entry-says s e)
 
 pub decode-spec : {M : Type 1} → statement M
 decode-spec =
-    tie.close (tie.spec first-row-requires four-requires event-of-requires returns returns-2)
+    tie.close
+    (tie.spec returns is-marked-requires returns-2 entry-of-requires returns-3 returns-4 returns-5 four-requires returns-6)

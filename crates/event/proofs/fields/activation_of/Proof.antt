@@ -1,4 +1,4 @@
--- `event::fields::activation_of` meets its contract. Assumes nothing.
+-- `event::fields::activation_of` meets its contract.
 use borrow.Author.Needs.{needs}
 use Rattle.event.proofs.fields.activation_of.Statement.{statement}
 use Rattle.event.proofs.fields.activation_of.Tie as tie

@@ -1,4 +1,4 @@
--- `event::fields::name_of` meets its contract. Assumes nothing.
+-- `event::fields::name_of` meets its contract.
 use borrow.Author.Needs.{needs}
 use Rattle.event.proofs.fields.name_of.Statement.{statement}
 use Rattle.event.proofs.fields.name_of.Tie as tie

@@ -1,4 +1,4 @@
--- `event::rows::activate_ok` meets its contract. Assumes nothing.
+-- `event::fields::activate_ok` meets its contract.
 use mathlib.Core.Path.{refl, ap, _∙_}
 use lib.ListN.{length}
 use borrow.Author.Needs.{needs}
@@ -6,8 +6,8 @@ use Rattle.container.specs.Qos.{qosOk}
 use Rattle.octets.specs.Chars.{allOf, apnChar}
 use Rattle.octets.proofs.Stored.{rest-all}
 use Rattle.event.proofs.Tried.{activate-short, activate-is}
-use Rattle.event.proofs.rows.activate_ok.Statement.{statement}
-use Rattle.event.proofs.rows.activate_ok.Tie as tie
+use Rattle.event.proofs.fields.activate_ok.Statement.{statement}
+use Rattle.event.proofs.fields.activate_ok.Tie as tie
 
 returns : tie.Need-returns
 returns c = activate-short (c .before .before .args .s .now) (c .if1 .taken)

@@ -1,8 +1,8 @@
--- `event::rows::is_marked` meets its contract. Assumes nothing.
+-- `event::fields::is_marked` meets its contract.
 use borrow.Author.Needs.{needs}
 use Rattle.event.specs.Rows.{marked}
-use Rattle.event.proofs.rows.is_marked.Statement.{statement}
-use Rattle.event.proofs.rows.is_marked.Tie as tie
+use Rattle.event.proofs.fields.is_marked.Statement.{statement}
+use Rattle.event.proofs.fields.is_marked.Tie as tie
 
 octet-requires : tie.Need-octet-requires
 octet-requires c κs = search needs
