@@ -1,6 +1,6 @@
 -- What an accepted event brings is in range, and the context that an activate opens is as it must be. Assumes nothing.
 use mathlib.Core.Path.{_≡_, refl, sym, ap, _∙_}
-use mathlib.Core.Bool.{true}
+use mathlib.Core.Bool.{true, false}
 use mathlib.Core.List.{List, [], _∷_}
 use Prim.Native.Nat.{ℕ, zero, suc, _+_, _-_, _^_, _≤_, _<_}
 use native.Mathlib.Omega.{arith}
@@ -12,8 +12,7 @@ use Rattle.ber.specs.Int.{spelt, octetsFrom, numberIn}
 use Rattle.ber.specs.Imsi.{imsiOk}
 use Rattle.ber.proofs.Imsis.{imsi-rules}
 use Rattle.container.specs.Qos.{qosOk}
-use Rattle.container.specs.Open.{volumeOf}
-use Rattle.container.proofs.Opens.{open-none, padded-rest}
+use Rattle.container.proofs.OpenRules.{opened-sound}
 use Rattle.octets.specs.Chars.{allOf, isZero, apnChar}
 use Rattle.octets.specs.Names.{apnOk}
 use Rattle.octets.specs.Filled.{fillTo}
@@ -26,16 +25,17 @@ use Rattle.event.specs.declared.Activation.{Activation}
 use Rattle.event.specs.declared.Event.{Event}
 use Rattle.event.specs.declared.Event.the-variants as E
 use Rattle.event.specs.declared.Decoded.the-variants as D
-use Rattle.event.specs.Fields.{kindOf}
-use Rattle.event.specs.Event.{trafficOf, eventOf, decoded}
+use Rattle.event.specs.Event.{decoded}
 use Rattle.event.proofs.Numbers.{number-more}
-use Rattle.event.proofs.Theorems.{heard, activated as activate-in, qos-changed, released}
+use Rattle.event.proofs.Theorems.{activated as activate-in, reported as reports, qos-changed, released}
 use Rattle.context.specs.Sound.{contextOk}
 use Rattle.context.proofs.Sounds.{good-is}
 use Rattle.history.specs.Log.{Said, activates, tells, tellsAll, nothing}
 use Rattle.node.specs.declared.Message.{Message}
 use Rattle.node.specs.Step.{Brought, broughtBy, takes, activated}
-use Rattle.node.specs.Private.Told.{Fair}
+use Rattle.node.specs.Meaning.{tariffChange, tick, meaningOf}
+use Rattle.node.specs.Private.Told.{Fair, Small}
+use Rattle.node.specs.Private.Task.{FairMeaning}
 use Rattle.node.specs.Held.{Octets, HeldContext}
 use Rattle.node.proofs.Fits.{fit}
 
@@ -69,13 +69,37 @@ pub record Brings (m : Name) (b : Brought) : Type 0 where
 -- Of any event; none says nothing.
 abbrev pub Fairly : Said (Unit {0}) Name Brought Message → Type 0
 Fairly (activates m b) = Brings m (b tt)
-Fairly (tells m h) = Fair h
-Fairly (tellsAll h) = Fair h
+Fairly (tells m h) = Fair h × Small h
+Fairly (tellsAll h) = Fair h × Small h
 Fairly nothing = ⊥
 
+-- what each kind of event in range is to a context
+differ : true ≡ false → ⊥
+differ e = let z : _≡_ {A = ℕ} 0 1 = cc in omega arith
+
+plain : (m : Message) → m .counts ≡ false → m .up ≡ 0 → m .down ≡ 0 → m .brings ≡ false → m .closes ≡ false → m .releases ≡ false → Fair m
+plain m c u d b k r = record {
+  uncounted = λ e. (u, d);
+  qos = λ e. absurd (differ (sym e ∙ b));
+  released = λ e. absurd (differ (sym e ∙ r));
+  managed = λ e. absurd (differ (sym e ∙ k));
+}
+
 -- octets that no row refuses say what is in range
+pub fair-meaning : (s : List ℕ) (e : Event) {t : ℕ} → decoded s ≡ D.Said t e → FairMeaning (meaningOf e)
+fair-meaning s (E.Activate a) d = tt
+fair-meaning s (E.Traffic n up down) d =
+    record { uncounted = λ e. absurd (differ e); qos = λ e. absurd (differ (sym e)); released = λ e. absurd (differ (sym e)); managed = λ e. absurd (differ (sym e)) }
+fair-meaning s (E.Qos n q) d =
+    record { uncounted = λ e. (refl, refl); qos = λ e. qos-changed s d; released = λ e. absurd (differ (sym e)); managed = λ e. absurd (differ (sym e)) }
+fair-meaning s E.Tariff d = plain tariffChange refl refl refl refl refl refl
+fair-meaning s (E.Release n c) d =
+    record { uncounted = λ e. (refl, refl); qos = λ e. absurd (differ (sym e)); released = λ e. (refl, released s d); managed = λ k e. absurd (differ e) }
+fair-meaning s E.Tick d = plain tick refl refl refl refl refl refl
+fair-meaning s (E.Management n) d =
+    record { uncounted = λ e. (refl, refl); qos = λ e. absurd (differ (sym e)); released = λ e. absurd (differ (sym e)); managed = λ k e. refl }
+
 pub fair-said : (s : List ℕ) (e : Event) {t : ℕ} → Octets s → decoded s ≡ D.Said t e → Fairly (takes e s)
-unfolding eventOf
 fair-said s (E.Activate a) o d =
     let x = activate-in s d in
     let n = x .size in
@@ -92,17 +116,13 @@ fair-said s (E.Activate a) o d =
       address = rw (x .is) (number-below 4 26 s o);
     }
 fair-said s (E.Traffic n up down) o d =
-    let x = heard s d in
-    let k : kindOf s ≡ 2 = sym (x .kind) in
-    let g : E.Traffic n up down ≡ trafficOf s = x .event ∙ ap (λ (m : ℕ). eventOf m s) k in
-    let u : up ≡ numberIn 4 15 s = cc in
-    let v : down ≡ numberIn 4 19 s = cc in
-    (rw u (number-below 4 15 s o), rw v (number-below 4 19 s o))
-fair-said s (E.Qos n q) o d = qos-changed s d
-fair-said s E.Tariff o d = tt
-fair-said s (E.Release n c) o d = released s d
-fair-said s E.Tick o d = tt
-fair-said s (E.Management n) o d = tt
+    let x = reports s d in
+    (fair-meaning s (E.Traffic n up down) d, record { up = rw (x .0) (number-below 4 15 s o); down = rw (x .1) (number-below 4 19 s o) })
+fair-said s (E.Qos n q) o d = (fair-meaning s (E.Qos n q) d, record { up = omega arith; down = omega arith })
+fair-said s E.Tariff o d = (fair-meaning s E.Tariff d, record { up = omega arith; down = omega arith })
+fair-said s (E.Release n c) o d = (fair-meaning s (E.Release n c) d, record { up = omega arith; down = omega arith })
+fair-said s E.Tick o d = (fair-meaning s E.Tick d, record { up = omega arith; down = omega arith })
+fair-said s (E.Management n) o d = (fair-meaning s (E.Management n) d, record { up = omega arith; down = omega arith })
 
 -- ---- the context that it opens
 
@@ -120,21 +140,15 @@ filled-apn xs l m a =
 
 module _ (p : Profile) (t : ℕ) (m : Name) (b : Brought) (r : Brings m b) where
   pub activated-sound : profileOk p ≡ true → (accepted : ℕ) → contextOk (p .limits) (p .zone) t (accepted + 1) (activated p t m b) ≡ true
-  unfolding activated volumeOf
+  unfolding activated
   activated-sound ok accepted =
       let f = fit p ok in
       good-is (p .limits) (p .zone) t (accepted + 1) (activated p t m b) (record {
         flags = r .flags;
         imsi = r .imsi;
         apn = filled-apn (b .apn) (r .least) (r .most) (r .apn);
-        qos = r .qos;
-        unused = padded-rest [];
         closed = omega arith;
-        count = refl;
-        changes = f .some-changes;
-        zone = refl;
-        containers = open-none (p .zone) t (b .qos) t (omega arith);
-        volume = omega (arith, f .some-volume);
+        current = opened-sound (p .limits .volume) (p .limits .changes) (p .zone) t (b .qos) (r .qos) (f .some-volume) (f .some-changes);
       })
 
   pub activated-held : HeldContext (activated p t m b)

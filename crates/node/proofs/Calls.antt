@@ -12,7 +12,7 @@ use Rattle.event.specs.declared.Name.{Name}
 use Rattle.event.specs.declared.Event.{Event}
 use Rattle.event.specs.declared.Decoded.{Decoded}
 use Rattle.event.specs.declared.Decoded.the-variants.{Said, Refused}
-use Rattle.event.specs.Fields.{kindOf, timeOf}
+use Rattle.event.specs.Fields.{timeOf}
 use Rattle.event.specs.Rows.{Row, row, firstFit, rows}
 use Rattle.event.specs.Event.{eventOf, saidBy, decoded}
 use Rattle.event.proofs.Theorems.{heard}
@@ -43,7 +43,7 @@ unfolding saidBy
 refused-by n s {k} h =
     by (eqb n 0)
     (λ z.
-    let g : Said (timeOf s) (eventOf (kindOf s) s) ≡ Refused k = rw z at h in
+    let g : Said (timeOf s) (eventOf s) ≡ Refused k = rw z at h in
     absurd (let x : _≡_ {A = ℕ} 0 1 = cc in omega arith))
     (λ z.
     let g : Refused n ≡ Refused k = rw z at h in

@@ -25,11 +25,12 @@ use Rattle.profile.specs.declared.Profile.{Profile}
 use Rattle.context.specs.declared.Context.{Context}
 use Rattle.history.specs.Lists.{isSome, orElse, test}
 use Rattle.node.specs.declared.Message.{Message}
-use Rattle.node.specs.Hear.{reported, changeOf, closing, timeAt, numberFor, recordOf, closedBy}
+use Rattle.node.specs.Hear.{reported, changeOf, limitMet, closing, timeAt, numberFor, recordOf, closedBy}
 use Rattle.node.specs.Sound.{mostAccepted}
-use Rattle.node.specs.Private.Told.{Fair, Apt}
+use Rattle.node.specs.Private.Told.{Fair, Small, Apt}
 use Rattle.node.proofs.Fits.{fit, apt-good, apt-grows, apt-few}
 use Rattle.node.proofs.Perhaps.{test-is}
+use Rattle.node.proofs.Causes.{closing-once, closing-limit}
 
 -- ---- the number and the SGSN change
 
@@ -93,7 +94,7 @@ record Closes (m : Message) (closed cause : ℕ) : Type 0 where
 
 closes : (l : Limits) (o : OpenRecord) (t : ℕ) (m : Message) {cause : ℕ} (closed : ℕ) → closed < mostAccepted → Fair m → closing l o t m ≡ some cause
     → Closes m closed cause
-unfolding closing
+unfolding causeOk release limitMet
 closes l o t m {cause} closed few f e = by (m .closes) at-once by-limit
   where
     other : m .releases ≡ false → Cause cause → Closes m closed cause
@@ -103,12 +104,12 @@ closes l o t m {cause} closed few f e = by (m .closes) at-once by-limit
     by-limit n =
         by (m .releases)
         (λ r. absurd (let z : _≡_ {A = Bool} true false = sym (f .released r .0) ∙ n in let y : _≡_ {A = ℕ} 0 1 = cc in omega arith))
-        (λ r. other r (limit-cause (m .counts && O.volumeMet (l .volume) (reported o m)) (m .ticks && O.timeMet (l .seconds) t o) (isSome (changeOf o m) && O.changesMet (l .changes) o) (rw n at e)))
+        (λ r. other r (limit-cause (m .counts && O.volumeMet (l .volume) (reported o m)) (m .ticks && O.timeMet (l .seconds) t o) (isSome (changeOf o m) && O.changesMet (l .changes) o)
+        (sym (closing-limit l o t m n) ∙ e)))
 
     at-once : m .closes ≡ true → Closes m closed cause
-    unfolding causeOk release
     at-once y =
-        let i : some (m .cause) ≡ some cause = rw y at e in
+        let i : some (m .cause) ≡ some cause = sym (closing-once l o t m y) ∙ e in
         let z : m .cause ≡ cause = cc in
         by (m .releases)
         (λ r.
@@ -118,7 +119,7 @@ closes l o t m {cause} closed few f e = by (m .closes) at-once by-limit
 
 -- ---- the record that closes
 
-module _ (p : Profile) (t : ℕ) (c : Context) (a : Apt p t c) (size : length (c .current .containers) ≡ 15) (m : Message) (f : Fair m) where
+module _ (p : Profile) (t : ℕ) (c : Context) (a : Apt p t c) (size : length (c .current .containers) ≡ 15) (m : Message) (f : Fair m) (u : Small m) where
   few : length (used (c .current)) ≤ 14
   few = omega (arith, used-length (c .current) (omega (arith, apt-few p t c a)) size, apt-few p t c a)
 
@@ -127,8 +128,8 @@ module _ (p : Profile) (t : ℕ) (c : Context) (a : Apt p t c) (size : length (c
   last-ok =
       let g = apt-good p t c a .current in
       let k = fit p (a .due .profile) in
-      running-ok (reported (c .current) m) 2 t (p .zone) (omega arith) (g .qos) (omega (arith, g .volume, k .volume, f .up))
-      (omega (arith, g .volume, k .volume, f .down)) (a .due .until) (k .zone)
+      running-ok (reported (c .current) m) 2 t (p .zone) (omega arith) (g .qos) (omega (arith, g .volume, k .volume, u .up))
+      (omega (arith, g .volume, k .volume, u .down)) (a .due .until) (k .zone)
 
   list-ok : (cause number : ℕ) → listRule (recordOf p c (O.ended (reported (c .current) m) 2 (timeAt p t)) cause number) ≡ true
   unfolding listRule recordOf reported

@@ -21,7 +21,7 @@ use Rattle.context.specs.declared.Context.{Context}
 use Rattle.context.specs.Sound.{slotOk}
 use Rattle.history.specs.Table.{Step}
 use Rattle.node.specs.declared.Message.{Message}
-use Rattle.node.specs.Hear.{closing, changeOf, goesOn, closedBy, afterClosing, hearWith, hear}
+use Rattle.node.specs.Hear.{closing, changeOf, going, goesOn, closedBy, afterClosing, hearWith, hear}
 use Rattle.node.specs.Step.{stood, markedOctets, octetsOf}
 use Rattle.node.specs.Private.Told.{Apt, Slotted}
 use Rattle.node.specs.Private.Range.{slotNext, slotOut, Counts, Turns}

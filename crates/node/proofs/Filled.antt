@@ -16,7 +16,7 @@ use Rattle.history.proofs.Lists.{all-map}
 use Rattle.history.proofs.Scans.{asks-all, all-ask}
 use Rattle.history.proofs.Slots.{Filled, filled-all}
 use Rattle.node.specs.Step.{taken}
-use Rattle.node.proofs.Kept.{later-sound}
+use Rattle.node.proofs.Kept.{later-context}
 
 module _ (l : Limits) (z clock accepted t m : ℕ) (since : clock ≤ t) (few : accepted ≤ m) where
   slot-later : (c : Context) → slotOk l z clock accepted c ≡ true → slotOk l z t m c ≡ true
@@ -24,7 +24,7 @@ module _ (l : Limits) (z clock accepted t m : ℕ) (since : clock ≤ t) (few : 
       by (eqb (c .active) 1)
       (λ e.
       let a = eqb-true (c .active) 1 e in
-      slot-active l z t m c a ∙ later-sound l z clock accepted c (sym (slot-active l z clock accepted c a) ∙ k) t m since few)
+      slot-active l z t m c a ∙ later-context l z clock accepted c (sym (slot-active l z clock accepted c a) ∙ k) t m since few)
       (λ e.
       let a = eqb-false (c .active) 1 e in
       slot-free l z t m c a ∙ sym (slot-free l z clock accepted c a) ∙ k)

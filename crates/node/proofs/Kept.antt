@@ -9,6 +9,7 @@ use lib.Dec.{leb}
 use lib.ListN.{length, length-append}
 use borrow.Author.Tests.{leb-false}
 use Rattle.format.proofs.Tests.{by, true-T, and-i}
+use Rattle.calendar.specs.declared.Stamp.{Stamp}
 use Rattle.container.specs.declared.Qos.{Qos}
 use Rattle.container.specs.declared.OpenRecord.{OpenRecord}
 use Rattle.container.specs.Qos.{qosOk, sameQos}
@@ -33,12 +34,13 @@ use Rattle.history.specs.Lists.{isSome, orElse, test, All}
 use Rattle.history.specs.Table.{Step}
 use Rattle.history.proofs.Lists.{none≢some}
 use Rattle.node.specs.declared.Message.{Message}
-use Rattle.node.specs.Hear.{reported, qosAfter, changeOf, closing, timeAt, going, numberFor, recordOf, goesOn, closedBy, afterClosing, hearWith, hear}
-use Rattle.node.specs.Private.Told.{Fair, Apt}
+use Rattle.node.specs.Hear.{reported, qosAfter, changeOf, limitMet, closing, timeAt, going, numberFor, recordOf, goesOn, closedBy, afterClosing, hearWith, hear}
+use Rattle.node.specs.Private.Told.{Fair, Small, Apt}
 use Rattle.node.specs.Held.{Shaped, HeldContext, HeldProfile}
 use Rattle.node.proofs.Fits.{fit, apt-good, apt-grows, apt-few}
 use Rattle.node.proofs.Closed.{closed-within}
 use Rattle.node.proofs.Perhaps.{test-none, neither-none}
+use Rattle.node.proofs.Causes.{closing-once, closing-limit}
 
 -- ---- what is to be shown
 
@@ -96,6 +98,16 @@ later-context l z clock accepted c h t m since few =
       current = later-sound (l .volume) (l .changes) z clock (c .current) (g .current) t since;
     })
 
+pub same-keeps : (p : Profile) (t : ℕ) (c : Context) (a : Apt p t c) → Shaped c → Keeps p t (a .due .accepted + 1) c c
+same-keeps p t c a w = record {
+  sound = later-context (p .limits) (p .zone) (a .due .clock) (a .due .accepted) c (a .sound) t (a .due .accepted + 1) (a .due .since) (omega arith);
+  active = refl;
+  name = refl;
+  pdptype = refl;
+  address = refl;
+  shape = w;
+}
+
 -- ---- one that hears
 
 -- what is known where nothing closes
@@ -104,8 +116,8 @@ record Still (l : Limits) (o : OpenRecord) (t : ℕ) (m : Message) : Type 0 wher
   changes : (isSome (changeOf o m) && O.changesMet (l .changes) o) ≡ false
 
 still : (l : Limits) (o : OpenRecord) (t : ℕ) (m : Message) → closing l o t m ≡ none → Still l o t m
-unfolding closing
-still l o t m e = by (m .closes) (λ y. absurd (none≢some (sym (rw y at e)))) (λ n. go (rw n at e))
+unfolding limitMet
+still l o t m e = by (m .closes) (λ y. absurd (none≢some (sym e ∙ closing-once l o t m y))) (λ n. go (sym (closing-limit l o t m n) ∙ e))
   where
     go : orElse (test (m .counts && O.volumeMet (l .volume) (reported o m)) 16)
         (orElse (test (m .ticks && O.timeMet (l .seconds) t o) 17) (test (isSome (changeOf o m) && O.changesMet (l .changes) o) 19)) ≡ none → Still l o t m
@@ -117,9 +129,9 @@ still l o t m e = by (m .closes) (λ y. absurd (none≢some (sym (rw y at e)))) 
 -- which change it is: to another QoS, or of the tariff
 record Changes (o : OpenRecord) (m : Message) (k : ℕ) : Type 0 where
   small : k < 2
-  right : (x : OpenRecord) → x .qos ≡ o .qos → (time : _) → changes (running x k time) (qosAfter o m) ≡ true
+  right : (x : OpenRecord) → x .qos ≡ o .qos → (time : Stamp) → changes (running x k time) (qosAfter o m) ≡ true
 
-module _ (p : Profile) (t : ℕ) (c : Context) (a : Apt p t c) (w : Shaped c) (m : Message) (f : Fair m) where
+module _ (p : Profile) (t : ℕ) (c : Context) (a : Apt p t c) (w : Shaped c) (m : Message) (f : Fair m) (u : Small m) where
   abbrev o : OpenRecord
   o = c .current
 
@@ -164,7 +176,7 @@ module _ (p : Profile) (t : ℕ) (c : Context) (a : Apt p t c) (w : Shaped c) (m
   cut-ok k h =
       let g = apt-good p t c a .current in
       let x = fit p (a .due .profile) in
-      running-ok (reported o m) k t (p .zone) h (g .qos) (omega (arith, g .volume, x .volume, f .up)) (omega (arith, g .volume, x .volume, f .down))
+      running-ok (reported o m) k t (p .zone) h (g .qos) (omega (arith, g .volume, x .volume, u .up)) (omega (arith, g .volume, x .volume, u .down))
       (a .due .until) (x .zone)
 
   -- a change leaves it open: one container and one change more, both below the limit
@@ -177,11 +189,10 @@ module _ (p : Profile) (t : ℕ) (c : Context) (a : Apt p t c) (w : Shaped c) (m
   -- where nothing closes
   goes-on : (k : Option ℕ) → changeOf o m ≡ k → closing (p .limits) o t m ≡ none
       → Keeps p t (a .due .accepted + 1) c (going c (goesOn p o t m k) (c .closed))
-  unfolding goesOn
+  unfolding goesOn reported changeOf qosAfter
   goes-on none i e = keeps (reported o m) (c .closed) (omega arith) (report-size (w .containers)) (report-sound (still (p .limits) o t m e .volume))
     where
       report-size : length (o .containers) ≡ 15 → length (reported o m .containers) ≡ 15
-      unfolding reported
       report-size l = l
   goes-on (some k) i e =
       let s = still (p .limits) o t m e in
@@ -190,7 +201,6 @@ module _ (p : Profile) (t : ℕ) (c : Context) (a : Apt p t c) (w : Shaped c) (m
       keeps (O.changed (reported o m) k (timeAt p t) (qosAfter o m)) (c .closed) (omega arith) (changed-size k) (sound k h below (report-sound (s .volume)))
     where
       changes-is : (k : ℕ) → changeOf o m ≡ some k → Changes o m k
-      unfolding changeOf qosAfter
       changes-is k i =
           by (m .brings)
           (λ y. by (sameQos (o .qos) (m .qos)) (λ z. absurd (none≢some (rw (y, z) at i))) (λ z.
@@ -205,10 +215,9 @@ module _ (p : Profile) (t : ℕ) (c : Context) (a : Apt p t c) (w : Shaped c) (m
 
       sound : (k : ℕ) → Changes o m k → o .changes + 1 < p .limits .changes → SoundOpen (p .limits .volume) (p .limits .changes) (p .zone) t (reported o m)
           → SoundOpen (p .limits .volume) (p .limits .changes) (p .zone) t (O.changed (reported o m) k (timeAt p t) (qosAfter o m))
-      unfolding reported
       sound k h below s =
           changed-sound (p .limits .volume) (p .limits .changes) (p .zone) t (reported o m) s t (omega arith) used-few k (qosAfter o m) (cut-ok k (omega (arith, h .small)))
-          (h .small) range (h .right (reported o m) refl _) below
+          (h .small) range (h .right (reported o m) refl (timeAt p t)) below
 
   -- where the record closes
   after-closing : NextKeeps p t (a .due .accepted + 1) c (afterClosing p c t m)
@@ -238,13 +247,13 @@ module _ (p : Profile) (t : ℕ) (c : Context) (a : Apt p t c) (w : Shaped c) (m
       go none k i = absurd (none≢some i)
       go (some y) k i = let z : y ≡ d = cc in rw z at k
 
-module _ (p : Profile) (t : ℕ) (c : Context) (a : Apt p t c) (w : HeldContext c) (h : HeldProfile p) (m : Message) (f : Fair m) where
+module _ (p : Profile) (t : ℕ) (c : Context) (a : Apt p t c) (w : HeldContext c) (h : HeldProfile p) (m : Message) (f : Fair m) (u : Small m) where
   closed-shaped : (cause : ℕ) → shaped (closedBy p c t m cause) ≡ true
   unfolding closedBy recordOf reported
   closed-shaped cause =
       let cs = endedAll (reported (c .current) m) 2 (timeAt p t) in
-      let u = used-length (c .current) (omega (arith, apt-few p t c a)) (w .shape .containers) in
-      let n : length cs ≤ 15 = omega (arith, length-append (used (c .current)) (running (reported (c .current) m) 2 (timeAt p t) ∷ []), u, apt-few p t c a) in
+      let v = used-length (c .current) (omega (arith, apt-few p t c a)) (w .shape .containers) in
+      let n : length cs ≤ 15 = omega (arith, length-append (used (c .current)) (running (reported (c .current) m) 2 (timeAt p t) ∷ []), v, apt-few p t c a) in
       shaped-is (closedBy p c t m cause) (w .shape .apn) (padded-length cs n) (h .nodeid) (h .sgsn) (w .id) (w .ggsn) (w .pdptype) (w .address)
 
   -- and what it writes keeps the rules of records
@@ -254,7 +263,7 @@ module _ (p : Profile) (t : ℕ) (c : Context) (a : Apt p t c) (w : HeldContext 
     where
       go : (k : Option ℕ) → closing (p .limits) (c .current) t m ≡ k → All Fine (hearWith p c t m k .out)
       go none e = tt
-      go (some cause) e = (fine (closedBy p c t m cause) (closed-within p t c a (w .shape .containers) m f cause e) (closed-shaped cause), tt)
+      go (some cause) e = (fine (closedBy p c t m cause) (closed-within p t c a (w .shape .containers) m f u cause e) (closed-shaped cause), tt)
 
   pub leaves : Leaves p t (a .due .accepted + 1) c (hear p c t m)
-  leaves = record { next = next-keeps p t c a (w .shape) m f; out = out-fine }
+  leaves = record { next = next-keeps p t c a (w .shape) m f u; out = out-fine }

@@ -1,4 +1,6 @@
 pub mod Perhaps
+pub mod Causes
+pub mod Growing
 pub mod Fits
 pub mod Rules
 pub mod Rowed

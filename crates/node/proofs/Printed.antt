@@ -10,22 +10,23 @@ use Rattle.calendar.specs.Stamp.{stampOk, stampEnc}
 use Rattle.container.specs.Qos.{qosOk, sameQos, qos}
 use Rattle.container.specs.Container.{containerOk, isNew, told, container}
 use Rattle.container.specs.List.{eachOk, oneOffset, containers, noContainers, isBlank, blanks}
-use Rattle.container.specs.Open.{midway, timesTo, qosRun, openOk, volumeOf}
+use Rattle.container.specs.Open.{midway, timesTo, qosRun, openOk, volumeOf, unusedOk, countOk, containersOk, volumeOk, soundOpen, blankOpen}
 use Rattle.octets.specs.Chars.{allOf, apnChar, nodeChar}
 use Rattle.octets.specs.Names.{apnOk, nodeOk}
 use Rattle.scdr.specs.Rules.{release, lastTime, duration}
 use Rattle.octets.specs.Filled.{fillTo}
 use Rattle.scdr.specs.Layout.{body, ofRecord, fieldsOf, inside, scdr}
 use Rattle.scdr.specs.Sample.{printed}
-use Rattle.event.specs.Fields.{wholeLength, activateOk, release as releases, fieldsOk}
-use Rattle.event.specs.Rows.{firstFit, marked, known, measured}
+use Rattle.event.specs.Fields.{activateOk, release as releases}
+use Rattle.event.specs.Kinds.{kinds, kindIn, wholeOf}
+use Rattle.event.specs.Rows.{firstFit, marked, known, measured, fieldsOk}
 use Rattle.event.specs.Event.{eventOf}
 use Rattle.event.specs.Sample.{activate, traffic, released}
 use Rattle.profile.specs.Profile.{limitsOk, profileOk}
-use Rattle.context.specs.Sound.{fieldsOk as storedOk, unusedOk, closedOk, countOk, containersOk, volumeOk, contextOk, zeroOk, slotOk, slotsOk}
+use Rattle.context.specs.Sound.{fieldsOk as storedOk, closedOk, contextOk, zeroOk, slotOk, slotsOk}
 use Rattle.context.specs.Slots.{sameName, isActive, isFree, bears}
 use Rattle.history.specs.Slots.{noneBears, distinct}
-use Rattle.node.specs.Hear.{reported, qosAfter, changeOf, reached, closing, changed, opened, numberFor, recordOf, goesOn, closedBy, afterClosing, hearWith, hear}
+use Rattle.node.specs.Hear.{reported, qosAfter, changeOf, limitMet, closing, numberFor, recordOf, goesOn, closedBy, afterClosing, hearWith, hear}
 use Rattle.node.specs.Sound.{sound}
 use Rattle.node.specs.Step.{activated, markedOctets, octetsOf, nodeAfter, recordsOf, output, notActive, isActive as wasActive, allTaken, refusals, outcome, stepOf}
 use Rattle.node.specs.Sample.{at, named, answers, session, first, second, third}
@@ -34,10 +35,10 @@ use Rattle.node.specs.Sample.{at, named, answers, session, first, second
 pub one-session : session (activate ∷ traffic ∷ released 0 ∷ []) ≡ (0, []) ∷ (0, []) ∷ (0, 0xC3 ∷ 0x5A ∷ printed) ∷ []
 unfolding intEnc lowest lenEnc tlvEnc halves leading allF imsiOk imsiEnc monthLen seek monthDay stampOk stampEnc qosOk sameQos containerOk
     isNew told eachOk oneOffset noContainers isBlank blanks midway timesTo qosRun openOk volumeOf allOf apnChar nodeChar apnOk nodeOk
-    release releases lastTime duration body fillTo ofRecord fieldsOf inside scdr printed spelt octetsFrom numberIn wholeLength activateOk fieldsOk
+    release releases lastTime duration body fillTo ofRecord fieldsOf inside scdr printed spelt octetsFrom numberIn kinds kindIn wholeOf activateOk fieldsOk
     firstFit marked known measured eventOf activate traffic released limitsOk profileOk storedOk unusedOk closedOk countOk containersOk
-    volumeOk contextOk zeroOk slotOk slotsOk sameName isActive isFree bears noneBears distinct reported qosAfter changeOf reached closing
-    changed opened numberFor recordOf goesOn closedBy afterClosing hearWith hear sound activated markedOctets octetsOf nodeAfter recordsOf
+    volumeOk soundOpen blankOpen contextOk zeroOk slotOk slotsOk sameName isActive isFree bears noneBears distinct reported qosAfter changeOf limitMet closing
+    numberFor recordOf goesOn closedBy afterClosing hearWith hear sound activated markedOctets octetsOf nodeAfter recordsOf
     output notActive wasActive allTaken refusals outcome stepOf answers containers container qos
 one-session = refl
 
@@ -46,9 +47,9 @@ pub other-session : session (activate ∷ traffic ∷ at 2 6 (named (0 ∷ 0 ∷
     ≡ (0, []) ∷ (0, []) ∷ (0, first) ∷ (0, []) ∷ (0, []) ∷ (0, second) ∷ (0, third) ∷ []
 unfolding first second third intEnc lowest lenEnc tlvEnc halves leading allF imsiOk imsiEnc monthLen seek monthDay stampOk stampEnc qosOk
     sameQos containerOk isNew told eachOk oneOffset noContainers isBlank blanks midway timesTo qosRun openOk volumeOf allOf apnChar nodeChar
-    apnOk nodeOk release releases lastTime duration body fillTo ofRecord fieldsOf inside scdr spelt octetsFrom numberIn wholeLength activateOk
+    apnOk nodeOk release releases lastTime duration body fillTo ofRecord fieldsOf inside scdr spelt octetsFrom numberIn kinds kindIn wholeOf activateOk
     fieldsOk firstFit marked known measured eventOf activate traffic limitsOk profileOk storedOk unusedOk closedOk countOk containersOk
-    volumeOk contextOk zeroOk slotOk slotsOk sameName isActive isFree bears noneBears distinct reported qosAfter changeOf reached closing
-    changed opened numberFor recordOf goesOn closedBy afterClosing hearWith hear sound activated markedOctets octetsOf nodeAfter recordsOf
+    volumeOk soundOpen blankOpen contextOk zeroOk slotOk slotsOk sameName isActive isFree bears noneBears distinct reported qosAfter changeOf limitMet closing
+    numberFor recordOf goesOn closedBy afterClosing hearWith hear sound activated markedOctets octetsOf nodeAfter recordsOf
     output notActive wasActive allTaken refusals outcome stepOf answers containers container qos
 other-session = refl

@@ -11,7 +11,7 @@ use Rattle.format.proofs.Tests.{both}
 use Rattle.profile.specs.Profile.{profileOk}
 use Rattle.event.specs.declared.Name.{Name}
 use Rattle.event.specs.declared.Decoded.the-variants as D
-use Rattle.event.specs.Fields.{kindOf, timeOf}
+use Rattle.event.specs.Fields.{timeOf}
 use Rattle.event.specs.Rows.{Row, row, firstFit, rows}
 use Rattle.event.specs.Event.{eventOf, saidBy, decoded}
 use Rattle.event.proofs.Firsts.{passed}
@@ -44,7 +44,7 @@ use Rattle.node.proofs.Filled.{slots-later, filled-slots}
 -- what is known of it
 pub record Accepts (n : Node) (s b : List ℕ) : Type 0 where
   pub sound : sound n ≡ true
-  pub said : decoded s ≡ D.Said (timeOf s) (eventOf (kindOf s) s)
+  pub said : decoded s ≡ D.Said (timeOf s) (eventOf s)
   pub since : n .clock ≤ timeOf s
   pub until : timeOf s ≤ latest
   pub few : n .accepted < mostAccepted
@@ -53,7 +53,7 @@ pub record Accepts (n : Node) (s b : List ℕ) : Type 0 where
   pub room : allTaken (saidOf s) (slots n) ≡ false
   pub fits : length (output n (timeOf s) (saidOf s)) ≤ length b
 
-said-what : (s : List ℕ) → firstFit (rows s) ≡ 0 → decoded s ≡ D.Said (timeOf s) (eventOf (kindOf s) s)
+said-what : (s : List ℕ) → firstFit (rows s) ≡ 0 → decoded s ≡ D.Said (timeOf s) (eventOf s)
 unfolding decoded saidBy
 said-what s z = rw z
 
@@ -141,10 +141,10 @@ module _ (n : Node) (s b : List ℕ) (h : Held n) (o : Octets s) (e : firstFit (
   pub sound-kept : Whole (nodeAfter n (timeOf s) (saidOf s))
   sound-kept =
       let a = accepts n s b e in
-      node-kept n (timeOf s) (a .sound) h (a .since) (a .until) (a .few) (saidOf s) (fair-said s (eventOf (kindOf s) s) o (a .said)) (a .new)
+      node-kept n (timeOf s) (a .sound) h (a .since) (a .until) (a .few) (saidOf s) (fair-said s (eventOf s) o (a .said)) (a .new)
 
   -- every record that it writes is within the rules and as the types have it, reads back, and does not pass 1,024 octets
   pub records-good : All Fine (recordsOf n (timeOf s) (saidOf s))
   records-good =
       let a = accepts n s b e in
-      records-fine n (timeOf s) (a .sound) h (a .since) (a .until) (a .few) (saidOf s) (fair-said s (eventOf (kindOf s) s) o (a .said))
+      records-fine n (timeOf s) (a .sound) h (a .since) (a .until) (a .few) (saidOf s) (fair-said s (eventOf s) o (a .said))

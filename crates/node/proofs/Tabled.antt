@@ -30,7 +30,7 @@ use Rattle.history.proofs.Scans.{asks-all, all-ask}
 use Rattle.history.proofs.Slots.{Keeps, same, freed, Pairs, pairs-all, pairs-distinct, hear-pairs, hear-all}
 use Rattle.node.specs.declared.Message.{Message}
 use Rattle.node.specs.Step.{Brought, handling, taken, seen, stood}
-use Rattle.node.specs.Private.Told.{Fair, Due, Apt}
+use Rattle.node.specs.Private.Told.{Fair, Small, Due, Apt}
 use Rattle.node.specs.Held.{Shaped, HeldContext, HeldProfile}
 use Rattle.node.proofs.Found.{contexts}
 use Rattle.node.proofs.Kept.{keeps-held, Fine, NextKeeps, Leaves, same-keeps, leaves}
@@ -102,11 +102,11 @@ module _ (p : Profile) (t : ℕ) (u : Due p t) (o : HeldProfile p) where
 
     abbrev FairIf : Option Message → Type 0
     FairIf none = Unit {0}
-    FairIf (some x) = Fair x
+    FairIf (some x) = Fair x × Small x
 
     listens : (x : Option Message) → FairIf x → Leaves p t m c (listen K tt c t x)
     listens none f = record { next = same-keeps p t c apt (h .shape); out = tt }
-    listens (some x) f = leaves p t c apt h o x f
+    listens (some x) f = leaves p t c apt h o x (f .0) (f .1)
 
     hears-fair : (w : Said (Unit {0}) Name Brought Message) → Fairly w → FairIf (hears K (c .name) w)
     hears-fair (activates n b) f = tt

@@ -18,7 +18,7 @@ use Rattle.event.specs.declared.Decoded.{Decoded}
 use Rattle.event.specs.declared.Decoded.the-variants as D
 use Rattle.event.specs.Event.{decoded}
 use Rattle.event.specs.Private.Activated.{Activated}
-use Rattle.event.proofs.Theorems.{activated as activate-in, qos-changed, released}
+use Rattle.event.proofs.Theorems.{activated as activate-in}
 use Rattle.context.specs.declared.Context.{Context}
 use Rattle.context.specs.declared.slots.Slot.{Slot}
 use Rattle.context.specs.declared.slots.Found.{Found}
@@ -32,28 +32,35 @@ use Rattle.history.proofs.Ranges.{across-one, along-one}
 use Rattle.history.specs.Log.{Said, activates, tells, tellsAll}
 use Rattle.node.specs.declared.Node.{Node}
 use Rattle.node.specs.declared.Message.{Message}
-use Rattle.node.specs.declared.Message.the-variants as M
+use Rattle.node.specs.declared.meaning.Meaning.{Meaning}
+use Rattle.node.specs.declared.meaning.Meaning.the-variants as W
+use Rattle.node.specs.Meaning.{meaningOf}
 use Rattle.node.specs.declared.task.Task.{Task}
 use Rattle.node.specs.declared.task.Task.the-variants as K
 use Rattle.node.specs.Sound.{sound, latest, mostAccepted}
-use Rattle.node.specs.Step.{Brought, broughtBy, takes, activated, stepOf, Steps}
+use Rattle.node.specs.Step.{Brought, broughtBy, saying, takes, activated, stepOf, Steps}
 use Rattle.node.specs.Held.{Shaped}
 use Rattle.node.specs.Private.Range.{slotNext, slotOut, Turns, advanced, triedOf, Tries, servedOf, Serves}
-use Rattle.node.specs.Private.Task.{oneAt, namedTask, openAt, openTask, taskOf, timelyTask, taskFor, doneBy, FairEvent}
+use Rattle.node.specs.Private.Task.{oneAt, namedTask, openAt, openTask, taskOf, timelyTask, taskFor, doneBy}
 use Rattle.node.proofs.Rowed.{tableRows}
 use Rattle.node.proofs.Found.{named-at, none-named, free-at, all-taken}
 use Rattle.node.proofs.Served.{Sounding, Outs, outs-tell, outs-all, outs-activate, outs-8, outs-9, outs-10}
 use Rattle.node.proofs.Calls.{outs-late, outs-early, outs-many, outs-timely, is-sound, steps-13, steps-octets, steps-said}
 
--- an event that octets say is in range
-pub fair-event : (s : List ℕ) {t : ℕ} {e : Event} → decoded s ≡ D.Said t e → FairEvent e
-fair-event s {e = E.Activate a} d = tt
-fair-event s {e = E.Traffic n up down} d = tt
-fair-event s {e = E.Qos n q} d = qos-changed s d
-fair-event s {e = E.Tariff} d = tt
-fair-event s {e = E.Release n c} d = released s d
-fair-event s {e = E.Tick} d = tt
-fair-event s {e = E.Management n} d = tt
+-- what an activation brings is in range
+abbrev OpensWell : List ℕ → Meaning → Type 0
+OpensWell s (W.Opens a) = Activated s a
+OpensWell s (W.Tells m h) = Unit {0}
+OpensWell s (W.TellsAll h) = Unit {0}
+
+opens-well : (s : List ℕ) (e : Event) {t : ℕ} → decoded s ≡ D.Said t e → OpensWell s (meaningOf e)
+opens-well s (E.Activate a) q = activate-in s q
+opens-well s (E.Traffic n up down) q = tt
+opens-well s (E.Qos n p) q = tt
+opens-well s E.Tariff q = tt
+opens-well s (E.Release n c) q = tt
+opens-well s E.Tick q = tt
+opens-well s (E.Management n) q = tt
 
 -- ---- a slot heard alone
 
@@ -162,21 +169,22 @@ module _ (n : Node) (s b : List ℕ) (z : All Shaped (n .contexts)) (whole : len
           (outs-10 n t b (a .name) refl refl (λ g. broughtBy a s) (none-named (n .contexts) (a .name) q) (all-taken (n .contexts) r) refl)))
 
     module _ (ok : sound n ≡ true) where
-      kind-task : (e : Event) → decoded s ≡ D.Said t e → Tasked n s b (taskOf names t e)
+      kind-task : (e : Event) → decoded s ≡ D.Said t e → Tasked n s b (taskOf names t (meaningOf e))
       unfolding taskOf namedTask openTask
-      kind-task e q = go e q
+      kind-task e q = go (meaningOf e) opens later
         where
-          later : {e : Event} → decoded s ≡ D.Said t e → (b′ : List ℕ) (a k : ℕ) (r : Node) → Outs (tableRows n t (takes e s) b) n t (takes e s) b b′ a r k → Steps n s b b′ a r k
-          later {e} q b′ a k r o = steps-said n s b ok q (outs-timely n t (takes e s) b (so .until) (so .since) (so .few) o)
+          later : (b′ : List ℕ) (a k : ℕ) (r : Node) → Outs (tableRows n t (takes e s) b) n t (takes e s) b b′ a r k → Steps n s b b′ a r k
+          later b′ a k r o = steps-said n s b ok q (outs-timely n t (takes e s) b (so .until) (so .since) (so .few) o)
 
-          go : (e : Event) → decoded s ≡ D.Said t e → Tasked n s b (taskOf names t e)
-          go (E.Activate a) q = open-task (takes (E.Activate a) s) (later q) a refl (activate-in s q) (firstFrom (bears (a .name)) 0 names) (firstFrom isFree 0 names) refl refl
-          go (E.Traffic m up down) q = tell-task (takes (E.Traffic m up down) s) (later q) m (M.Traffic up down) refl (firstFrom (bears m) 0 names) refl
-          go (E.Qos m p) q = tell-task (takes (E.Qos m p) s) (later q) m (M.Qos p) refl (firstFrom (bears m) 0 names) refl
-          go E.Tariff q = all-task (takes E.Tariff s) (later q) M.Tariff refl
-          go (E.Release m c) q = tell-task (takes (E.Release m c) s) (later q) m (M.Release c) refl (firstFrom (bears m) 0 names) refl
-          go E.Tick q = all-task (takes E.Tick s) (later q) M.Tick refl
-          go (E.Management m) q = tell-task (takes (E.Management m) s) (later q) m M.Management refl (firstFrom (bears m) 0 names) refl
+          opens : OpensWell s (meaningOf e)
+          opens = opens-well s e q
+
+          go : (w : Meaning) → OpensWell s w
+              → ((b′ : List ℕ) (a k : ℕ) (r : Node) → Outs (tableRows n t (saying w s) b) n t (saying w s) b b′ a r k → Steps n s b b′ a r k)
+              → Tasked n s b (taskOf names t w)
+          go (W.Opens a) x conv = open-task (saying (W.Opens a) s) conv a refl x (firstFrom (bears (a .name)) 0 names) (firstFrom isFree 0 names) refl refl
+          go (W.Tells m h) x conv = tell-task (saying (W.Tells m h) s) conv m h refl (firstFrom (bears m) 0 names) refl
+          go (W.TellsAll h) x conv = all-task (saying (W.TellsAll h) s) conv h refl
 
   module _ (ok : sound n ≡ true) (t : ℕ) (e : Event) (q : decoded s ≡ D.Said t e) where
     abbrev w : Said (Unit {0}) Name Brought Message

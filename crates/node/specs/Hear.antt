@@ -35,12 +35,14 @@ changeOf o m = cond (m .brings) (cond (sameQos (o .qos) (m .qos)) none (some 0))
 -- The five closing conditions, with their causes: "(16) after a traffic event, uplink plus downlink since the record opened is at least
 -- the volume limit; (17) at a tick, now minus opening is at least the time limit; (19) the record's QoS and tariff changes reach the
 -- change limit; (20) management; (0, 4, 18) release with that cause". The last two need no limit.
-unfoldable pub closing : Limits → OpenRecord → ℕ → Message → Option ℕ
-closing l o t m =
-    cond (m .closes) (some (m .cause))
-    (orElse (test (m .counts && O.volumeMet (l .volume) (reported o m)) 16)
+unfoldable pub limitMet : Limits → OpenRecord → ℕ → Message → Option ℕ
+limitMet l o t m =
+    orElse (test (m .counts && O.volumeMet (l .volume) (reported o m)) 16)
     (orElse (test (m .ticks && O.timeMet (l .seconds) t o) 17)
-    (test (isSome (changeOf o m) && O.changesMet (l .changes) o) 19)))
+    (test (isSome (changeOf o m) && O.changesMet (l .changes) o) 19))
+
+unfoldable pub closing : Limits → OpenRecord → ℕ → Message → Option ℕ
+closing l o t m = cond (m .closes) (some (m .cause)) (limitMet l o t m)
 
 -- ---- what then stands
 

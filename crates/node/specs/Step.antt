@@ -15,8 +15,8 @@ use Rattle.profile.specs.declared.Profile.{Profile}
 use Rattle.event.specs.declared.Name.{Name}
 use Rattle.event.specs.declared.Activation.{Activation}
 use Rattle.event.specs.declared.Event.{Event}
-use Rattle.event.specs.Fields.{kindOf, timeOf, flagsOf, imsiOf, apnOf, fieldsOk}
-use Rattle.event.specs.Rows.{Row, row, firstFit, marked, known, measured}
+use Rattle.event.specs.Fields.{timeOf, flagsOf, imsiOf, apnOf}
+use Rattle.event.specs.Rows.{Row, row, firstFit, marked, known, measured, fieldsOk}
 use Rattle.event.specs.Event.{eventOf}
 use Rattle.context.specs.declared.Context.{Context}
 use Rattle.context.specs.Context.{noContext}
@@ -146,7 +146,7 @@ allTaken nothing os = false
 
 -- what the octets of an event say, as they stand
 abbrev pub saidOf : List ℕ → Said (Unit {0}) Name Brought Message
-saidOf s = takes (eventOf (kindOf s) s) s
+saidOf s = takes (eventOf s) s
 
 -- 01's "Refusal numbers, tried in this order", all that a call gives, each with 01's words. (12 is a fresh node's, 20 the reader's and 24 the
 -- writer's.) Each condition is true or false of any node, octets and buffer.
@@ -163,7 +163,7 @@ refusals n s b =
     -- "length not the kind's; activate under 36"
     ∷ row 4 (not (measured s))
     -- "a field out of range"
-    ∷ row 5 (not (fieldsOk (kindOf s) s))
+    ∷ row 5 (not (fieldsOk s))
     -- "time above 3,155,759,999 or below the clock"
     ∷ row 6 (ltb latest (timeOf s) || ltb (timeOf s) (n .clock))
     -- "1,000,000,000,000,000 events accepted already"

@@ -1,7 +1,7 @@
 // Who hears an event, and what it is to them: a line a kind.
 use crate::Message;
 use container::Qos;
-use container::profile;
+use container::profile as qos;
 use event::Activation;
 use event::Event;
 use event::Name;
@@ -32,7 +32,7 @@ pub fn meaning_of(e: Event) -> Meaning
 fn quiet() -> Message
     ensures { λ r. ⌜ r ≡ quiet ⌝ }
 {
-    let none = profile::no_qos();
+    let none = qos::no_qos();
     Message {
         counts: false,
         up: 0,

@@ -21,15 +21,18 @@ abbrev pub perhaps : Option ℕ → Perhaps
 perhaps none = Nothing
 perhaps (some k) = Is k
 
--- what an event in range is to a context: what is reported fits its octets, and is nothing where nothing is counted; a QoS is in range; a
--- release closes with its cause, and what closes without one closes with 20
+-- what an event in range is to a context: nothing is reported where nothing is counted; a QoS is in range; a release closes with its cause,
+-- and what closes without one closes with 20
 pub record Fair (m : Message) : Type 0 where
-  pub up : m .up < 2 ^ 32
-  pub down : m .down < 2 ^ 32
   pub uncounted : m .counts ≡ false → (m .up ≡ 0) × (m .down ≡ 0)
   pub qos : m .brings ≡ true → qosOk (m .qos) ≡ true
   pub released : m .releases ≡ true → (m .closes ≡ true) × (release (m .cause) ≡ true)
   pub managed : m .closes ≡ true → m .releases ≡ false → m .cause ≡ 20
+
+-- a report is of four octets each way
+pub record Small (m : Message) : Type 0 where
+  pub up : m .up < 2 ^ 32
+  pub down : m .down < 2 ^ 32
 
 -- counters, a place and numbers that can take one more
 pub record Grows (c : Context) : Type 0 where

@@ -1,64 +1,16 @@
--- `node::closing::qos_after` meets its contract. Assumes nothing.
+-- `node::closing::qos_after` meets its contract.
 use Rattle.node.specs.Hear.{qosAfter}
 use borrow.Author.Needs.{needs}
 use Rattle.node.proofs.closing.qos_after.Statement.{statement}
 use Rattle.node.proofs.closing.qos_after.Tie as tie
 
-enum-told : tie.Need-enum-told
-enum-told c = search needs
-
-enum-known-h : tie.Need-enum-known-h
-enum-known-h c = search needs
-
-enum-told-2 : tie.Need-enum-told-2
-enum-told-2 c = search needs
-
-enum-told-3 : tie.Need-enum-told-3
-enum-told-3 c = search needs
-
-enum-told-4 : tie.Need-enum-told-4
-enum-told-4 c = search needs
-
-enum-told-5 : tie.Need-enum-told-5
-enum-told-5 c = search needs
-
 returns : tie.Need-returns
 unfolding qosAfter
-returns c = rw (c .enum-told .given .1)
+returns c = rw (c .if1 .taken)
 
 returns-2 : tie.Need-returns-2
 unfolding qosAfter
-returns-2 c = rw (c .before .h .given .1)
-
-returns-3 : tie.Need-returns-3
-unfolding qosAfter
-returns-3 c = rw (c .enum-told2 .given .1)
-
-returns-4 : tie.Need-returns-4
-unfolding qosAfter
-returns-4 c = rw (c .enum-told3 .given .1)
-
-returns-5 : tie.Need-returns-5
-unfolding qosAfter
-returns-5 c = rw (c .enum-told4 .given .1)
-
-returns-6 : tie.Need-returns-6
-unfolding qosAfter
-returns-6 c = rw (c .enum-told5 .given .1)
+returns-2 c = rw (c .if1 .left)
 
 pub qos-after-spec : {M : Type 1} → statement M
-qos-after-spec =
-    tie.close
-    (tie.spec
-    enum-told
-    enum-known-h
-    enum-told-2
-    enum-told-3
-    enum-told-4
-    enum-told-5
-    returns
-    returns-2
-    returns-3
-    returns-4
-    returns-5
-    returns-6)
+qos-after-spec = tie.close (tie.spec returns returns-2)

@@ -1,7 +1,6 @@
--- `node::step::opening` meets its contract. Assumes nothing.
+-- `node::step::opening` meets its contract.
 use mathlib.Core.Path.{sym}
 use native.Mathlib.Omega.{arith}
-use Rattle.container.specs.List.{noContainers}
 use Rattle.node.specs.Step.{activated}
 use borrow.Author.Needs.{needs}
 use Rattle.node.proofs.step.opening.Statement.{statement}
@@ -16,12 +15,12 @@ apn-of-requires c κs = let l = c .before .before .before .pre in (omega (arith,
 shared-slice-read-flags : tie.Need-shared-slice-read-flags
 shared-slice-read-flags c = omega (arith, c .before .before .before .before .before .before .pre .long)
 
-no-container-requires : tie.Need-no-container-requires
-no-container-requires c κs = search needs
+opened-requires : tie.Need-opened-requires
+opened-requires c κs = search needs
 
 returns : tie.Need-returns
-unfolding activated noContainers
-returns c = rw (c .before .before .before .before .imsi-of .ensures, c .before .before .before .apn-of .ensures, c .no-container .ensures, sym (c .before .before .before .before .before .before .before .pre .size))
+unfolding activated
+returns c = rw (c .before .before .before .before .imsi-of .ensures, c .before .before .before .apn-of .ensures, c .opened .ensures, sym (c .before .before .before .before .before .before .before .pre .size))
 
 pub opening-spec : {M : Type 1} → statement M
 opening-spec =
@@ -30,5 +29,5 @@ opening-spec =
     imsi-of-requires
     apn-of-requires
     shared-slice-read-flags
-    no-container-requires
+    opened-requires
     returns)

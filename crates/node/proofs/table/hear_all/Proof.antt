@@ -22,7 +22,7 @@ whole : (c : tie.Start Inv-loop μ-loop) → length (c .args .cs) ≡ 16
 whole c = search (needs, length-of-map)
 
 loop-holds : tie.Need-loop-holds Inv-loop μ-loop
-loop-holds c = let a = c .before .args in hearing-none puts (slotNext (a .p) (a .t) (a .h)) (slotOut (a .p) (a .t) (a .h)) 0 16 (a .cs) (omega arith)
+loop-holds c = let a = c .before .args in hearing-none puts (slotNext (a .p) (a .t) (a .m)) (slotOut (a .p) (a .t) (a .m)) 0 16 (a .cs) (omega arith)
 
 mul-c : tie.Need-mul-c Inv-loop μ-loop
 mul-c c = search needs
@@ -37,9 +37,9 @@ hear-slot-requires c κs =
     let l = c .before .before .before .loop in
     let q = c .before .before .loop-test .taken in
     let n : 16 ≤ length (a .cs) = omega (arith, whole s) in
-    let e = still (slotNext (a .p) (a .t) (a .h)) 0 16 (a .cs) (l .inv .standing) in (
+    let e = still (slotNext (a .p) (a .t) (a .m)) 0 16 (a .cs) (l .inv .standing) in (
       rw e (slotted (a .p) (a .t) (a .cs) _ (omega arith) (s .pre .0)),
-      (s .pre .1 .0, rw e (room puts (slotNext (a .p) (a .t) (a .h)) (slotOut (a .p) (a .t) (a .h)) 0 16 (a .cs) (l .inv) _ q n (s .pre .1 .1))),
+      (s .pre .1 .0, rw e (room puts (slotNext (a .p) (a .t) (a .m)) (slotOut (a .p) (a .t) (a .m)) 0 16 (a .cs) (l .inv) _ q n (s .pre .1 .1))),
     )
 
 mul-contexts : tie.Need-mul-contexts Inv-loop μ-loop
@@ -60,9 +60,9 @@ loop-again c =
     let a = s .args in
     let l = c .before .before .before .before .before .before .before .loop in
     let n : 16 ≤ length (a .cs) = omega (arith, whole s) in
-    let e = still (slotNext (a .p) (a .t) (a .h)) 0 16 (a .cs) (l .inv .standing) in
+    let e = still (slotNext (a .p) (a .t) (a .m)) 0 16 (a .cs) (l .inv .standing) in
     let w = rw e at (c .before .before .before .hear-slot .ensures) in
-    hearing-more puts (slotNext (a .p) (a .t) (a .h)) (slotOut (a .p) (a .t) (a .h)) 0 16 (a .cs) (l .inv) _
+    hearing-more puts (slotNext (a .p) (a .t) (a .m)) (slotOut (a .p) (a .t) (a .m)) 0 16 (a .cs) (l .inv) _
     (c .before .before .before .before .before .before .loop-test .taken) n (w .value) (w .written)
 
 same-length : tie.Need-same-length Inv-loop μ-loop
@@ -72,7 +72,7 @@ returns : tie.Need-returns Inv-loop μ-loop
 returns c =
     let s = c .before .before .before in
     let a = s .args in
-    let w = hearing-end puts (slotNext (a .p) (a .t) (a .h)) (slotOut (a .p) (a .t) (a .h)) 0 16 (a .cs) (c .loop-test .left) (c .before .loop .inv) in
+    let w = hearing-end puts (slotNext (a .p) (a .t) (a .m)) (slotOut (a .p) (a .t) (a .m)) 0 16 (a .cs) (c .loop-test .left) (c .before .loop .inv) in
     record { value = w .0; written = w .1 }
 
 pub hear-all-spec : {M : Type 1} → statement M

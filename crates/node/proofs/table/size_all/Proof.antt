@@ -22,7 +22,7 @@ whole : (c : tie.Start Inv-loop μ-loop) → length (c .args .t2) ≡ 16
 whole c = search (needs, length-of-map)
 
 loop-holds : tie.Need-loop-holds Inv-loop μ-loop
-loop-holds c = let a = c .args in sizing-none (slotOut (a .p) (a .t) (a .h)) 0 16 (a .t2) 1026 (omega arith)
+loop-holds c = let a = c .args in sizing-none (slotOut (a .p) (a .t) (a .m)) 0 16 (a .t2) 1026 (omega arith)
 
 mul-c : tie.Need-mul-c Inv-loop μ-loop
 mul-c c = search needs
@@ -50,14 +50,14 @@ loop-again c =
     let s = c .before .before .before .before in
     let a = s .args in
     let k = c .slot-size .ensures in
-    sizing-more (slotOut (a .p) (a .t) (a .h)) 0 16 (a .t2) _ (c .before .before .loop-test .taken) (omega (arith, whole s))
+    sizing-more (slotOut (a .p) (a .t) (a .m)) 0 16 (a .t2) _ (c .before .before .loop-test .taken) (omega (arith, whole s))
     (c .before .before .before .loop .inv) (k .is) (k .most)
 
 returns : tie.Need-returns Inv-loop μ-loop
 returns c =
     let s = c .before .before in
     let a = s .args in
-    sizing-end (slotOut (a .p) (a .t) (a .h)) 0 16 (a .t2) (c .loop-test .left) (c .before .loop .inv)
+    sizing-end (slotOut (a .p) (a .t) (a .m)) 0 16 (a .t2) (c .loop-test .left) (c .before .loop .inv)
 
 pub size-all-spec : {M : Type 1} → statement M
 size-all-spec =

@@ -1,4 +1,4 @@
--- `node::task::named` meets its contract. Assumes nothing.
+-- `node::task::named` meets its contract.
 use mathlib.Core.Path.{sym, _∙_}
 use Rattle.node.specs.Private.Task.{namedTask}
 use borrow.Author.Needs.{needs}

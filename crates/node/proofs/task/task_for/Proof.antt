@@ -2,7 +2,7 @@
 use mathlib.Core.Path.{sym, _∙_}
 use borrow.Author.Tests.{not-true, not-false}
 use Rattle.node.specs.Private.Task.{taskFor}
-use Rattle.node.proofs.Tasks.{fair-event}
+use Rattle.node.proofs.Brings.{fair-meaning}
 use borrow.Author.Needs.{needs}
 use Rattle.node.proofs.task.task_for.Statement.{statement}
 use Rattle.node.proofs.task.task_for.Tie as tie
@@ -21,7 +21,7 @@ enum-known-d-2 : tie.Need-enum-known-d-2
 enum-known-d-2 c = search needs
 
 timely-requires : tie.Need-timely-requires
-timely-requires c κs = fair-event (c .before .before .before .before .before .before .args .event .now) (sym (c .before .before .before .decode .ensures) ∙ c .before .d2 .given .1)
+timely-requires c κs = fair-meaning (c .before .before .before .before .before .before .args .event .now) _ (sym (c .before .before .before .decode .ensures) ∙ c .before .d2 .given .1)
 
 returns-2 : tie.Need-returns-2
 unfolding taskFor
