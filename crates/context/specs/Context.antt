@@ -1,8 +1,14 @@
 -- A context.
-use mathlib.Core.List.{[]}
+use mathlib.Core.List.{List, []}
+use Rattle.container.specs.declared.Container.{Container}
 use Rattle.container.specs.Open.{noOpen}
+use Rattle.container.specs.Open as O
 use Rattle.octets.specs.Filled.{fillTo}
 use Rattle.context.specs.declared.Context.{Context}
+
+-- the containers that have ended in its open record
+abbrev pub used : Context → List Container
+used c = O.used (c .current)
 
 -- what a free slot holds
 abbrev pub noContext : Context

@@ -90,19 +90,19 @@ module _ (p : Profile) (o : Once p) (cs : List Call) (n : Name) where
       go (h ∷ hs) = rw (each-map (container p) (stretches (rules (p .limits)) h), go hs)
 
   -- octets up, and octets down
-  pub uplink-once : sumOf (λ c. c .uplink) (each containersOf billed ++ each used kept) + sumOf (λ c. c .uplink) kept
+  pub uplink-once : sumOf (λ c. c .uplink) (each containersOf billed ++ each used kept) + sumOf (λ c. c .current .uplink) kept
       ≡ reported (rules (p .limits)) meaning n up (log X (freshNode p) cs)
   uplink-once =
       everything.octets-once (rules (p .limits)) (forms p) n (entry p) containersOf used (carried p n) (carries p n)
       meaning sight X (freshNode p) tt cs (o .demand cs n) up
-      (uncounted up refl refl) (λ c. c .uplink) (λ c. c .uplink) (λ x. add-zero _) (λ s. refl)
+      (uncounted up refl refl) (λ c. c .uplink) (λ c. c .current .uplink) (λ x. add-zero _) (λ s. refl)
 
-  pub downlink-once : sumOf (λ c. c .downlink) (each containersOf billed ++ each used kept) + sumOf (λ c. c .downlink) kept
+  pub downlink-once : sumOf (λ c. c .downlink) (each containersOf billed ++ each used kept) + sumOf (λ c. c .current .downlink) kept
       ≡ reported (rules (p .limits)) meaning n down (log X (freshNode p) cs)
   downlink-once =
       everything.octets-once (rules (p .limits)) (forms p) n (entry p) containersOf used (carried p n) (carries p n)
       meaning sight X (freshNode p) tt cs (o .demand cs n) down
-      (uncounted down refl refl) (λ c. c .downlink) (λ c. c .downlink) (λ x. add-zero _) (λ s. refl)
+      (uncounted down refl refl) (λ c. c .downlink) (λ c. c .current .downlink) (λ x. add-zero _) (λ s. refl)
 
 -- ---- durations: from a record's opening to the event that closed it
 

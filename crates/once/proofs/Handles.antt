@@ -5,7 +5,7 @@ use mathlib.Core.Logic.{_↔_}
 use mathlib.Core.Bool.{Bool, true, false, cond}
 use mathlib.Core.Option.{Option, none, some}
 use mathlib.Core.List.{List, [], _∷_, map}
-use Prim.Native.Nat.{ℕ}
+use Prim.Native.Nat.{ℕ, _+_}
 use lib.Dec.{eqb}
 use borrow.Author.Tests.{eqb-true, eq-eqb}
 use Rattle.container.specs.declared.Qos.{Qos}
@@ -20,8 +20,7 @@ use Rattle.history.specs.Log.{Said, activates, tells, tellsAll, nothing}
 use Rattle.history.specs.Table as table
 use Rattle.history.proofs.Tables.{Bears, NextIs, Sound}
 use Rattle.node.specs.declared.Message as node
-use Rattle.node.specs.declared.Message.the-variants as N
-use Rattle.node.specs.Hear.{reported, qosAfter, changed, opened, recordOf, changeOf, closing, goesOn, closedBy, afterClosing, isRelease, hearWith, hear}
+use Rattle.node.specs.Hear.{going, recordOf, closing, closedBy, afterClosing, hearWith, hear}
 use Rattle.node.specs.Step as step
 use Rattle.node.proofs.Heards as heards
 use Rattle.once.specs.Charging.{Force, Heard, same, says, meaning, rules, forms}
@@ -114,42 +113,22 @@ module _ (p : Profile) where
     pub bears : Bears K (sight .nameOf) (c .name) s
     pub taken : Taken (c .active) (s .next)
 
-  -- a report changes counters alone
-  record Named (c d : Context) : Type 0 where
-    name : d .name ≡ c .name
-    active : d .active ≡ c .active
-
-  reports : (c : Context) (h : node.Message) → Named c (reported c h)
-  unfolding reported
-  reports c (N.Traffic u d) = record { name = refl; active = refl }
-  reports c (N.Qos q) = record { name = refl; active = refl }
-  reports c N.Tariff = record { name = refl; active = refl }
-  reports c (N.Release x) = record { name = refl; active = refl }
-  reports c N.Tick = record { name = refl; active = refl }
-  reports c N.Management = record { name = refl; active = refl }
-
   module _ (c : Context) (t : ℕ) (h : node.Message) where
-    goes-on : (k : Option ℕ) → Named c (goesOn p c t h k)
-    unfolding goesOn changed
-    goes-on none = reports c h
-    goes-on (some k) = record { name = refl; active = refl }
-
-    after-closing : (r : Bool) (q : Qos) → NextIs K (sight .nameOf) (c .name) (cond r none (some (opened p (reported c h) t q)))
-        × Taken (c .active) (cond r none (some (opened p (reported c h) t q)))
-    unfolding opened
-    after-closing true q = (tt, tt)
-    after-closing false q = (reports c h .name, reports c h .active)
+    after-closing : (r : Bool) (d : Context) → d .name ≡ c .name → d .active ≡ c .active
+        → NextIs K (sight .nameOf) (c .name) (cond r none (some d)) × Taken (c .active) (cond r none (some d))
+    after-closing true d n a = (tt, tt)
+    after-closing false d n a = (n, a)
 
     keeps-by : (o : Option ℕ) → Keeps c (hearWith p c t h o)
     unfolding hearWith closedBy afterClosing recordOf
-    keeps-by none = let w = goes-on (changeOf c h) in record { bears = record { next = w .name; out = tt }; taken = w .active }
+    keeps-by none = record { bears = record { next = refl; out = tt }; taken = refl }
     keeps-by (some cause) =
-        let w = after-closing (isRelease h) (qosAfter c h) in
-        record { bears = record { next = w .0; out = (reports c h .name, tt) }; taken = w .1 }
+        let w = after-closing (h .releases) (going c _ (c .closed + 1)) refl refl in
+        record { bears = record { next = w .0; out = (refl, tt) }; taken = w .1 }
 
     pub keeps : Keeps c (hear p c t h)
     unfolding hear
-    keeps = keeps-by (closing (p .limits) c t h)
+    keeps = keeps-by (closing (p .limits) (c .current) t h)
 
   -- ---- the slots that the node has are those that are taken
 

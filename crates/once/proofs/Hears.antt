@@ -1,4 +1,4 @@
--- A stored context hears an event as its history says: of every history, and every event. Assumes nothing.
+-- A stored context hears an event as its history says: of every history, and every event.
 use mathlib.Core.Path.{_≡_, refl, sym, ap, _∙_}
 use mathlib.Core.Bool.{Bool, true, false, cond, _&&_}
 use mathlib.Core.Option.{Option, none, some}
@@ -30,19 +30,19 @@ use Rattle.history.proofs.Lists.{map-append, none≢some}
 use Rattle.history.proofs.Records.{inForce-open, inForce-running, every-open}
 use Rattle.history.proofs.Tables.{told, told-closing, told-change, told-plain}
 use Rattle.node.specs.declared.Message as node
-use Rattle.node.specs.declared.Message.the-variants as N
-use Rattle.node.specs.Hear.{reported, qosAfter, changeOf, reached, closing, changed, opened, numberFor, recordOf, goesOn, closedBy, afterClosing, hearWith, hear}
+use Rattle.node.specs.Meaning.{report, newQos, tariffChange, tick, closeWith, releaseWith}
+use Rattle.node.specs.Hear.{reported, qosAfter, changeOf, limitMet, closing, going, numberFor, recordOf, goesOn, closedBy, afterClosing, hearWith, hear}
 use Rattle.once.specs.Charging.{Force, Heard, up, down, after, change, releases, volume, changesOf, rules, timeIn, container, first, bit0, bit1, forms}
 
 -- ---- what the node calls what is heard
 
 abbrev pub nodes : Heard → node.Message
-nodes (Heard.traffic u d) = N.Traffic u d
-nodes (Heard.qos q) = N.Qos q
-nodes Heard.tariff = N.Tariff
-nodes (Heard.release cause) = N.Release cause
-nodes Heard.tick = N.Tick
-nodes Heard.management = N.Management
+nodes (Heard.traffic u d) = report u d
+nodes (Heard.qos q) = newQos q
+nodes Heard.tariff = tariffChange
+nodes (Heard.release cause) = releaseWith cause
+nodes Heard.tick = tick
+nodes Heard.management = closeWith 20
 
 -- ---- the volumes of containers, and the number of a record
 
@@ -76,13 +76,7 @@ module _ (p : Profile) (n : Name) (t : ℕ) where
     apnlen = length (s .brought .apn);
     pdptype = s .brought .pdptype;
     address = s .brought .address;
-    qos = s .qos;
-    uplink = u;
-    downlink = d;
-    opening = timeIn p o;
-    changes = k;
-    containers = padded cs;
-    count = length cs;
+    current = record { opening = timeIn p o; qos = s .qos; uplink = u; downlink = d; changes = k; containers = padded cs; count = length cs };
     closed = j;
   }
 
@@ -115,7 +109,7 @@ module _ (p : Profile) (n : Name) (t : ℕ) where
     ends e condition = cs ++ (record { qos = s .qos; uplink = u + up e; downlink = d + down e; condition = condition; time = timeIn p t } ∷ [])
 
     after-closing : (e : Heard) → afterClosing p c t (nodes e) ≡ cond (isSome (releases e)) none (some (context (after s e) 0 0 t 0 [] (suc j)))
-    unfolding afterClosing opened reported qosAfter
+    unfolding afterClosing qosAfter
     after-closing (Heard.traffic x y) = rw (add-one j)
     after-closing (Heard.qos q) = rw (add-one j)
     after-closing Heard.tariff = rw (add-one j)
@@ -126,13 +120,13 @@ module _ (p : Profile) (n : Name) (t : ℕ) where
     closed-by : (e : Heard) (cause : ℕ) → closedBy p c t (nodes e) cause ≡ bill s o (ends e 2) (number j (isSome (releases e))) cause
     unfolding closedBy recordOf reported numberFor
     closed-by (Heard.traffic x y) cause = rw (take-padded cs, numbers j false, firsts j false)
-    closed-by (Heard.qos q) cause = rw (take-padded cs, numbers j false, firsts j false, add-zero u, add-zero d)
-    closed-by Heard.tariff cause = rw (take-padded cs, numbers j false, firsts j false, add-zero u, add-zero d)
-    closed-by (Heard.release x) cause = rw (take-padded cs, numbers j true, firsts j true, add-zero u, add-zero d)
-    closed-by Heard.tick cause = rw (take-padded cs, numbers j false, firsts j false, add-zero u, add-zero d)
-    closed-by Heard.management cause = rw (take-padded cs, numbers j false, firsts j false, add-zero u, add-zero d)
+    closed-by (Heard.qos q) cause = rw (take-padded cs, numbers j false, firsts j false)
+    closed-by Heard.tariff cause = rw (take-padded cs, numbers j false, firsts j false)
+    closed-by (Heard.release x) cause = rw (take-padded cs, numbers j true, firsts j true)
+    closed-by Heard.tick cause = rw (take-padded cs, numbers j false, firsts j false)
+    closed-by Heard.management cause = rw (take-padded cs, numbers j false, firsts j false)
 
-    change-is : (e : Heard) → changeOf c (nodes e) ≡ change s e
+    change-is : (e : Heard) → changeOf (c .current) (nodes e) ≡ change s e
     unfolding changeOf
     change-is (Heard.traffic x y) = refl
     change-is (Heard.qos q) = refl
@@ -146,39 +140,40 @@ module _ (p : Profile) (n : Name) (t : ℕ) where
     kept q true e i = same-qos (s .qos) q e
     kept q false e i = absurd (none≢some (sym i))
 
-    goes-on : (e : Heard) → change s e ≡ none → goesOn p c t (nodes e) none ≡ context (after s e) (u + up e) (d + down e) o k cs j
+    goes-on : (e : Heard) → change s e ≡ none
+        → going c (goesOn p (c .current) t (nodes e) none) j ≡ context (after s e) (u + up e) (d + down e) o k cs j
     unfolding goesOn reported
     goes-on (Heard.traffic x y) i = refl
-    goes-on (Heard.qos q) i = rw (← kept q (sameQos (s .qos) q) refl i, add-zero u, add-zero d)
+    goes-on (Heard.qos q) i = rw (← kept q (sameQos (s .qos) q) refl i)
     goes-on Heard.tariff i = absurd (none≢some (sym i))
-    goes-on (Heard.release x) i = rw (add-zero u, add-zero d)
-    goes-on Heard.tick i = rw (add-zero u, add-zero d)
-    goes-on Heard.management i = rw (add-zero u, add-zero d)
+    goes-on (Heard.release x) i = refl
+    goes-on Heard.tick i = refl
+    goes-on Heard.management i = refl
 
     goes-changed : (e : Heard) (condition : ℕ) → change s e ≡ some condition
-        → goesOn p c t (nodes e) (some condition) ≡ context (after s e) 0 0 o (suc k) (ends e condition) j
-    unfolding goesOn changed qosAfter
+        → going c (goesOn p (c .current) t (nodes e) (some condition)) j ≡ context (after s e) 0 0 o (suc k) (ends e condition) j
+    unfolding goesOn reported qosAfter
     goes-changed (Heard.traffic x y) condition i = absurd (none≢some i)
-    goes-changed (Heard.qos q) condition i = rw (take-padded cs, add-zero u, add-zero d, add-one k)
-    goes-changed Heard.tariff condition i = rw (take-padded cs, add-zero u, add-zero d, add-one k)
+    goes-changed (Heard.qos q) condition i = rw (take-padded cs, add-one k)
+    goes-changed Heard.tariff condition i = rw (take-padded cs, add-one k)
     goes-changed (Heard.release x) condition i = absurd (none≢some i)
     goes-changed Heard.tick condition i = absurd (none≢some i)
     goes-changed Heard.management condition i = absurd (none≢some i)
 
     -- hearing, by what closes and what changes
-    hear-closing : (e : Heard) (cause : ℕ) → closing (p .limits) c t (nodes e) ≡ some cause → hear p c t (nodes e) ≡ record {
+    hear-closing : (e : Heard) (cause : ℕ) → closing (p .limits) (c .current) t (nodes e) ≡ some cause → hear p c t (nodes e) ≡ record {
       next = cond (isSome (releases e)) none (some (context (after s e) 0 0 t 0 [] (suc j)));
       out = bill s o (ends e 2) (number j (isSome (releases e))) cause ∷ [];
     }
     unfolding hear hearWith
     hear-closing e cause i = rw (i, after-closing e, closed-by e cause)
 
-    hear-change : (e : Heard) (condition : ℕ) → closing (p .limits) c t (nodes e) ≡ none → change s e ≡ some condition
+    hear-change : (e : Heard) (condition : ℕ) → closing (p .limits) (c .current) t (nodes e) ≡ none → change s e ≡ some condition
         → hear p c t (nodes e) ≡ record { next = some (context (after s e) 0 0 o (suc k) (ends e condition) j); out = [] }
     unfolding hear hearWith
     hear-change e condition i q = rw (i, change-is e, q, goes-changed e condition q)
 
-    hear-plain : (e : Heard) → closing (p .limits) c t (nodes e) ≡ none → change s e ≡ none
+    hear-plain : (e : Heard) → closing (p .limits) (c .current) t (nodes e) ≡ none → change s e ≡ none
         → hear p c t (nodes e) ≡ record { next = some (context (after s e) (u + up e) (d + down e) o k cs j); out = [] }
     unfolding hear hearWith
     hear-plain e i q = rw (i, change-is e, q, goes-on e q)
@@ -206,14 +201,14 @@ module _ (p : Profile) (n : Name) (h : History Force Heard) (t : ℕ) where
   counted u d = rw (take-padded held) (omega (arith, volumes p (stretches R past), every-open R up h, every-open R down h))
 
   -- the closing conditions
-  closes-qos : (q : Qos) (b : Bool) → sameQos (inForce R h .qos) q ≡ b → closing (p .limits) (stands (inForce R h)) t (N.Qos q)
+  closes-qos : (q : Qos) (b : Bool) → sameQos (inForce R h .qos) q ≡ b → closing (p .limits) (stands (inForce R h) .current) t (newQos q)
       ≡ causeFor R past t (Heard.qos q)
-  unfolding closing reached
+  unfolding closing limitMet reported changeOf
   closes-qos q true e = rw (inForce-open R h, e)
   closes-qos q false e = rw (inForce-open R h, e, add-one)
 
-  closes-alike : (e : Heard) → closing (p .limits) (stands (inForce R h)) t (nodes e) ≡ causeFor R past t e
-  unfolding closing reached
+  closes-alike : (e : Heard) → closing (p .limits) (stands (inForce R h) .current) t (nodes e) ≡ causeFor R past t e
+  unfolding closing limitMet reported changeOf
   closes-alike (Heard.traffic u d) = rw (counted u d)
   closes-alike (Heard.qos q) = closes-qos q _ refl
   closes-alike Heard.tariff = rw add-one

@@ -14,7 +14,7 @@ use Rattle.container.specs.declared.Container.{Container}
 use Rattle.container.specs.Qos.{sameQos, qosOk, qos}
 use Rattle.container.specs.Container.{isNew, told, container}
 use Rattle.container.specs.List.{containers, noContainers, eachOk, oneOffset, isBlank, blanks}
-use Rattle.container.specs.Open.{midway, timesTo, qosRun, openOk, volumeOf}
+use Rattle.container.specs.Open.{midway, timesTo, qosRun, openOk, volumeOf, unusedOk, countOk, containersOk, volumeOk, soundOpen, blankOpen}
 use Rattle.scdr.specs.declared.Record as scdr
 use Rattle.octets.specs.Filled.{fillTo}
 use Rattle.octets.specs.Chars.{allOf, apnChar, nodeChar}
@@ -28,12 +28,13 @@ use Rattle.profile.specs.Profile.{limitsOk, profileOk}
 use Rattle.event.specs.declared.Name.{Name}
 use Rattle.event.specs.Sample.{activate, traffic, released}
 use Rattle.event.specs.Fields as fields
-use Rattle.event.specs.Fields.{wholeLength, activateOk}
+use Rattle.event.specs.Fields.{activateOk}
+use Rattle.event.specs.Kinds.{kinds, kindIn, wholeOf}
 use Rattle.event.specs.Rows as rows
 use Rattle.event.specs.Rows.{firstFit, known, measured}
 use Rattle.event.specs.Event.{eventOf}
 use Rattle.context.specs.Sound as context
-use Rattle.context.specs.Sound.{unusedOk, closedOk, countOk, containersOk, volumeOk, contextOk, zeroOk, slotOk, slotsOk}
+use Rattle.context.specs.Sound.{closedOk, contextOk, zeroOk, slotOk, slotsOk}
 use Rattle.context.specs.Slots as slots
 use Rattle.context.specs.Slots.{sameName, isFree, bears}
 use Rattle.history.specs.Slots.{noneBears, distinct}
@@ -41,7 +42,7 @@ use Rattle.history.specs.History.{History, start, _▸_∶_}
 use Rattle.history.specs.Records.{Rules, records}
 use Rattle.history.specs.Log.{Accepted, histories}
 use Rattle.history.specs.Run.{log}
-use Rattle.node.specs.Hear.{reported, qosAfter, changeOf, closing, opened, numberFor, recordOf, goesOn, closedBy, afterClosing, hearWith, hear}
+use Rattle.node.specs.Hear.{reported, qosAfter, changeOf, limitMet, closing, numberFor, recordOf, goesOn, closedBy, afterClosing, hearWith, hear}
 use Rattle.node.specs.Step as step
 use Rattle.node.specs.Sound.{freshNode, sound}
 use Rattle.node.specs.Run.{Call}
@@ -123,11 +124,11 @@ pub session-run : (log (machine wrote) (freshNode session) calls ≡ short) × (
 unfolding activate traffic released printed spelt octetsFrom numberIn fillTo noContainers
     step.stepOf step.outcome step.refusals step.notActive step.isActive step.allTaken step.output step.recordsOf step.octetsOf step.markedOctets
     step.nodeAfter step.activated
-    firstFit rows.marked known measured wholeLength fields.fieldsOk activateOk eventOf
+    firstFit rows.marked known measured kinds kindIn wholeOf rows.fieldsOk activateOk eventOf
     imsiOk halves leading allF qosOk allOf apnChar release fields.release nodeChar
     sound profileOk limitsOk nodeOk apnOk stampOk distinct slots.isActive isFree bears noneBears sameName
-    context.fieldsOk unusedOk closedOk countOk containersOk volumeOk contextOk zeroOk slotOk slotsOk openOk eachOk midway oneOffset timesTo qosRun volumeOf isBlank blanks sameQos
-    reported qosAfter changeOf closing opened numberFor recordOf goesOn closedBy afterClosing hearWith hear
+    context.fieldsOk unusedOk closedOk countOk containersOk volumeOk soundOpen blankOpen contextOk zeroOk slotOk slotsOk openOk eachOk midway oneOffset timesTo qosRun volumeOf isBlank blanks sameQos
+    reported qosAfter changeOf limitMet closing numberFor recordOf goesOn closedBy afterClosing hearWith hear
     layout.scdr layout.inside layout.body layout.ofRecord layout.fieldsOf duration lastTime tlvEnc lenEnc intEnc lowest imsiEnc stampEnc monthDay seek monthLen isNew told
     containers container qos
 session-run = (refl, eqs-eq (outputs (freshNode session) calls) (0xC3 ∷ 0x5A ∷ printed) tt)

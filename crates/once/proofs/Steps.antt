@@ -15,7 +15,9 @@ use Rattle.profile.specs.declared.Profile.{Profile}
 use Rattle.event.specs.declared.Name.{Name}
 use Rattle.event.specs.Fields.{kindOf, timeOf}
 use Rattle.event.specs.Rows.{Row, row, firstFit, known}
+use Rattle.event.specs.Kinds.{kinds, kindIn}
 use Rattle.event.specs.Event.{eventOf}
+use Rattle.event.proofs.Table.{known-is}
 use Rattle.context.specs.declared.Context.{Context}
 use Rattle.history.specs.Log.{Said, activates, tells, tellsAll, nothing}
 use Rattle.history.specs.Table as table
@@ -32,10 +34,10 @@ use Rattle.once.proofs.Handles.{said, handling, active-alike}
 
 -- The octets of a known kind say to the node what they mean.
 pub says-alike : (s : List ℕ) → known s ≡ true → step.saidOf s ≡ said (says s)
-unfolding known says eventOf
+unfolding says eventOf kinds kindIn
 says-alike s z =
     let k = kindOf s in
-    let w = both (leb 1 k) (leb k 7) z in
+    let w = both (leb 1 k) (leb k 7) (sym (known-is s) ∙ z) in
     by (eqb k 1) (λ e. rw e)
     (λ a. by (eqb k 2) (λ e. rw (a, e))
     (λ b. by (eqb k 3) (λ e. rw (a, b, e))

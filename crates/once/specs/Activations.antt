@@ -49,8 +49,8 @@ pub record ChargedOnce (p : Profile) (name : Name) (a : Activation) : Type 0 whe
   pub times-within : All (λ r. NotFalling (r .opening .seconds) (map (λ c. c .time .seconds) (containersOf r)) (r .opening .seconds + duration r))
       (a .closed)
   -- What they count, and what still runs, is all that was reported of it, up and down.
-  pub uplink : sumOf (λ c. c .uplink) (containersRead a) + sumOf (λ c. c .uplink) (a .still-open) ≡ total up (a .history)
-  pub downlink : sumOf (λ c. c .downlink) (containersRead a) + sumOf (λ c. c .downlink) (a .still-open) ≡ total down (a .history)
+  pub uplink : sumOf (λ c. c .uplink) (containersRead a) + sumOf (λ c. c .current .uplink) (a .still-open) ≡ total up (a .history)
+  pub downlink : sumOf (λ c. c .downlink) (containersRead a) + sumOf (λ c. c .current .downlink) (a .still-open) ≡ total down (a .history)
 
 -- Any calls from a fresh node with this profile, and a name.
 pub record PerActivation (p : Profile) (calls : List Call) (name : Name) : Type 0 where

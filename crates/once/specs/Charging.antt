@@ -237,13 +237,15 @@ contextFrom p n o =
       apnlen = length (s .brought .apn);
       pdptype = s .brought .pdptype;
       address = s .brought .address;
-      qos = s .qos;
-      uplink = total up (o .running);
-      downlink = total down (o .running);
-      opening = timeIn p (began (o .past));
-      changes = changesOf (o .past);
-      containers = padded cs;
-      count = length cs;
+      current = record {
+        opening = timeIn p (began (o .past));
+        qos = s .qos;
+        uplink = total up (o .running);
+        downlink = total down (o .running);
+        changes = changesOf (o .past);
+        containers = padded cs;
+        count = length cs;
+      };
       closed = o .closed;
     }
 
