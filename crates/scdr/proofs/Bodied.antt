@@ -1,53 +1,57 @@
--- The law of the record's fields. It is built from the last field to the first, because a flag and an optional field ask that what follows them does not
--- begin with their tag.
-use mathlib.Core.Path.{refl}
-use mathlib.Core.Bool.{Bool}
-use mathlib.Core.Option.{Option}
+-- The law of the record's fields: that of each row's values, and no tag stands twice. The tags as plain lists, for who looks them up.
+use mathlib.Core.Path.{_≡_, refl}
 use mathlib.Core.List.{List, [], _∷_}
-use Prim.Native.Nat.{ℕ, _^_}
+use Prim.Native.Nat.{_^_}
 use lib.Dec.{leb, ltb}
 use lib.ListN.{length}
 use Rattle.format.specs.Format.{Law}
-use Rattle.ber.specs.Field.{_⊗_}
-use Rattle.ber.proofs.Codec.{Codec, Octets, Octet, Exactly, Int, Counted, Fixed, Ipv4, Imsi, End, Where, Alone, Field, Opt, Flag}
-use Rattle.ber.proofs.Fields.{field-avoids, optional-avoids}
-use Rattle.calendar.specs.declared.Stamp.{Stamp}
-use Rattle.calendar.specs.Stamp.{stamp}
+use Rattle.format.proofs.Formats.{octets-law, octet-law, exactly-law, refined-law}
+use Rattle.ber.specs.Int.{int}
+use Rattle.ber.specs.Field.{_⨾_}
+use Rattle.ber.specs.Fixed.{ipv4}
+use Rattle.ber.proofs.Ints.{int-law}
+use Rattle.ber.proofs.Fixeds.{fixed-law, ipv4-law}
+use Rattle.ber.proofs.Imsis.{imsi-law}
+use Rattle.ber.proofs.Counts.{counted-law}
+use Rattle.ber.proofs.Fields.{alone-law}
+use Rattle.ber.proofs.Tables.{Laws, layout-law}
 use Rattle.calendar.proofs.Stamps.{stamp-law}
-use Rattle.container.specs.declared.Container.{Container}
-use Rattle.container.specs.List.{containers}
 use Rattle.container.proofs.Goods.{containers-law, containers-most}
+use Rattle.scdr.specs.Table.{table, recordTags, mandatory, optional}
 use Rattle.scdr.specs.Layout.{body}
 
-abbrev Text : ℕ → ℕ → Codec (List ℕ)
-Text lo hi = Octets hi (λ x. leb lo (length x))
-
-abbrev Time : Codec Stamp
-Time = record { fmt = stamp; law = stamp-law }
-
-abbrev Containers : Codec (List Container)
-Containers = record { fmt = containers; law = containers-law }
-
--- 96
-abbrev Node : Codec (Option (List ℕ) ⊗ Unit {0})
-Node = Opt 0x96 (Text 1 20) tt End (λ b g. refl)
-
--- 95 to the end
-abbrev pub Number : Codec (Option ℕ ⊗ Option (List ℕ) ⊗ Unit {0})
-Number = Opt 0x95 Counted tt Node (optional-avoids 0x96 (Text 1 20 .fmt) (End .fmt) 0x95 refl (λ b g. refl))
-
--- 92 to the end
-abbrev Change : Codec (Bool ⊗ ℕ ⊗ Option ℕ ⊗ Option (List ℕ) ⊗ Unit {0})
-Change = Flag 0x92 (0xFF ∷ []) tt (Field 0x93 Octet tt Number) (field-avoids 0x93 (Octet .fmt) (Number .fmt) 0x92 refl)
-
--- A5 to the end
-abbrev pub Name : Codec (ℕ ⊗ ℕ ⊗ ℕ ⊗ List ℕ ⊗ ℕ ⊗ ℕ ⊗ List Container ⊗ Stamp ⊗ ℕ ⊗ Bool ⊗ ℕ ⊗ Option ℕ ⊗ Option (List ℕ) ⊗ Unit {0})
-Name =
-    Field 0xA5 Ipv4 tt (Field 0x8A (Where Int (λ n. ltb n (2 ^ 32))) tt (Field 0xAB Ipv4 tt (Field 0x8C (Text 1 63) tt (Field 0x8D (Fixed 2) tt
-    (Field 0xAE (Alone 0xA0 Ipv4 tt) tt (Field 0xAF Containers (rw containers-most tt) (Field 0x90 Time tt (Field 0x91 Int tt Change))))))))
+-- in the table's order
+laws : Laws table
+laws =
+    (exactly-law (18 ∷ []), tt)
+    ⨾ tt
+    ⨾ (imsi-law, tt)
+    ⨾ (ipv4-law, tt)
+    ⨾ (refined-law (λ n. ltb n (2 ^ 32)) int int-law, tt)
+    ⨾ (ipv4-law, tt)
+    ⨾ (octets-law 63 (λ x. leb 1 (length x)), tt)
+    ⨾ (fixed-law 2, tt)
+    ⨾ (alone-law 0xA0 ipv4 ipv4-law tt, tt)
+    ⨾ (containers-law, rw containers-most tt)
+    ⨾ (stamp-law, tt)
+    ⨾ (int-law, tt)
+    ⨾ tt
+    ⨾ (octet-law _, tt)
+    ⨾ (counted-law, tt)
+    ⨾ (octets-law 20 (λ x. leb 1 (length x)), tt)
+    ⨾ tt
 
 pub body-law : Law body
 unfolding body
-body-law =
-    Field 0x80 (Exactly (18 ∷ [])) tt
-    (Flag 0x81 (0xFF ∷ []) tt (Field 0x83 Imsi tt Name) (field-avoids 0x83 (Imsi .fmt) (Name .fmt) 0x81 refl)) .law
+body-law = layout-law table laws tt
+
+-- ---- the tags
+
+pub record-tags : recordTags ≡ 0x80 ∷ 0x81 ∷ 0x83 ∷ 0xA5 ∷ 0x8A ∷ 0xAB ∷ 0x8C ∷ 0x8D ∷ 0xAE ∷ 0xAF ∷ 0x90 ∷ 0x91 ∷ 0x92 ∷ 0x93 ∷ 0x95 ∷ 0x96 ∷ []
+record-tags = refl
+
+pub mandatory-tags : mandatory ≡ 0x80 ∷ 0x83 ∷ 0xA5 ∷ 0x8A ∷ 0xAB ∷ 0x8C ∷ 0x8D ∷ 0xAE ∷ 0xAF ∷ 0x90 ∷ 0x91 ∷ 0x93 ∷ []
+mandatory-tags = refl
+
+pub optional-tags : optional ≡ 0x81 ∷ 0x92 ∷ 0x95 ∷ 0x96 ∷ []
+optional-tags = refl

@@ -1,4 +1,4 @@
--- Lists filled up to a length: what was filled up is the front again, and a front with the rest blank fills up to the whole. Assumes nothing.
+-- Lists filled up to a length: what was filled up is the front again, and a front with the rest blank fills up to the whole.
 use mathlib.Core.Path.{_≡_, refl, sym, ap, ap₂, _∙_}
 use mathlib.Core.Option.{Option, none, some}
 use mathlib.Core.List.{List, [], _∷_, map}
@@ -8,11 +8,13 @@ use lib.Dec.{T, eqb, eqb→eq}
 use lib.ListN.{length, take, drop, replicate, length-append, length-drop, length-replicate, take-append-drop, length-map}
 use lib.Seq.{take-at, length-take-le}
 use Rattle.format.proofs.Tests.{and-l, and-r}
-use Rattle.ber.specs.Field.{unlessNone, optGood, between}
+use Rattle.ber.specs.Field.{unlessNone}
+use Rattle.ber.specs.Table.{rowGood}
 use Rattle.container.specs.declared.Container.{Container}
 use Rattle.container.specs.List.{noContainers, padded}
 use Rattle.scdr.specs.Rules.{allOf, isZero}
 use Rattle.ber.specs.Text.{orNone}
+use Rattle.scdr.specs.Table.{NodeId}
 use Rattle.scdr.specs.Layout.{fillTo}
 
 module _ {A : Type 0} (n : ℕ) (d : A) where
@@ -55,7 +57,7 @@ zeros-are [] h = refl
 zeros-are (x ∷ xs) h = ap₂ {C = List ℕ} (λ y ys. y ∷ ys) (eqb→eq x 0 (and-l (eqb x 0) (allOf isZero xs) h)) (zeros-are xs (and-r (eqb x 0) (allOf isZero xs) h))
 
 -- octets that were read, and kept as none where there are none
-pub octets-back : (o : Option (List ℕ)) → optGood 0x96 (between 1 20) o → unlessNone (orNone o) ≡ o
+pub octets-back : (o : Option (List ℕ)) → rowGood NodeId o → unlessNone (orNone o) ≡ o
 octets-back none g = refl
 octets-back (some []) g = absurd (g .1)
 octets-back (some (x ∷ xs)) g = refl

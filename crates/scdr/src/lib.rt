@@ -8,6 +8,7 @@ mod parts;
 mod pieces;
 pub mod read;
 pub mod rules;
+mod tags;
 pub mod text;
 pub mod write;
 
