@@ -29,7 +29,7 @@ use Rattle.scdr.specs.Private.Pieces.{Wired}
 use Rattle.scdr.specs.Answers.{readOf, ReadsRecord}
 use Rattle.scdr.specs.Apn.{walk, walkIn, cut, apnPlace, apnOf, ShowsApn}
 use Rattle.scdr.specs.Private.Taken.{Taken, NotTaken}
-use Rattle.scdr.proofs.Bodied.{body-law}
+use Rattle.scdr.proofs.BodyLaw.{body-law}
 use Rattle.scdr.proofs.Tails.{fill-length, padded-length}
 use Rattle.scdr.proofs.Answering.{shaped-is}
 

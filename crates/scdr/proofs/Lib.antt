@@ -1,11 +1,11 @@
 pub mod Tails
 pub mod Views
-pub mod Bodied
+pub mod BodyLaw
 pub mod Theorems
 pub mod Demand2
 pub mod Listed
 pub mod Printed
-pub mod Bodies
+pub mod BodyParts
 pub mod Answering
 pub mod Pieced
 pub mod Walks

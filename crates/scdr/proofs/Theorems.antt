@@ -28,7 +28,7 @@ use Rattle.scdr.specs.declared.Record.{Record}
 use Rattle.scdr.specs.Rules.{shaped, within, numberOk, lastTime, duration, durationFrom}
 use Rattle.scdr.specs.Table.{recordTag, Network, Change, Number, NodeId}
 use Rattle.scdr.specs.Layout.{body, ofRecord, fieldsOf, toRecord, durationRight, rules, inside, scdr}
-use Rattle.scdr.proofs.Bodied.{body-law}
+use Rattle.scdr.proofs.BodyLaw.{body-law}
 use Rattle.scdr.proofs.Views.{shape, withins, apn-rules, node-rules, places-rules, fields-back, record-back}
 
 -- ---- the rules of a list one by one, as far as the octets rest on them

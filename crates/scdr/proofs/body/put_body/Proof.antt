@@ -14,7 +14,7 @@ use Rattle.scdr.specs.Private.Parts.{endEnc}
 use Rattle.scdr.proofs.Tails.{length-of-map}
 use Rattle.scdr.proofs.Views.{withins, apn-rules, node-rules}
 use Rattle.scdr.proofs.Namings.{duration-is}
-use Rattle.scdr.proofs.Bodies.{body-parts, count-known, list-form}
+use Rattle.scdr.proofs.BodyParts.{body-parts, count-known, list-form}
 use Rattle.scdr.proofs.body.put_body.Statement.{statement}
 use Rattle.scdr.proofs.body.put_body.Tie as tie
 
@@ -96,7 +96,8 @@ returns c =
     (wrote-is (ap (λ (d : ℕ). endEnc (r .opening) d (r .change) (r .cause) (r .number))
     (timed .lasted .ensures ∙ duration-is (r .opening .seconds) (r .containers) (r .count) noContainer (m .0) (omega (arith, m .1, p))))
     (ended .put-end .ensures))
-    (wrote (opt-value (tag NodeId) 20 (r .nodeid) (r .nodelen) (omega (arith, n .most, k)) (omega (arith, n .most))) (c .before .before .put-opt-text .ensures))))))
+    (wrote (opt-value (tag NodeId) 20 (r .nodeid) (r .nodelen) (omega (arith, n .most, k)) (omega (arith, n .most)))
+    (c .before .before .put-opt-text .ensures))))))
 
 pub put-body-spec : {M : Type 1} → statement M
 put-body-spec =
