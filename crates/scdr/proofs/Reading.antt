@@ -46,6 +46,11 @@ copied-fills {p} {s} {at} {b} {b′} {n} {next} m z c =
 
 -- ---- the fields
 
+-- a row that ends at a place, and those after it
+infixr 5 _ends_then_
+abbrev _ends_then_ : {B C : ℕ → Type 0} (m : ℕ) → B m → C m → (n : ℕ) × B n × C n
+m ends g then gs = (m, g, gs)
+
 -- each place is where a row ends, in the table's order
 module _ {s : List ℕ} (h : length s < nowhere) {p₁ p₂ p₃ p₄ p₅ p₆ p₇ p₈ p₉ p₁₀ p₁₁ p₁₂ p₁₃ p₁₄ p₁₅ p₁₆ : ℕ}
     {network change : Bool} {imsi : List ℕ} {sgsn charging ggsn pdptype address lasts cause number : ℕ} {containers : List Container} {opening : Stamp}
@@ -100,58 +105,27 @@ module _ {s : List ℕ} (h : length s < nowhere) {p₁ p₂ p₃ p₄ p₅ p₆ 
   row r x = got (row-leaves r) h x
 
   before : Gets s (take 6 table) 0 valuesBefore p₆
-  before = (
-    p₁,
-    row RecordType rRecordType,
-    (
-      p₂,
-      row Network rNetwork,
-      (
-        p₃,
-        row Imsi rImsi,
-        (
-          p₄,
-          row Sgsn rSgsn,
-          (
-            p₅,
-            row ChargingId rChargingId,
-            (p₆, row Ggsn rGgsn, refl),
-          ),
-        ),
-      ),
-    ),
-  )
+  before =
+      p₁ ends row RecordType rRecordType
+      then p₂ ends row Network rNetwork
+      then p₃ ends row Imsi rImsi
+      then p₄ ends row Sgsn rSgsn
+      then p₅ ends row ChargingId rChargingId
+      then p₆ ends row Ggsn rGgsn
+      then refl
 
   after : Gets s (drop 7 table) p₇ valuesAfter p₁₆
-  after = (
-    p₈,
-    row PdpType rPdpType,
-    (
-      p₉,
-      row Served rServed,
-      (
-        p₁₀,
-        row Containers (rContainers .reads),
-        (
-          p₁₁,
-          row Opening rOpening,
-          (
-            p₁₂,
-            row Duration rDuration,
-            (
-              p₁₃,
-              row Change rChange,
-              (
-                p₁₄,
-                row Cause rCause,
-                (p₁₅, row Number (counts-maybe (tag Number) rNumber), (p₁₆, row NodeId (text-reads (tag NodeId) 20 rNodeId), refl)),
-              ),
-            ),
-          ),
-        ),
-      ),
-    ),
-  )
+  after =
+      p₈ ends row PdpType rPdpType
+      then p₉ ends row Served rServed
+      then p₁₀ ends row Containers (rContainers .reads)
+      then p₁₁ ends row Opening rOpening
+      then p₁₂ ends row Duration rDuration
+      then p₁₃ ends row Change rChange
+      then p₁₄ ends row Cause rCause
+      then p₁₅ ends row Number (counts-maybe (tag Number) rNumber)
+      then p₁₆ ends row NodeId (text-reads (tag NodeId) 20 rNodeId)
+      then refl
 
   all : Gets s table 0 (both (take 6 table) (drop 6 table) valuesBefore (take apnlen apn ⨾ valuesAfter)) p₁₆
   all = rows-then s (take 6 table) (drop 6 table) 0 p₆ p₁₆ valuesBefore (take apnlen apn ⨾ valuesAfter) before (p₇, row Apn (copies-reads rApn .0), after)
