@@ -3,13 +3,19 @@ use mathlib.Core.Path.{_≡_, refl}
 use mathlib.Core.Option.{Option, none, some}
 use mathlib.Core.List.{List}
 use Prim.Native.Nat.{ℕ, zero, suc}
-use Rattle.ber.specs.Int.{counted}
+use lib.Dec.{leb}
+use Rattle.format.specs.Format.{Law}
+use Rattle.format.proofs.Formats.{refined-law}
+use Rattle.ber.specs.Int.{int, counted}
 use Rattle.ber.specs.Field.{optGood, maybe, unless0, orZero}
 use Rattle.ber.specs.Read.{Reads}
 use Rattle.ber.specs.Count.{counts}
+use Rattle.ber.proofs.Ints.{int-law}
 use Rattle.ber.proofs.Fields.{maybe-sound}
 use Rattle.ber.proofs.Readers.{reads-map, reads-back}
-use Rattle.ber.proofs.Codec.{Counted}
+
+pub counted-law : Law counted
+counted-law = refined-law (λ n. leb 1 n) int int-law
 
 -- a number that says that it is there
 pub unless-zero : (n : ℕ) → (n ≡ 0 → ⊥) → unless0 n ≡ some n
@@ -33,4 +39,4 @@ module _ (t : ℕ) where
 
     pub counts-maybe : {v : ℕ} → Reads 0 (counts t) s at v next → Reads none (maybe t counted) s at (unless0 v) next
     unfolding counts
-    counts-maybe r = reads-back orZero unless0 refl (λ z q d. number-back (q .0) (maybe-sound t counted (Counted .law) tt z q d .0)) r
+    counts-maybe r = reads-back orZero unless0 refl (λ z q d. number-back (q .0) (maybe-sound t counted counted-law tt z q d .0)) r

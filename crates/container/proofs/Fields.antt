@@ -1,7 +1,7 @@
--- A profile and a container read field by field, and what is written put together. Assumes nothing.
+-- A profile and a container read field by field, and what is written put together.
 use mathlib.Core.Path.{_≡_, refl, sym, ap, subst, _∙_}
 use mathlib.Core.Bool.{Bool, true, false}
-use mathlib.Core.Option.{Option, none, some, Option·some-injective}
+use mathlib.Core.Option.{Option, none, some}
 use mathlib.Core.List.{List, [], _∷_}
 use Prim.Native.Nat.{ℕ, _-_, _≤_, _<_}
 use native.Mathlib.Omega.{arith}
@@ -9,34 +9,37 @@ use lib.Dec.{T}
 use lib.ListN.{length, take, drop}
 use borrow.Author.Tests.{le-leb}
 use Rattle.format.specs.Maybe.{guard}
-use Rattle.format.specs.Format.{octet, mapped}
+use Rattle.format.specs.Format.{mapped}
 use Rattle.format.proofs.Tests.{by, T-true, and-l}
 use Rattle.format.proofs.Maybe.{guard-yes}
-use Rattle.ber.specs.Int.{int, intEnc}
 use Rattle.ber.specs.Tlv.{tlvEnc, tlvForm}
-use Rattle.ber.specs.Field.{first, new, newEnc}
+use Rattle.ber.specs.Field.{first, new}
+use Rattle.ber.specs.Table.{layout, rowEnc, rowDec, tag}
 use Rattle.ber.specs.Read.{nowhere, Reads}
 use Rattle.ber.specs.Private.Stay.{stay}
 use Rattle.ber.specs.Write.{Puts}
 use Rattle.ber.proofs.Tlvs.{tlv-yes}
 use Rattle.ber.proofs.Places.{PartIs}
-use Rattle.ber.proofs.Readers.{part-length, Rest, Leaves, got, reads-some, first-leaves, rest-field, rest-mapped, rest-refined, end-yes, end-no}
+use Rattle.ber.proofs.Readers.{part-length, Rest, got, reads-some, rest-mapped, rest-refined}
+use Rattle.ber.proofs.Tables.{row-leaves, Gets, rows-yes, rows-no}
 use Rattle.ber.proofs.Writers.{puts-is, puts-none, puts-nothing, wrote, wrote-then, wrote-none, filled}
 use Rattle.ber.specs.Private.Wrote.{Wrote}
 use Rattle.calendar.specs.declared.Stamp.{Stamp}
-use Rattle.calendar.specs.declared.StampRead.the-variants.{Time, NoTime}
-use Rattle.calendar.specs.Stamp.{stamp, stampRead, stampOk, stampEnc}
+use Rattle.calendar.specs.declared.StampRead.the-variants as S
+use Rattle.calendar.specs.Stamp.{stampRead, stampOk}
 use Rattle.container.specs.declared.Qos.{Qos}
 use Rattle.container.specs.declared.Container.{Container}
-use Rattle.container.specs.Qos.{qosOk, sameQos, qos, noQos, qosLayout, toQos, ofQos}
-use Rattle.container.specs.Container.{containerOk, isNew, told, isTold, formed, container, containerLayout, toContainer, ofContainer, noStamp}
+use Rattle.container.specs.Qos.{qosOk, sameQos, Reliability, Delay, Precedence, Peak, Mean, qosTable, qos, noQos, toQos, ofQos}
+use Rattle.container.specs.Container.{containerOk, isNew, told, isTold, formed, QosAfter, Uplink, Downlink, Condition, Time, containerTable}
+use Rattle.container.specs.Container.{container, toContainer, ofContainer, noStamp}
 use Rattle.container.specs.Private.NewForm.{newForm}
 use Rattle.container.proofs.Goods.{qos-law, qos-good, told-none, told-some, container-law, container-good, within}
 
 -- ---- answers of readers
 
 -- the value under another name
-pub reads-as : {A : Type 0} {blank v w : A} {p : List ℕ → Option (A × List ℕ)} {s : List ℕ} {at next : ℕ} → v ≡ w → Reads blank p s at w next → Reads blank p s at v next
+pub reads-as : {A : Type 0} {blank v w : A} {p : List ℕ → Option (A × List ℕ)} {s : List ℕ} {at next : ℕ} → v ≡ w → Reads blank p s at w next
+    → Reads blank p s at v next
 reads-as {blank = blank} {p = p} {s = s} {at = at} {next = next} e r = subst (λ v. Reads blank p s at v next) (sym e) r
 
 -- the contents of a value in s end before nowhere, as s does
@@ -45,38 +48,50 @@ part-short p h = omega (arith, part-length p, p .inside)
 
 -- what a reader of times answered
 
-pub time-none : (o : Option Stamp) → NoTime ≡ stampRead o → o ≡ none
+pub time-none : (o : Option Stamp) → S.NoTime ≡ stampRead o → o ≡ none
 time-none none h = refl
 time-none (some t) h = cc
 
-pub time-some : (o : Option Stamp) (t : Stamp) → Time t ≡ stampRead o → o ≡ some t
+pub time-some : (o : Option Stamp) (t : Stamp) → S.Time t ≡ stampRead o → o ≡ some t
 time-some none t h = cc
 time-some (some u) t h = cc
 
 -- ---- a profile, of octets s that are all its contents
 
-module _ {s : List ℕ} {a b c d e f g h i j : ℕ} (l : length s < nowhere)
-    (r₁ : Reads 0 (first 0x80 (octet (λ x. true))) s 0 f a) (r₂ : Reads 0 (first 0x81 (octet (λ x. true))) s a g b)
-    (r₃ : Reads 0 (first 0x82 (octet (λ x. true))) s b h c) (r₄ : Reads 0 (first 0x83 (octet (λ x. true))) s c i d)
-    (r₅ : Reads 0 (first 0x84 (octet (λ x. true))) s d j e) where
+module _ {s : List ℕ} {reliability delay precedence peak mean : ℕ} {b c d e end : ℕ} (l : length s < nowhere)
+    (r₁ : Reads 0 (rowDec Reliability) s 0 reliability b) (r₂ : Reads 0 (rowDec Delay) s b delay c) (r₃ : Reads 0 (rowDec Precedence) s c precedence d)
+    (r₄ : Reads 0 (rowDec Peak) s d peak e) (r₅ : Reads 0 (rowDec Mean) s e mean end) where
   abbrev profile : Qos
-  profile = record { reliability = f; delay = g; precedence = h; peak = i; mean = j }
+  profile = record { reliability = reliability; delay = delay; precedence = precedence; peak = peak; mean = mean }
+
+  qos-fields : Gets s qosTable 0 (ofQos profile) end
+  qos-fields = (
+    b,
+    got (row-leaves Reliability) l r₁,
+    (
+      c,
+      got (row-leaves Delay) l r₂,
+      (
+        d,
+        got (row-leaves Precedence) l r₃,
+        (e, got (row-leaves Peak) l r₄, (end, got (row-leaves Mean) l r₅, refl)),
+      ),
+    ),
+  )
 
   -- octets are left after the fields, or a field was not there
-  pub qos-cut : (e ≡ length s → ⊥) → Rest (qos .dec) s 0 none
+  pub qos-cut : (end ≡ length s → ⊥) → Rest (qos .dec) s 0 none
   unfolding qos
   qos-cut n =
-      rest-refined qosOk (mapped toQos ofQos qosLayout) (rest-mapped toQos ofQos qosLayout
-      (rest-field (got (first-leaves 0x80 _) l r₁) (rest-field (got (first-leaves 0x81 _) l r₂) (rest-field (got (first-leaves 0x82 _) l r₃)
-      (rest-field (got (first-leaves 0x83 _) l r₄) (rest-field (got (first-leaves 0x84 _) l r₅) (end-no s e n)))))))
+      rest-refined qosOk (mapped toQos ofQos (layout qosTable))
+      (rest-mapped toQos ofQos (layout qosTable) (rows-no s qosTable 0 (ofQos profile) end qos-fields n))
 
-  module _ (q : e ≡ length s) where
+  module _ (q : end ≡ length s) where
     fields : Rest (qos .dec) s 0 (guard (qosOk profile) profile)
     unfolding qos
     fields =
-        rest-refined qosOk (mapped toQos ofQos qosLayout) (rest-mapped toQos ofQos qosLayout
-        (rest-field (got (first-leaves 0x80 _) l r₁) (rest-field (got (first-leaves 0x81 _) l r₂) (rest-field (got (first-leaves 0x82 _) l r₃)
-        (rest-field (got (first-leaves 0x83 _) l r₄) (rest-field (got (first-leaves 0x84 _) l r₅) (end-yes s e q)))))))
+        rest-refined qosOk (mapped toQos ofQos (layout qosTable))
+        (rest-mapped toQos ofQos (layout qosTable) (rows-yes s qosTable 0 (ofQos profile) end qos-fields q))
 
     -- the fields are there, but not in range
     pub qos-out : qosOk profile ≡ false → Rest (qos .dec) s 0 none
@@ -88,41 +103,49 @@ module _ {s : List ℕ} {a b c d e f g h i j : ℕ} (l : length s < nowhere)
 -- ---- the QoS of a container after another one
 
 module _ (z : Container) {s : List ℕ} {v : Qos} {n : ℕ} where
-  pub qos-read : isNew z ≡ true → Reads noQos (first 0xA2 qos) s 0 v n → Reads noQos (new 0xA2 qos (told z)) s 0 v n
+  pub qos-read : isNew z ≡ true → Reads noQos (first (tag (QosAfter z)) qos) s 0 v n → Reads noQos (rowDec (QosAfter z)) s 0 v n
   unfolding new
   qos-read h r = rw (told-none z h) r
 
-  pub qos-told : isNew z ≡ false → v ≡ z .qos → n ≡ 0 → Reads noQos (new 0xA2 qos (told z)) s 0 v n
+  pub qos-told : isNew z ≡ false → v ≡ z .qos → n ≡ 0 → Reads noQos (rowDec (QosAfter z)) s 0 v n
   unfolding new
   qos-told h e w = rw (told-some z h, e, w) (reads-some (omega arith) (omega arith) refl)
 
-new-leaves : (k : Option Qos) → Leaves (new 0xA2 qos k)
-unfolding new
-new-leaves none = first-leaves 0xA2 qos
-new-leaves (some q) = record { before = λ z p e. ([], ap {B = List ℕ} (λ v. v .1) (Option·some-injective (q, z) p e)) }
-
 -- ---- a container after z, of octets s that are all its contents
 
-module _ (z : Container) {s : List ℕ} {a b c d e up down why : ℕ} {p : Qos} {t : Stamp} (l : length s < nowhere)
-    (r₁ : Reads noQos (new 0xA2 qos (told z)) s 0 p a) (r₂ : Reads 0 (first 0x83 int) s a up b) (r₃ : Reads 0 (first 0x84 int) s b down c)
-    (r₄ : Reads 0 (first 0x85 (octet (λ x. true))) s c why d) (r₅ : Reads noStamp (first 0x86 stamp) s d t e) where
+module _ (z : Container) {s : List ℕ} {q : Qos} {uplink downlink condition : ℕ} {time : Stamp} {b c d e end : ℕ} (l : length s < nowhere)
+    (r₁ : Reads noQos (rowDec (QosAfter z)) s 0 q b) (r₂ : Reads 0 (rowDec Uplink) s b uplink c) (r₃ : Reads 0 (rowDec Downlink) s c downlink d)
+    (r₄ : Reads 0 (rowDec Condition) s d condition e) (r₅ : Reads noStamp (rowDec Time) s e time end) where
   abbrev held : Container
-  held = record { qos = p; uplink = up; downlink = down; condition = why; time = t }
+  held = record { qos = q; uplink = uplink; downlink = downlink; condition = condition; time = time }
 
-  pub container-cut : (e ≡ length s → ⊥) → Rest (container z .dec) s 0 none
-  unfolding container qos
+  container-fields : Gets s (containerTable z) 0 (ofContainer held) end
+  container-fields = (
+    b,
+    got (row-leaves (QosAfter z)) l r₁,
+    (
+      c,
+      got (row-leaves Uplink) l r₂,
+      (
+        d,
+        got (row-leaves Downlink) l r₃,
+        (e, got (row-leaves Condition) l r₄, (end, got (row-leaves Time) l r₅, refl)),
+      ),
+    ),
+  )
+
+  pub container-cut : (end ≡ length s → ⊥) → Rest (container z .dec) s 0 none
+  unfolding container
   container-cut n =
-      rest-refined containerOk (mapped toContainer ofContainer (containerLayout z)) (rest-mapped toContainer ofContainer (containerLayout z)
-      (rest-field (got (new-leaves (told z)) l r₁) (rest-field (got (first-leaves 0x83 _) l r₂) (rest-field (got (first-leaves 0x84 _) l r₃)
-      (rest-field (got (first-leaves 0x85 _) l r₄) (rest-field (got (first-leaves 0x86 _) l r₅) (end-no s e n)))))))
+      rest-refined containerOk (mapped toContainer ofContainer (layout (containerTable z)))
+      (rest-mapped toContainer ofContainer (layout (containerTable z)) (rows-no s (containerTable z) 0 (ofContainer held) end container-fields n))
 
-  module _ (q : e ≡ length s) where
+  module _ (whole : end ≡ length s) where
     parts : Rest (container z .dec) s 0 (guard (containerOk held) held)
-    unfolding container qos
+    unfolding container
     parts =
-        rest-refined containerOk (mapped toContainer ofContainer (containerLayout z)) (rest-mapped toContainer ofContainer (containerLayout z)
-        (rest-field (got (new-leaves (told z)) l r₁) (rest-field (got (first-leaves 0x83 _) l r₂) (rest-field (got (first-leaves 0x84 _) l r₃)
-        (rest-field (got (first-leaves 0x85 _) l r₄) (rest-field (got (first-leaves 0x86 _) l r₅) (end-yes s e q)))))))
+        rest-refined containerOk (mapped toContainer ofContainer (layout (containerTable z)))
+        (rest-mapped toContainer ofContainer (layout (containerTable z)) (rows-yes s (containerTable z) 0 (ofContainer held) end container-fields whole))
 
     pub container-out : containerOk held ≡ false → Rest (container z .dec) s 0 none
     container-out k = record { is = parts .is ∙ rw k }
@@ -156,13 +179,14 @@ filled-count f = f .size ∙ ap length (sym (f .front))
 
 -- five fields, one after another, in an array
 module _ (q : Qos) {b b₁ b₂ b₃ b₄ b₅ : List ℕ} {f g h i j : ℕ} (room : length b ≡ 15)
-    (p₁ : Puts (some (tlvEnc 0x80 (q .reliability ∷ []))) b b₁ 0 f) (p₂ : Puts (some (tlvEnc 0x81 (q .delay ∷ []))) b₁ b₂ f g)
-    (p₃ : Puts (some (tlvEnc 0x82 (q .precedence ∷ []))) b₂ b₃ g h) (p₄ : Puts (some (tlvEnc 0x83 (q .peak ∷ []))) b₃ b₄ h i)
-    (p₅ : Puts (some (tlvEnc 0x84 (q .mean ∷ []))) b₄ b₅ i j) (ok : T (qosOk q)) where
+    (p₁ : Puts (some (rowEnc Reliability (q .reliability))) b b₁ 0 f) (p₂ : Puts (some (rowEnc Delay (q .delay))) b₁ b₂ f g)
+    (p₃ : Puts (some (rowEnc Precedence (q .precedence))) b₂ b₃ g h) (p₄ : Puts (some (rowEnc Peak (q .peak))) b₃ b₄ h i)
+    (p₅ : Puts (some (rowEnc Mean (q .mean))) b₄ b₅ i j) (ok : T (qosOk q)) where
   pub qos-filled : Filled (qos .enc q) 15 b₅ j
   unfolding qos
   qos-filled =
-      filled-of room (wrote-then (wrote refl p₁) (wrote-then (wrote refl p₂) (wrote-then (wrote refl p₃) (wrote-then (wrote refl p₄) (wrote-then (wrote refl p₅) wrote-none)))))
+      filled-of room (wrote-then (wrote refl p₁) (wrote-then (wrote refl p₂) (wrote-then (wrote refl p₃) (wrote-then (wrote refl p₄)
+      (wrote-then (wrote refl p₅) wrote-none)))))
       (qos-law .fits q (qos-good q ok))
 
 -- a QoS after z
@@ -177,7 +201,7 @@ module _ (z c : Container) where
   told-same h = rw h
 
 module _ (z : Container) (q : Qos) where
-  pub form-own : isNew z ≡ true → guard (qosOk q) (tlvEnc 0xA2 (qos .enc q)) ≡ newForm z q
+  pub form-own : isNew z ≡ true → guard (qosOk q) (tlvEnc (tag (QosAfter z)) (qos .enc q)) ≡ newForm z q
   unfolding newForm
   form-own h = rw h
 
@@ -202,7 +226,7 @@ module _ (z c : Container) where
   formed-untold h k = rw (h, k)
 
 -- what of it stands in front: its octets after z
-pub new-form : (z c : Container) → T (qosOk (c .qos)) → newForm z (c .qos) ≡ some (newEnc 0xA2 qos (told z) (c .qos))
+pub new-form : (z c : Container) → T (qosOk (c .qos)) → newForm z (c .qos) ≡ some (rowEnc (QosAfter z) (c .qos))
 unfolding newForm
 new-form z c t =
     by (isNew z)
@@ -210,9 +234,9 @@ new-form z c t =
     (λ n. rw (n, told-some z n))
 
 module _ (z c : Container) {b b₁ b₂ b₃ b₄ b₅ : List ℕ} {f g h i j : ℕ} (room : length b ≡ 53)
-    (p₁ : Puts (newForm z (c .qos)) b b₁ 0 f) (p₂ : Puts (some (tlvEnc 0x83 (intEnc 9 (c .uplink)))) b₁ b₂ f g)
-    (p₃ : Puts (some (tlvEnc 0x84 (intEnc 9 (c .downlink)))) b₂ b₃ g h) (p₄ : Puts (some (tlvEnc 0x85 (c .condition ∷ []))) b₃ b₄ h i)
-    (p₅ : Puts (guard (stampOk (c .time)) (tlvEnc 0x86 (stampEnc (c .time)))) b₄ b₅ i j) (ok : T (formed z c)) where
+    (p₁ : Puts (newForm z (c .qos)) b b₁ 0 f) (p₂ : Puts (some (rowEnc Uplink (c .uplink))) b₁ b₂ f g)
+    (p₃ : Puts (some (rowEnc Downlink (c .downlink))) b₂ b₃ g h) (p₄ : Puts (some (rowEnc Condition (c .condition))) b₃ b₄ h i)
+    (p₅ : Puts (guard (stampOk (c .time)) (rowEnc Time (c .time))) b₄ b₅ i j) (ok : T (formed z c)) where
   pub container-filled : Filled (container z .enc c) 53 b₅ j
   unfolding container qos
   container-filled =

@@ -8,19 +8,22 @@ use Prim.Native.Nat.{ℕ, _^_, _≤_, _<_}
 use native.Mathlib.Omega.{arith}
 use lib.Dec.{T, leb, ltb, eqb, leb→le, ltb→lt, eqb→eq, eqb-refl}
 use lib.ListN.{length}
-use Rattle.format.specs.Format.{Law}
+use Rattle.format.specs.Format.{Law, mapped}
+use Rattle.format.proofs.Formats.{octet-law, refined-law, mapped-law}
 use Rattle.format.proofs.Tests.{by, T-true, true-T, and-l, and-r, and-i}
-use Rattle.ber.specs.Field.{newGood, runGood}
-use Rattle.ber.proofs.Ints.{int-good}
-use Rattle.ber.proofs.Fields.{many-law}
-use Rattle.ber.proofs.Codec.{Codec, Octet, Int, End, Field, UnlessKnown, As, Where}
+use Rattle.ber.specs.Field.{runGood, anyOctet, _⨾_}
+use Rattle.ber.specs.Table.{layout, rowGood}
+use Rattle.ber.proofs.Ints.{int-law, int-good}
+use Rattle.ber.proofs.Fields.{Caps, many-law}
+use Rattle.ber.proofs.Tables.{Laws, layout-law}
 use Rattle.calendar.specs.declared.Stamp.{Stamp}
 use Rattle.calendar.specs.Stamp.{stamp, stampOk}
 use Rattle.calendar.proofs.Stamps.{stamp-law}
 use Rattle.container.specs.declared.Qos.{Qos}
 use Rattle.container.specs.declared.Container.{Container}
-use Rattle.container.specs.Qos.{qosOk, sameQos, qos, toQos, ofQos}
-use Rattle.container.specs.Container.{containerOk, isNew, told, isTold, formed, container, toContainer, ofContainer, noContainer}
+use Rattle.container.specs.Qos.{qosOk, sameQos, qosTable, qos, toQos, ofQos}
+use Rattle.container.specs.Container.{containerOk, isNew, told, isTold, formed, containerTag, QosAfter, containerTable, container, toContainer}
+use Rattle.container.specs.Container.{ofContainer, noContainer}
 use Rattle.container.specs.List.{eachOk, lastAlone, oneOffset, inOrder, changes, qosRule, listOk, containers, allFormed}
 
 -- five tests that all pass
@@ -33,27 +36,30 @@ five a b c d e t =
 
 -- ---- the formats are lawful
 
+an-octet : Law anyOctet × Caps anyOctet
+an-octet = (octet-law (λ x. true), tt)
+
+qos-laws : Laws qosTable
+qos-laws = an-octet ⨾ an-octet ⨾ an-octet ⨾ an-octet ⨾ an-octet ⨾ tt
+
 pub qos-law : Law qos
 unfolding qos
 qos-law =
-    Where (As (Field 0x80 Octet tt (Field 0x81 Octet tt (Field 0x82 Octet tt (Field 0x83 Octet tt (Field 0x84 Octet tt End)))))
-    toQos ofQos (λ w g. refl) (λ q. refl)) qosOk .law
+    refined-law qosOk (mapped toQos ofQos (layout qosTable))
+    (mapped-law toQos ofQos (layout qosTable) (layout-law qosTable qos-laws tt) (λ w g. refl) (λ q. refl))
 
 pub qos-most : qos .most ≡ 15
 unfolding qos
 qos-most = refl
 
-abbrev Profile : Codec Qos
-Profile = record { fmt = qos; law = qos-law }
-
-abbrev Time : Codec Stamp
-Time = record { fmt = stamp; law = stamp-law }
+container-laws : (b : Container) → Laws (containerTable b)
+container-laws b = (qos-law, rw qos-most tt) ⨾ (int-law, tt) ⨾ (int-law, tt) ⨾ an-octet ⨾ (stamp-law, tt) ⨾ tt
 
 pub container-law : (b : Container) → Law (container b)
 unfolding container
 container-law b =
-    Where (As (UnlessKnown 0xA2 Profile (rw qos-most tt) (Field 0x83 Int tt (Field 0x84 Int tt (Field 0x85 Octet tt (Field 0x86 Time tt End)))) (told b))
-    toContainer ofContainer (λ w g. refl) (λ c. refl)) containerOk .law
+    refined-law containerOk (mapped toContainer ofContainer (layout (containerTable b)))
+    (mapped-law toContainer ofContainer (layout (containerTable b)) (layout-law (containerTable b) (container-laws b) tt) (λ w g. refl) (λ c. refl))
 
 pub container-most : (b : Container) → container b .most ≡ 53
 unfolding container qos
@@ -61,7 +67,7 @@ container-most b = refl
 
 pub containers-law : Law containers
 unfolding containers
-containers-law = many-law 0x30 container container-law 53 (λ b. omega (arith, container-most b)) tt noContainer 1 15
+containers-law = many-law containerTag container container-law 53 (λ b. omega (arith, container-most b)) tt noContainer 1 15
 
 pub containers-most : containers .most ≡ 825
 unfolding containers
@@ -82,7 +88,8 @@ pub same-qos : (a b : Qos) → sameQos a b ≡ true → a ≡ b
 unfolding sameQos
 same-qos a b h =
     let (r, d, p, k, m) =
-    five (eqb (a .reliability) (b .reliability)) (eqb (a .delay) (b .delay)) (eqb (a .precedence) (b .precedence)) (eqb (a .peak) (b .peak)) (eqb (a .mean) (b .mean))
+    five (eqb (a .reliability) (b .reliability)) (eqb (a .delay) (b .delay)) (eqb (a .precedence) (b .precedence)) (eqb (a .peak) (b .peak))
+    (eqb (a .mean) (b .mean))
     (true-T (sameQos a b) h) in
     let e₁ = eqb→eq (a .reliability) (b .reliability) r in
     let e₂ = eqb→eq (a .delay) (b .delay) d in
@@ -126,14 +133,14 @@ pub told-some : (b : Container) → isNew b ≡ false → told b ≡ some (b .qo
 unfolding told
 told-some b h = rw h
 
-new-good : (b c : Container) → T (qosOk (c .qos)) → T (isTold b c) → newGood 0xA2 qos (told b) (c .qos)
+new-good : (b c : Container) → T (qosOk (c .qos)) → T (isTold b c) → rowGood (QosAfter b) (c .qos)
 unfolding isTold
 new-good b c q t =
     by (isNew b)
     (λ y. rw (told-none b y) (qos-good (c .qos) q))
     (λ n. rw (told-some b n) (sym (same-qos (b .qos) (c .qos) (T-true _ (rw n at t)))))
 
-good-new : (b c : Container) → newGood 0xA2 qos (told b) (c .qos) → T (isTold b c)
+good-new : (b c : Container) → rowGood (QosAfter b) (c .qos) → T (isTold b c)
 unfolding isTold
 good-new b c g =
     by (isNew b)
@@ -144,8 +151,20 @@ pub container-good : (b c : Container) → T (formed b c) → container b .good 
 unfolding container qos
 container-good b c t =
     let k = and-l (containerOk c) (isTold b c) t in
-    let w = within c k in
-    ((new-good b c (w .qos) (and-r (containerOk c) (isTold b c) t), (int-good (c .uplink) (omega (arith, w .uplink)), (int-good (c .downlink) (omega (arith, w .downlink)), (tt, (w .time, tt))))), k)
+    let w = within c k in (
+      (
+        new-good b c (w .qos) (and-r (containerOk c) (isTold b c) t),
+        (
+          int-good (c .uplink) (omega (arith, w .uplink)),
+          (
+            int-good (c .downlink)
+                (omega (arith, w .downlink)),
+            (tt, (w .time, tt)),
+          ),
+        ),
+      ),
+      k,
+    )
 
 pub good-container : (b c : Container) → container b .good c → T (formed b c)
 unfolding container qos
@@ -153,12 +172,12 @@ good-container b c g = and-i (containerOk c) (isTold b c) (g .1) (good-new b c (
 
 -- ---- a list
 
-run-good : (b : Container) (cs : List Container) → T (allFormed b cs) → runGood 0x30 container b cs
+run-good : (b : Container) (cs : List Container) → T (allFormed b cs) → runGood containerTag container b cs
 unfolding allFormed
 run-good b [] t = tt
 run-good b (c ∷ cs) t = (container-good b c (and-l (formed b c) (allFormed c cs) t), run-good c cs (and-r (formed b c) (allFormed c cs) t))
 
-good-run : (b : Container) (cs : List Container) → runGood 0x30 container b cs → T (allFormed b cs)
+good-run : (b : Container) (cs : List Container) → runGood containerTag container b cs → T (allFormed b cs)
 unfolding allFormed
 good-run b [] g = tt
 good-run b (c ∷ cs) g = and-i (formed b c) (allFormed c cs) (good-container b c (g .0)) (good-run c cs (g .1))
@@ -194,7 +213,8 @@ pub first-formed : (cs : List Container) → T (eachOk cs) → T (qosRule cs) �
 unfolding allFormed eachOk isTold isNew
 first-formed [] t r = tt
 first-formed (c ∷ cs) t r =
-    and-i (formed noContainer c) (allFormed c cs) (and-i (containerOk c) true (and-l (containerOk c) (eachOk cs) t) tt) (rule-formed c cs (and-r (containerOk c) (eachOk cs) t) r)
+    and-i (formed noContainer c) (allFormed c cs) (and-i (containerOk c) true (and-l (containerOk c) (eachOk cs) t) tt)
+    (rule-formed c cs (and-r (containerOk c) (eachOk cs) t) r)
 
 -- what keeps the rules has a form
 pub list-good : (opening : Stamp) (cs : List Container) → T (listOk opening cs) → containers .good cs

@@ -1,3 +1,4 @@
+pub mod TagLists
 pub mod Goods
 pub mod Fields
 pub mod Lists

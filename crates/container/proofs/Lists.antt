@@ -24,7 +24,7 @@ use Rattle.ber.proofs.Readers.{Got, Rest, rest-whole, run-end, run-past, run-fu
 use Rattle.ber.proofs.Writers.{put-then, put-is, put-part, part-room, puts-is, puts-room, wrote-none}
 use Rattle.ber.specs.Private.Wrote.{Put}
 use Rattle.container.specs.declared.Container.{Container}
-use Rattle.container.specs.Container.{formed, container, noContainer}
+use Rattle.container.specs.Container.{containerTag, formed, container, noContainer}
 use Rattle.container.specs.List.{allFormed, containers, noContainers, listed, Listed}
 use Rattle.container.proofs.Goods.{container-law, container-good, container-most, containers-law, containers-most, each-good}
 use Rattle.container.proofs.Fields.{Filled}
@@ -37,7 +37,8 @@ module _ (s : List ℕ) where
     pub most : n ≤ 15
     pub size : length v ≡ 15
     pub blank : drop n v ≡ noContainers (15 - n)
-    pub rest : (o : Option (List Container)) → Rest (runDec 0x30 container z (15 - n)) s at o → Rest (runDec 0x30 container noContainer 15) s 0 (bind o (λ vs. some (take n v ++ vs)))
+    pub rest : (o : Option (List Container)) → Rest (runDec containerTag container z (15 - n)) s at o → Rest
+        (runDec containerTag container noContainer 15) s 0 (bind o (λ vs. some (take n v ++ vs)))
 
   bind-id : (o : Option (List Container)) → bind o (λ vs. some vs) ≡ o
   bind-id none = refl
@@ -50,7 +51,8 @@ module _ (s : List ℕ) where
   unfolding noContainers
   one-less k = refl
 
-  pub sofar-more : {v : List Container} {n at m : ℕ} {z c : Container} → SoFar v n at z → at < length s → n < 15 → Got (first 0x30 (container z)) s at c m → SoFar (set v n c) (n + 1) m c
+  pub sofar-more : {v : List Container} {n at m : ℕ} {z c : Container} → SoFar v n at z → at < length s → n < 15 → Got (first containerTag
+      (container z)) s at c m → SoFar (set v n c) (n + 1) m c
   sofar-more {v} {n} {at} {m} {z} {c} f h k g =
       let e : suc (15 - (n + 1)) ≡ 15 - n = omega arith in
       record {
@@ -58,9 +60,10 @@ module _ (s : List ℕ) where
         size = length-set v n c ∙ f .size;
         blank = drop-set-lt (n + 1) v n c (omega arith) ∙ sym (drop-drop 1 n v) ∙ ap (drop 1) (f .blank ∙ ap noContainers (sym e)) ∙ one-less (15 - (n + 1));
         rest = λ o r.
-            let q = subst (λ (j : ℕ). Rest (runDec 0x30 container z j) s at (bind o (λ vs. some (c ∷ vs)))) e (run-more 0x30 container s z (15 - (n + 1)) at h g r) in
+            let q = subst (λ (j : ℕ). Rest (runDec containerTag container z j) s at (bind o (λ vs. some (c ∷ vs)))) e (run-more containerTag container s z
+            (15 - (n + 1)) at h g r) in
             let w : take (n + 1) (set v n c) ≡ take n v ++ (c ∷ []) = rw (add-one, take-suc-set v n c (omega (arith, f .size))) in
-            subst (λ (y : Option (List Container)). Rest (runDec 0x30 container noContainer 15) s 0 y)
+            subst (λ (y : Option (List Container)). Rest (runDec containerTag container noContainer 15) s 0 y)
             (bind-bind o (λ vs. some (c ∷ vs)) (λ vs. some (take n v ++ vs))
             ∙ bind-same o _ (λ vs. some (take (n + 1) (set v n c) ++ vs))
             (λ vs. ap {B = Option (List Container)} some (sym (append-assoc (take n v) (c ∷ []) vs) ∙ ap (λ (z : List Container). z ++ vs) (sym w))))
@@ -69,9 +72,10 @@ module _ (s : List ℕ) where
 
   module _ {v : List Container} {n at : ℕ} {z : Container} (f : SoFar v n at z) where
     -- all of s was read
-    whole : at ≡ length s → runDec 0x30 container noContainer 15 s ≡ some (take n v)
+    whole : at ≡ length s → runDec containerTag container noContainer 15 s ≡ some (take n v)
     whole e =
-        rest-whole (subst (λ (y : List Container). Rest (runDec 0x30 container noContainer 15) s 0 (some y)) (append-nil (take n v)) (f .rest (some []) (run-end 0x30 container s z (15 - n) at e)))
+        rest-whole (subst (λ (y : List Container). Rest (runDec containerTag container noContainer 15) s 0 (some y)) (append-nil (take n v))
+        (f .rest (some []) (run-end containerTag container s z (15 - n) at e)))
 
     count : length (take n v) ≡ n
     count = length-take-le n v (omega (arith, f .most, f .size))
@@ -79,14 +83,14 @@ module _ (s : List ℕ) where
     -- a container was not there
     pub list-cut : length s < at → containers .dec s ≡ none
     unfolding containers container
-    list-cut h = rw (rest-whole (f .rest none (run-past 0x30 container s z (15 - n) at h)))
+    list-cut h = rw (rest-whole (f .rest none (run-past containerTag container s z (15 - n) at h)))
 
     -- 15 are, and more octets
     pub list-long : at < length s → 15 ≤ n → containers .dec s ≡ none
     unfolding containers container
     list-long h k =
         let w : 0 ≡ 15 - n = omega (arith, f .most) in
-        rw (rest-whole (f .rest none (subst (λ (j : ℕ). Rest (runDec 0x30 container z j) s at none) w (run-full 0x30 container s z at h))))
+        rw (rest-whole (f .rest none (subst (λ (j : ℕ). Rest (runDec containerTag container z j) s at none) w (run-full containerTag container s z at h))))
 
     -- none is too few
     pub list-empty : at ≡ length s → n < 1 → containers .dec s ≡ none
@@ -106,7 +110,8 @@ module _ (s : List ℕ) where
           values = rw (d, count) (sym (take-append-drop n v) ∙ ap (λ (z : List Container). take n v ++ z) (f .blank));
         }
 
-  pub listed-none : {ok : Bool} {n : ℕ} {v : List Container} → containers .dec s ≡ none → (ok ≡ false) × (n ≡ 0) × (v ≡ noContainers 15) → Listed (containers .dec s) ok n v
+  pub listed-none : {ok : Bool} {n : ℕ} {v : List Container} → containers .dec s ≡ none → (ok ≡ false) × (n ≡ 0) × (v ≡ noContainers 15) → Listed
+      (containers .dec s) ok n v
   listed-none d h = record { found = rw d (h .0); count = rw d (h .1); values = rw d (h .2) }
 
 -- what who called the reader of lists knows
@@ -127,7 +132,8 @@ listed-not {o} {n} {v} r = go o r
 -- the places after the list are blank
 pub listed-rest : {o : Option (List Container)} {ok : Bool} {n : ℕ} {v : List Container} → Listed o ok n v → drop n v ≡ noContainers (15 - n)
 listed-rest {o} {ok} {n} {v} r =
-    ap (drop n) (r .values) ∙ drop-at (listed o) (noContainers (15 - length (listed o))) n (sym (r .count)) ∙ ap (λ (k : ℕ). noContainers (15 - k)) (sym (r .count))
+    ap (drop n) (r .values) ∙ drop-at (listed o) (noContainers (15 - length (listed o))) n (sym (r .count)) ∙ ap (λ (k : ℕ). noContainers (15 - k))
+    (sym (r .count))
 
 -- ---- writing
 
@@ -136,11 +142,12 @@ abbrev pub lastOf : Container → List Container → Container
 lastOf z [] = z
 lastOf z (c ∷ cs) = lastOf c cs
 
-run-append : (z : Container) (a b : List Container) → runEnc 0x30 container z (a ++ b) ≡ runEnc 0x30 container z a ++ runEnc 0x30 container (lastOf z a) b
+run-append : (z : Container) (a b : List Container) → runEnc containerTag container z (a ++ b)
+    ≡ runEnc containerTag container z a ++ runEnc containerTag container (lastOf z a) b
 run-append z [] b = refl
 run-append z (c ∷ a) b =
-    ap (λ (l : List ℕ). tlvEnc 0x30 (container z .enc c) ++ l) (run-append c a b)
-    ∙ sym (append-assoc (tlvEnc 0x30 (container z .enc c)) (runEnc 0x30 container c a) (runEnc 0x30 container (lastOf c a) b))
+    ap (λ (l : List ℕ). tlvEnc containerTag (container z .enc c) ++ l) (run-append c a b)
+    ∙ sym (append-assoc (tlvEnc containerTag (container z .enc c)) (runEnc containerTag container c a) (runEnc containerTag container (lastOf c a) b))
 
 last-snoc : (z : Container) (a : List Container) (c : Container) → lastOf z (a ++ c ∷ []) ≡ c
 last-snoc z [] c = refl
@@ -160,10 +167,10 @@ formed-at z (c ∷ cs) zero d t h = and-l (formed z c) (allFormed c cs) t
 formed-at z (c ∷ cs) (suc i) d t h = formed-at c cs i d (and-r (formed z c) (allFormed c cs) t) (le-of-suc-le-suc h)
 
 -- a container with tag and length takes 55 octets at most
-container-fits : (z c : Container) → T (formed z c) → length (tlvEnc 0x30 (container z .enc c)) ≤ 55
+container-fits : (z c : Container) → T (formed z c) → length (tlvEnc containerTag (container z .enc c)) ≤ 55
 container-fits z c t =
     let h = container-law z .fits c (container-good z c t) in
-    tlv-fits 0x30 (container z .enc c) 53 (omega (arith, container-most z))
+    tlv-fits containerTag (container z .enc c) 53 (omega (arith, container-most z))
 
 -- A writer of x, where a test passes, that was lent the part of b from a on.
 module _ (t : Bool) (x b : List ℕ) (a m : ℕ) {ys : List ℕ} {k : ℕ} (e : length b ≡ m) (p : Puts (guard t x) (midOf a (m - a) b) ys 0 k) where
@@ -188,16 +195,16 @@ pub record Filling (v : List Container) (i : ℕ) (y b : List ℕ) (end : ℕ) (
   pub last : z ≡ lastOf noContainer (take i v)
   pub room : length b ≡ 825
   pub short : end ≤ 55 * i
-  pub front : Put (runEnc 0x30 container noContainer (take i v)) y b 0 end
+  pub front : Put (runEnc containerTag container noContainer (take i v)) y b 0 end
 
 pub filling-none : (v : List Container) (y : List ℕ) (z : Container) → length y ≡ 825 → z ≡ noContainer → Filling v 0 y y 0 z
 unfolding allFormed
 filling-none v y z e w = record { good = tt; last = w; room = e; short = omega arith; front = wrote-none .room (omega arith) }
 
 module _ {v : List Container} {i : ℕ} {y b ys : List ℕ} {end k : ℕ} {z : Container} (f : Filling v i y b end z) (d : Container) (h : i < length v) (h′ : i < 15)
-    (p : Puts (guard (formed z (getD v i d)) (tlvEnc 0x30 (container z .enc (getD v i d)))) (midOf end (825 - end) b) ys 0 k) where
+    (p : Puts (guard (formed z (getD v i d)) (tlvEnc containerTag (container z .enc (getD v i d)))) (midOf end (825 - end) b) ys 0 k) where
   abbrev next : List ℕ
-  next = tlvEnc 0x30 (container z .enc (getD v i d))
+  next = tlvEnc containerTag (container z .enc (getD v i d))
 
   fits : formed z (getD v i d) ≡ true → end + length next ≤ 825
   fits o = omega (arith, container-fits z (getD v i d) (true-T _ o), f .short)
@@ -217,11 +224,13 @@ module _ {v : List Container} {i : ℕ} {y b ys : List ℕ} {end k : ℕ} {z : C
     filling-more =
         let q = put-next in
         let w : take (i + 1) v ≡ take i v ++ (getD v i d ∷ []) = rw (add-one, take-suc v i d h) in
-        let x : runEnc 0x30 container noContainer (take (i + 1) v) ≡ runEnc 0x30 container noContainer (take i v) ++ next =
-        ap (runEnc 0x30 container noContainer) w ∙ run-append noContainer (take i v) (getD v i d ∷ [])
-        ∙ ap (λ (l : List ℕ). runEnc 0x30 container noContainer (take i v) ++ l) (append-nil _ ∙ ap (λ (z : Container). tlvEnc 0x30 (container z .enc (getD v i d))) (sym (f .last))) in
+        let x : runEnc containerTag container noContainer (take (i + 1) v) ≡ runEnc containerTag container noContainer (take i v) ++ next =
+        ap (runEnc containerTag container noContainer) w ∙ run-append noContainer (take i v) (getD v i d ∷ [])
+        ∙ ap (λ (l : List ℕ). runEnc containerTag container noContainer (take i v) ++ l) (append-nil _ ∙ ap (λ (z : Container). tlvEnc containerTag
+        (container z .enc (getD v i d))) (sym (f .last))) in
         record {
-          good = rw w (formed-snoc noContainer (take i v) (getD v i d) (f .good) (subst (λ (z : Container). T (formed z (getD v i d))) (f .last) (true-T _ ok)));
+          good = rw w (formed-snoc noContainer (take i v) (getD v i d) (f .good) (subst (λ (z : Container). T (formed z (getD v i d))) (f .last)
+              (true-T _ ok)));
           last = rw w (sym (last-snoc noContainer (take i v) (getD v i d)));
           room = q .same ∙ f .room;
           short = omega (arith, q .end, container-fits z (getD v i d) (true-T _ ok), f .short);
@@ -234,7 +243,8 @@ module _ {v : List Container} {i : ℕ} {y b ys : List ℕ} {end k : ℕ} {z : C
       let o = part-not (formed z (getD v i d)) next b end 825 (f .room) p fits (omega arith) q in
       by (allFormed noContainer (take n v))
       (λ a. absurd (subst T
-      (ap (λ (cs : List Container). formed (lastOf noContainer cs) (getD (take n v) i d)) (take-take i n v (omega arith)) ∙ ap (λ (z : Container). formed z (getD (take n v) i d)) (sym (f .last)) ∙ ap (formed z) (getD-take n v i d l) ∙ o)
+      (ap (λ (cs : List Container). formed (lastOf noContainer cs) (getD (take n v) i d)) (take-take i n v (omega arith)) ∙ ap (λ (z : Container). formed z
+      (getD (take n v) i d)) (sym (f .last)) ∙ ap (formed z) (getD-take n v i d l) ∙ o)
       (formed-at noContainer (take n v) i d (true-T _ a) (omega (arith, length-take-le n v m)))))
       (λ a. a)
 
@@ -247,10 +257,10 @@ module _ {v : List Container} {i : ℕ} {y b : List ℕ} {end : ℕ} {z : Contai
   unfolding containers container
   filling-all l h r =
       let c = length-take-le n v r in
-      let p : Put (runEnc 0x30 container noContainer (take n v)) y b 0 end = rw e at (f .front) in
+      let p : Put (runEnc containerTag container noContainer (take n v)) y b 0 end = rw e at (f .front) in
       let m = containers-law .fits (take n v) (each-good (take n v) (true-T _ filling-ok) (omega arith) (omega arith)) in
       record {
-        front = ap (take end) (p .buf) ∙ take-at (runEnc 0x30 container noContainer (take n v)) (drop end y) end (omega (arith, p .end));
+        front = ap (take end) (p .buf) ∙ take-at (runEnc containerTag container noContainer (take n v)) (drop end y) end (omega (arith, p .end));
         size = omega (arith, p .end);
         most = omega (arith, containers-most);
         inside = omega (arith, p .fits, p .same);

@@ -13,7 +13,7 @@ use Rattle.calendar.specs.declared.Stamp.{Stamp}
 use Rattle.container.specs.declared.Qos.{Qos}
 use Rattle.container.specs.declared.Container.{Container}
 use Rattle.container.specs.Qos.{sameQos, noQos}
-use Rattle.container.specs.Container.{containerOk, formed, container, noContainer}
+use Rattle.container.specs.Container.{containerOk, formed, container, containerTag, noContainer}
 
 -- every container's values are as they must be
 unfoldable pub eachOk : List Container → Bool
@@ -56,7 +56,7 @@ listOk opening cs =
 
 -- 1 to 15 of them, each of at most 53 octets
 unfoldable pub containers : Fmt (List Container)
-containers = many 0x30 container noContainer 53 1 15
+containers = many containerTag container noContainer 53 1 15
 
 -- each has a form after the one before it, the first after b
 unfoldable pub allFormed : Container → List Container → Bool

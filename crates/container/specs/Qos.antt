@@ -1,9 +1,10 @@
--- The QoS profile (12.15's QoSInformation): values and octets. Assumes nothing.
+-- The QoS profile (12.15's QoSInformation): values and octets.
 use mathlib.Core.Bool.{Bool, _&&_}
-use Prim.Native.Nat.{ℕ}
+use mathlib.Core.List.{List, [], _∷_}
 use lib.Dec.{leb, eqb}
 use Rattle.format.specs.Format.{Fmt, refined, mapped}
-use Rattle.ber.specs.Field.{field, end, anyOctet, _▸_, _⊗_, _⨾_}
+use Rattle.ber.specs.Field.{anyOctet, _⨾_}
+use Rattle.ber.specs.Table.{Row, always, Values, layout}
 use Rattle.container.specs.declared.Qos.{Qos}
 
 -- reliability 0..5, delay 0..3, precedence 0..3, peak 0..9, mean 0..18
@@ -16,19 +17,28 @@ sameQos a b =
     eqb (a .reliability) (b .reliability) && eqb (a .delay) (b .delay) && eqb (a .precedence) (b .precedence)
     && eqb (a .peak) (b .peak) && eqb (a .mean) (b .mean)
 
--- ---- its octets: 80 to 84, one octet each
+-- ---- its octets: "80..84, one octet each" (01). A row a field: its tag, when it is there, its values
+
+abbrev pub Reliability : Row
+Reliability = always 0x80 anyOctet
+
+abbrev pub Delay : Row
+Delay = always 0x81 anyOctet
+
+abbrev pub Precedence : Row
+Precedence = always 0x82 anyOctet
+
+abbrev pub Peak : Row
+Peak = always 0x83 anyOctet
+
+abbrev pub Mean : Row
+Mean = always 0x84 anyOctet
+
+abbrev pub qosTable : List Row
+qosTable = Reliability ∷ Delay ∷ Precedence ∷ Peak ∷ Mean ∷ []
 
 abbrev pub QosFields : Type 0
-QosFields = ℕ ⊗ ℕ ⊗ ℕ ⊗ ℕ ⊗ ℕ ⊗ Unit {0}
-
-abbrev pub qosLayout : Fmt QosFields
-qosLayout =
-    field 0x80 anyOctet  -- reliability
-    ▸ field 0x81 anyOctet  -- delay
-    ▸ field 0x82 anyOctet  -- precedence
-    ▸ field 0x83 anyOctet  -- peak
-    ▸ field 0x84 anyOctet  -- mean
-    ▸ end
+QosFields = Values qosTable
 
 abbrev pub toQos : QosFields → Qos
 toQos (reliability, (delay, (precedence, (peak, (mean, _))))) =
@@ -39,7 +49,7 @@ ofQos q = q .reliability ⨾ q .delay ⨾ q .precedence ⨾ q .peak ⨾ q .mean 
 
 -- the format: five octets, in range
 unfoldable pub qos : Fmt Qos
-qos = refined qosOk (mapped toQos ofQos qosLayout)
+qos = refined qosOk (mapped toQos ofQos (layout qosTable))
 
 -- nothing said
 abbrev pub noQos : Qos

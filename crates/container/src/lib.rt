@@ -14,6 +14,7 @@ pub mod profile;
 pub mod rules;
 pub mod single;
 pub mod stamp;
+mod tags;
 pub mod unused;
 
 // The QoS profile of a context: five numbers, each in its range.

@@ -1,5 +1,6 @@
 // The QoS profile: its test, its octets read and written.
 use crate::Qos;
+use crate::tags;
 use ber::field;
 use ber::tlv;
 use ber::tlv::Part;
@@ -59,20 +60,20 @@ pub fn qos_at(s: &[u8], at: usize, tag: u8) -> QosAt
             next: ber::NOWHERE,
         };
     };
-    let t = &s[a..e];
-    let f = field::octet_at(t, 0, 0x80);
-    let g = field::octet_at(t, f.next, 0x81);
-    let h = field::octet_at(t, g.next, 0x82);
-    let i = field::octet_at(t, h.next, 0x83);
-    let j = field::octet_at(t, i.next, 0x84);
+    let contents = &s[a..e];
+    let reliability = field::octet_at(contents, 0, tags::RELIABILITY);
+    let delay = field::octet_at(contents, reliability.next, tags::DELAY);
+    let precedence = field::octet_at(contents, delay.next, tags::PRECEDENCE);
+    let peak = field::octet_at(contents, precedence.next, tags::PEAK);
+    let mean = field::octet_at(contents, peak.next, tags::MEAN);
     let q = Qos {
-        reliability: f.v,
-        delay: g.v,
-        precedence: h.v,
-        peak: i.v,
-        mean: j.v,
+        reliability: reliability.v,
+        delay: delay.v,
+        precedence: precedence.v,
+        peak: peak.v,
+        mean: mean.v,
     };
-    if j.next != t.len() {
+    if mean.next != contents.len() {
         return QosAt {
             v: none,
             next: ber::NOWHERE,
@@ -95,10 +96,10 @@ pub fn put_qos(out: &mut [u8], at: usize, tag: u8, q: Qos) -> usize
         return ber::NOWHERE;
     }
     let mut b = [0u8; 15];
-    let f = field::put_octet(&mut b, 0, 0x80, q.reliability);
-    let g = field::put_octet(&mut b, f, 0x81, q.delay);
-    let h = field::put_octet(&mut b, g, 0x82, q.precedence);
-    let i = field::put_octet(&mut b, h, 0x83, q.peak);
-    let j = field::put_octet(&mut b, i, 0x84, q.mean);
-    tlv::put_tlv(out, at, tag, &b[..j])
+    let delay_at = field::put_octet(&mut b, 0, tags::RELIABILITY, q.reliability);
+    let precedence_at = field::put_octet(&mut b, delay_at, tags::DELAY, q.delay);
+    let peak_at = field::put_octet(&mut b, precedence_at, tags::PRECEDENCE, q.precedence);
+    let mean_at = field::put_octet(&mut b, peak_at, tags::PEAK, q.peak);
+    let end = field::put_octet(&mut b, mean_at, tags::MEAN, q.mean);
+    tlv::put_tlv(out, at, tag, &b[..end])
 }

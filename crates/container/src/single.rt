@@ -4,6 +4,7 @@ use crate::Qos;
 use crate::profile;
 use crate::profile::QosAt;
 use crate::stamp;
+use crate::tags;
 use ber::field;
 use ber::tlv;
 use ber::tlv::Part;
@@ -11,11 +12,12 @@ use calendar::Stamp;
 ghost use mathlib.Core.Path.{_≡_};
 ghost use Rattle.format.specs.Maybe.{guard};
 ghost use Rattle.ber.specs.Tlv.{tlvEnc};
-ghost use Rattle.ber.specs.Field.{first, new};
+ghost use Rattle.ber.specs.Field.{first};
+ghost use Rattle.ber.specs.Table.{rowDec};
 ghost use Rattle.ber.specs.Read.{Reads};
 ghost use Rattle.ber.specs.Write.{Puts};
-ghost use Rattle.container.specs.Qos.{qos, noQos};
-ghost use Rattle.container.specs.Container.{containerOk, isNew, told, isTold, formed, container, noContainer};
+ghost use Rattle.container.specs.Qos.{noQos};
+ghost use Rattle.container.specs.Container.{containerOk, isNew, isTold, formed, containerTag, QosAfter, container, noContainer};
 ghost use Rattle.container.specs.Private.NewForm.{newForm};
 
 // Is each value of a container as it must be?
@@ -66,10 +68,10 @@ fn is_new(last: Container) -> bool
 
 // The QoS of a container after another one, at the front of s, or of the last one, where it is not new: nothing is read then.
 fn qos_after(s: &[u8], last: Container) -> QosAt
-    ensures { λ r. ⌜ Reads noQos (new 0xA2 qos (told last)) (now (s .entry)) 0 (r .v) (r .next) ⌝ }
+    ensures { λ r. ⌜ Reads noQos (rowDec (QosAfter last)) (now (s .entry)) 0 (r .v) (r .next) ⌝ }
 {
     if is_new(last) {
-        return profile::qos_at(s, 0, 0xA2);
+        return profile::qos_at(s, 0, tags::QOS);
     }
     let q = last.qos;
     QosAt { v: q, next: 0 }
@@ -77,31 +79,31 @@ fn qos_after(s: &[u8], last: Container) -> QosAt
 
 // The container at a place of s, after another one. It has a QoS of its own exactly where the last one ended with a QoS change.
 pub fn container_at(s: &[u8], at: usize, last: Container) -> ContainerAt
-    ensures { λ r. ⌜ Reads noContainer (first 0x30 (container last)) (now (s .entry)) at (r .v) (r .next) ⌝ }
+    ensures { λ r. ⌜ Reads noContainer (first containerTag (container last)) (now (s .entry)) at (r .v) (r .next) ⌝ }
 {
     let none = no_container();
-    let Part::Found(a, e) = tlv::part_at(s, at, 0x30) else {
+    let Part::Found(a, e) = tlv::part_at(s, at, tags::CONTAINER) else {
         return ContainerAt {
             v: none,
             next: ber::NOWHERE,
         };
     };
-    let t = &s[a..e];
-    let f = qos_after(t, last);
-    let g = field::int_at(t, f.next, 0x83);
-    let h = field::int_at(t, g.next, 0x84);
-    let i = field::octet_at(t, h.next, 0x85);
-    let j = stamp::stamp_at(t, i.next, 0x86);
-    let qos = f.v;
-    let time = j.v;
+    let contents = &s[a..e];
+    let profile = qos_after(contents, last);
+    let uplink = field::int_at(contents, profile.next, tags::UPLINK);
+    let downlink = field::int_at(contents, uplink.next, tags::DOWNLINK);
+    let condition = field::octet_at(contents, downlink.next, tags::CONDITION);
+    let stamp = stamp::stamp_at(contents, condition.next, tags::TIME);
+    let qos = profile.v;
+    let time = stamp.v;
     let c = Container {
         qos,
-        uplink: g.v,
-        downlink: h.v,
-        condition: i.v,
+        uplink: uplink.v,
+        downlink: downlink.v,
+        condition: condition.v,
         time,
     };
-    if j.next != t.len() {
+    if stamp.next != contents.len() {
         return ContainerAt {
             v: none,
             next: ber::NOWHERE,
@@ -133,14 +135,14 @@ fn put_qos_after(out: &mut [u8], q: Qos, last: Container) -> usize
     ensures { λ r. ⌜ Puts (newForm last q) (now (out .entry)) (now (out .exit)) 0 r ⌝ }
 {
     if is_new(last) {
-        return profile::put_qos(out, 0, 0xA2, q);
+        return profile::put_qos(out, 0, tags::QOS, q);
     }
     0
 }
 
 // A container at the front of out, after another one. One that is not as it must be, or whose QoS could not be told, is not written.
 pub fn put_container(out: &mut [u8], c: Container, last: Container) -> usize
-    ensures { λ r. ⌜ Puts (guard (formed last c) (tlvEnc 0x30 (container last .enc c))) (now (out .entry)) (now (out .exit)) 0 r ⌝ }
+    ensures { λ r. ⌜ Puts (guard (formed last c) (tlvEnc containerTag (container last .enc c))) (now (out .entry)) (now (out .exit)) 0 r ⌝ }
 {
     if !container_ok(c) {
         return ber::NOWHERE;
@@ -151,10 +153,10 @@ pub fn put_container(out: &mut [u8], c: Container, last: Container) -> usize
     let q = c.qos;
     let t = c.time;
     let mut b = [0u8; 53];
-    let f = put_qos_after(&mut b, q, last);
-    let g = field::put_int(&mut b, f, 0x83, c.uplink);
-    let h = field::put_int(&mut b, g, 0x84, c.downlink);
-    let i = field::put_octet(&mut b, h, 0x85, c.condition);
-    let j = stamp::put_stamp(&mut b, i, 0x86, t);
-    tlv::put_tlv(out, 0, 0x30, &b[..j])
+    let uplink_at = put_qos_after(&mut b, q, last);
+    let downlink_at = field::put_int(&mut b, uplink_at, tags::UPLINK, c.uplink);
+    let condition_at = field::put_int(&mut b, downlink_at, tags::DOWNLINK, c.downlink);
+    let time_at = field::put_octet(&mut b, condition_at, tags::CONDITION, c.condition);
+    let end = stamp::put_stamp(&mut b, time_at, tags::TIME, t);
+    tlv::put_tlv(out, 0, tags::CONTAINER, &b[..end])
 }

@@ -1,4 +1,4 @@
--- What the reader of a record finds: all of the octets under A0, the fields, the duration, the rules. Assumes nothing.
+-- What the reader of a record finds: all of the octets under A0, the fields, the duration, the rules.
 use mathlib.Core.Path.{_≡_, refl, sym, ap, subst, _∙_}
 use mathlib.Core.Bool.{Bool, true, false, _&&_}
 use mathlib.Core.Option.{Option, none, some}
@@ -14,7 +14,8 @@ use Rattle.format.specs.Maybe.{bind, guard}
 use Rattle.format.specs.Format.{Law}
 use Rattle.format.proofs.Tests.{either}
 use Rattle.ber.specs.Tlv.{tlvDec}
-use Rattle.ber.specs.Field.{first, end, optGood, between}
+use Rattle.ber.specs.Field.{first, end}
+use Rattle.ber.specs.Table.{rowGood}
 use Rattle.ber.proofs.Places.{PartIs, part-is}
 use Rattle.container.specs.List.{containers}
 use Rattle.ber.proofs.Readers.{part-length}
@@ -22,12 +23,13 @@ use Rattle.scdr.specs.declared.Record.{Record}
 use Rattle.scdr.specs.declared.fields.Wire.{Wire}
 use Rattle.scdr.specs.Rules.{shaped, within, duration}
 use Rattle.ber.specs.Text.{orNone}
+use Rattle.scdr.specs.Table.{recordTag, NodeId}
 use Rattle.scdr.specs.Layout.{Fields, body, fieldsOf, toRecord, durationRight, inside, scdr}
 use Rattle.scdr.specs.Private.Pieces.{Wired}
 use Rattle.scdr.specs.Answers.{readOf, ReadsRecord}
 use Rattle.scdr.specs.Apn.{walk, walkIn, cut, apnPlace, apnOf, ShowsApn}
 use Rattle.scdr.specs.Private.Taken.{Taken, NotTaken}
-use Rattle.scdr.proofs.Bodied.{body-law}
+use Rattle.scdr.proofs.BodyLaw.{body-law}
 use Rattle.octets.proofs.Filled.{fill-length}
 use Rattle.container.proofs.Padded.{padded-length}
 use Rattle.scdr.proofs.Answering.{shaped-is}
@@ -36,7 +38,8 @@ use Rattle.scdr.proofs.Answering.{shaped-is}
 
 -- what was read before z counts where z is nothing
 abbrev closed : Option Record → List ℕ → Option Record
-closed o z = bind {A = Record × Unit {0}} (bind {A = Record × List ℕ} (bind o (λ r. some (r, z))) (λ q. bind (end .dec (q .1)) (λ b. some (q .0, b)))) (λ v. some (v .0))
+closed o z = bind {A = Record × Unit {0}} (bind {A = Record × List ℕ} (bind o (λ r. some (r, z))) (λ q. bind (end .dec (q .1)) (λ b. some (q .0, b))))
+    (λ v. some (v .0))
 
 closed-end : (o : Option Record) → closed o [] ≡ o
 closed-end none = refl
@@ -50,11 +53,11 @@ below : (x y : ℕ) → x ≤ y → (x ≡ y → ⊥) → x < y
 below x y h n = either y x (λ j. absurd (n (omega arith))) (λ j. j)
 
 module _ (s : List ℕ) where
-  pub scdr-absent : tlvDec 0xA0 (drop 0 s) ≡ none → scdr .dec s ≡ none
+  pub scdr-absent : tlvDec recordTag (drop 0 s) ≡ none → scdr .dec s ≡ none
   unfolding scdr first
   scdr-absent n = rw n
 
-  module _ {a e : ℕ} (p : PartIs s 0 0xA0 a e) where
+  module _ {a e : ℕ} (p : PartIs s 0 recordTag a e) where
     split : scdr .dec s ≡ closed (inside .dec (take (e - a) (drop a s))) (drop e s)
     unfolding scdr first
     split = rw (p .is)
@@ -63,22 +66,24 @@ module _ (s : List ℕ) where
     scdr-whole k = split ∙ rw (drop-of-length-le s {i = e} (omega arith)) (closed-end (inside .dec (take (e - a) (drop a s))))
 
     pub scdr-after : (e ≡ length s → ⊥) → scdr .dec s ≡ none
-    scdr-after k = split ∙ rw (drop-cons s e 0 (below e (length s) (p .inside) k)) (closed-more (inside .dec (take (e - a) (drop a s))) (getD s e 0) (drop (suc e) s))
+    scdr-after k = split ∙ rw (drop-cons s e 0 (below e (length s) (p .inside) k)) (closed-more (inside .dec (take (e - a) (drop a s))) (getD s e 0)
+        (drop (suc e) s))
 
 -- ---- what was read has the shape of a record
 
-node-most : (o : Option (List ℕ)) → optGood 0x96 (between 1 20) o → length (orNone o) ≤ 20
+node-most : (o : Option (List ℕ)) → rowGood NodeId o → length (orNone o) ≤ 20
 node-most none g = omega arith
 node-most (some x) g = g .0
 
 good-shaped : (w : Fields) → body .good w → shaped (toRecord w) ≡ true
 unfolding body toRecord containers
-good-shaped (w80, (w81, (w83, (sgsn, (id, (ggsn, (apn, (pdptype, (address, (cs, (w90, (w91, (w92, (w93, (w95, (node, end))))))))))))))))
-    (g80, (g81, (g83, (gA5, (g8A, (gAB, (g8C, (g8D, (gAE, (gAF, (g90, (g91, (g92, (g93, (g95, (g96, gend)))))))))))))))) =
-    shaped-is (toRecord (w80, (w81, (w83, (sgsn, (id, (ggsn, (apn, (pdptype, (address, (cs, (w90, (w91, (w92, (w93, (w95, (node, end)))))))))))))))))
-    (fill-length 63 0 apn (g8C .0)) (padded-length cs (gAF .2)) (fill-length 20 0 (orNone node) (node-most node g96))
-    (ltb→lt sgsn (256 ^ 4) (gA5 .0)) (ltb→lt id (2 ^ 32) (g8A .1)) (ltb→lt ggsn (256 ^ 4) (gAB .0)) (ltb→lt pdptype (256 ^ 2) g8D)
-    (ltb→lt address (256 ^ 4) (gAE .0 .0))
+good-shaped (kind, (network, (imsi, (sgsn, (id, (ggsn, (apn, (pdptype, (address, (cs, (opening, (lasts, (change, (cause, (number, (node, end))))))))))))))))
+    (_, (_, (_, (gSgsn, (gId, (gGgsn, (gApn, (gType, (gAddress, (gList, (_, (_, (_, (_, (_, (gNode, _)))))))))))))))) =
+    shaped-is
+    (toRecord (kind, (network, (imsi, (sgsn, (id, (ggsn, (apn, (pdptype, (address, (cs, (opening, (lasts, (change, (cause, (number, (node, end)))))))))))))))))
+    (fill-length 63 0 apn (gApn .0)) (padded-length cs (gList .2)) (fill-length 20 0 (orNone node) (node-most node gNode))
+    (ltb→lt sgsn (256 ^ 4) (gSgsn .0)) (ltb→lt id (2 ^ 32) (gId .1)) (ltb→lt ggsn (256 ^ 4) (gGgsn .0)) (ltb→lt pdptype (256 ^ 2) gType)
+    (ltb→lt address (256 ^ 4) (gAddress .0 .0))
 
 -- ---- the fields, the duration and the rules
 
@@ -91,7 +96,8 @@ module _ (s : List ℕ) {w : Wire} (v : Wired s w) where
   unfolding inside durationRight fieldsOf duration
   wire-read e =
       let d = v .yes e in
-      let h : shaped (w .cdr) ≡ true = ap shaped (sym (v .back)) ∙ good-shaped (fieldsOf (w .cdr) (w .lasts)) (body-law .sound s (fieldsOf (w .cdr) (w .lasts)) d .0) in
+      let h : shaped (w .cdr) ≡ true = ap shaped (sym (v .back)) ∙ good-shaped (fieldsOf (w .cdr) (w .lasts)) (body-law .sound s (fieldsOf (w .cdr)
+      (w .lasts)) d .0) in
       rw (d, v .back, h)
 
   pub wire-yes : w .ok ≡ true → (eqb (w .lasts) (duration (w .cdr)) && within (w .cdr)) ≡ true → inside .dec s ≡ some (w .cdr)
@@ -127,14 +133,14 @@ part-of-part s a n x y h k =
     let e : a + y - (a + x) ≡ y - x = omega arith in
     rw (e, ← drop-drop x a s) (sym (take-inside x y n (drop a s) h k))
 
-pub taken-record : (s : List ℕ) {a e : ℕ} (p : PartIs s 0 0xA0 a e) {w : Wire} (v : Wired (take (e - a) (drop a s)) w)
+pub taken-record : (s : List ℕ) {a e : ℕ} (p : PartIs s 0 recordTag a e) {w : Wire} (v : Wired (take (e - a) (drop a s)) w)
     → w .ok ≡ true → scdr .dec s ≡ some (w .cdr) → Taken s 0 (w .cdr) (a + w .from) (a + w .to)
 unfolding apnOf apnPlace
 taken-record s {a} {e} p {w} v t d =
     let l = part-length p in
     record {
       reads = reads-record s d;
-      place = ap (λ (z : ℕ × ℕ). (a + z .0, a + z .1)) (v .place t) ∙ sym (rw (d, ← part-is s 0 0xA0 (p .order) (p .inside) (p .is)));
+      place = ap (λ (z : ℕ × ℕ). (a + z .0, a + z .1)) (v .place t) ∙ sym (rw (d, ← part-is s 0 recordTag (p .order) (p .inside) (p .is)));
       order = omega (arith, v .order);
       inside = omega (arith, v .inside, l, p .order, p .inside);
       name = part-of-part s a (e - a) (w .from) (w .to) (v .order) (omega (arith, v .inside, l)) ∙ v .apn ∙ rw d;

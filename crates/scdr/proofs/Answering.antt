@@ -19,6 +19,7 @@ use Rattle.container.specs.List.{listOk, blanks}
 use Rattle.scdr.specs.declared.Record.{Record}
 use Rattle.octets.specs.Names.{apnOk, nodeOk}
 use Rattle.scdr.specs.Rules.{listRule, causeOk, numberOk, changeOk, shaped, within}
+use Rattle.scdr.specs.Table.{recordTag}
 use Rattle.scdr.specs.Layout.{body, ofRecord, rules, inside, scdr}
 use Rattle.scdr.specs.Answers.{writeOf, Writes, sizeOf, Sizes}
 use Rattle.scdr.proofs.Theorems.{at-most-1024}
@@ -54,23 +55,25 @@ pub writes-outside : (r : Record) (b : List ℕ) → within r ≡ false → Writ
 unfolding writeOf
 writes-outside r b e = record { is = rw e }
 
-pub octets-are : (r : Record) → tlvEnc 0xA0 (body .enc (ofRecord r)) ≡ scdr .enc r
+pub octets-are : (r : Record) → tlvEnc recordTag (body .enc (ofRecord r)) ≡ scdr .enc r
 unfolding scdr inside
-octets-are r = sym (append-nil (tlvEnc 0xA0 (body .enc (ofRecord r))))
+octets-are r = sym (append-nil (tlvEnc recordTag (body .enc (ofRecord r))))
 
 module _ (r : Record) (t : T (rules r)) where
   pub body-short : length (body .enc (ofRecord r)) ≤ 1024
-  body-short = omega (arith, at-most-1024 r t, ap length (octets-are r), tlv-length 0xA0 (body .enc (ofRecord r)))
+  body-short = omega (arith, at-most-1024 r t, ap length (octets-are r), tlv-length recordTag (body .enc (ofRecord r)))
 
-  pub octets-form : {x : List ℕ} → x ≡ body .enc (ofRecord r) → tlvForm 0xA0 x ≡ some (scdr .enc r)
-  octets-form e = ap (tlvForm 0xA0) e ∙ tlv-yes 0xA0 (body .enc (ofRecord r)) (omega (arith, body-short)) ∙ ap {B = Option (List ℕ)} some (octets-are r)
+  pub octets-form : {x : List ℕ} → x ≡ body .enc (ofRecord r) → tlvForm recordTag x ≡ some (scdr .enc r)
+  octets-form e = ap (tlvForm recordTag) e ∙ tlv-yes recordTag (body .enc (ofRecord r)) (omega (arith, body-short)) ∙ ap {B = Option (List ℕ)} some
+      (octets-are r)
 
   module _ (w : within r ≡ true) {b b′ : List ℕ} {n : ℕ} (p : Puts (some (scdr .enc r)) b b′ 0 n) where
     pub writes-full : n ≡ nowhere → Writes r b b′ 11 0
     unfolding writeOf put
     writes-full e =
         either (length (scdr .enc r)) (length b)
-        (λ k. absurd (let q = ap (λ (z : List ℕ × ℕ). z .1) (rw (le-leb (0 + length (scdr .enc r)) (length b) (omega arith)) at (p .is)) in omega (arith, at-most-1024 r t)))
+        (λ k. absurd (let q = ap (λ (z : List ℕ × ℕ). z .1) (rw (le-leb (0 + length (scdr .enc r)) (length b) (omega arith)) at (p .is)) in omega
+        (arith, at-most-1024 r t)))
         (λ k. record {
           is = rw (w, lt-leb (length (scdr .enc r)) (length b) k)
               (λ i. (11, (0, rw (lt-leb (0 + length (scdr .enc r)) (length b) (omega arith)) at (p .is) i .0)));

@@ -1,10 +1,10 @@
 pub mod Views
-pub mod Bodied
+pub mod BodyLaw
 pub mod Theorems
 pub mod Demand2
 pub mod Listed
 pub mod Printed
-pub mod Bodies
+pub mod BodyParts
 pub mod Answering
 pub mod Walks
 pub mod Reading

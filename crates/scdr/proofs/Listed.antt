@@ -1,4 +1,4 @@
--- Record lists: a list of records within the rules reads back mark by mark, and what reads is such a list. Assumes nothing.
+-- Record lists: a list of records within the rules reads back mark by mark, and what reads is such a list.
 use mathlib.Core.Path.{_≡_, refl, sym, ap, _∙_}
 use mathlib.Core.Bool.{Bool, true, false, cond, _&&_, and-eq-true-iff}
 use mathlib.Core.Option.{Option, none, some, Option·none-ne-some, Option·some-injective}
@@ -16,6 +16,7 @@ use Rattle.ber.specs.Tlv.{tlvEnc}
 use Rattle.ber.specs.Field.{first}
 use Rattle.ber.proofs.Fields.{first-complete, first-sound}
 use Rattle.scdr.specs.declared.Record.{Record}
+use Rattle.scdr.specs.Table.{recordTag}
 use Rattle.scdr.specs.Layout.{rules, body, inside, scdr}
 use Rattle.scdr.specs.List.{listEnc, markAt, listDec, recordList}
 use Rattle.scdr.proofs.Theorems.{good-is-rules, inside-law, inside-caps}
@@ -33,17 +34,17 @@ good-inside : (r : Record) → inside .good r → T (rules r)
 unfolding scdr inside
 good-inside r g = good-is-rules r .0 (g, tt)
 
-octets-are : (r : Record) → scdr .enc r ≡ tlvEnc 0xA0 (inside .enc r)
+octets-are : (r : Record) → scdr .enc r ≡ tlvEnc recordTag (inside .enc r)
 unfolding scdr
-octets-are r = append-nil (tlvEnc 0xA0 (inside .enc r))
+octets-are r = append-nil (tlvEnc recordTag (inside .enc r))
 
 -- the record at the front of octets, and what follows it
-front : (r : Record) (s : List ℕ) → T (rules r) → first 0xA0 inside (scdr .enc r ++ s) ≡ some (r, s)
-front r s t = rw (octets-are r) (first-complete 0xA0 inside inside-law inside-caps r s (inside-good r t))
+front : (r : Record) (s : List ℕ) → T (rules r) → first recordTag inside (scdr .enc r ++ s) ≡ some (r, s)
+front r s t = rw (octets-are r) (first-complete recordTag inside inside-law inside-caps r s (inside-good r t))
 
-front-sound : (s : List ℕ) (p : Record × List ℕ) → first 0xA0 inside s ≡ some p → T (rules (p .0)) × (s ≡ scdr .enc (p .0) ++ p .1)
+front-sound : (s : List ℕ) (p : Record × List ℕ) → first recordTag inside s ≡ some p → T (rules (p .0)) × (s ≡ scdr .enc (p .0) ++ p .1)
 front-sound s p e =
-    let (g, w) = first-sound 0xA0 inside inside-law inside-caps s p e in
+    let (g, w) = first-sound recordTag inside inside-law inside-caps s p e in
     (good-inside (p .0) g, w ∙ ap (λ (x : List ℕ). x ++ p .1) (sym (octets-are (p .0))))
 
 reads : (n : ℕ) (rs : List Record) → AllRight rs → length rs ≤ n → listDec n (listEnc rs) ≡ some rs
@@ -82,7 +83,7 @@ reads-list (suc n) [] rs e = let z = Option·some-injective [] rs e in rw (← z
 reads-list (suc n) (x ∷ s) rs e =
     by (markAt (x ∷ s))
     (λ m.
-    let (p, f, d) = bind-some (first 0xA0 inside (drop 2 (x ∷ s))) (λ p. bind (listDec n (p .1)) (λ rs. some (p .0 ∷ rs))) rs (rw m at e) in
+    let (p, f, d) = bind-some (first recordTag inside (drop 2 (x ∷ s))) (λ p. bind (listDec n (p .1)) (λ rs. some (p .0 ∷ rs))) rs (rw m at e) in
     let (qs, g, k) = bind-some (listDec n (p .1)) (λ rs. some (p .0 ∷ rs)) rs d in
     let z = Option·some-injective (p .0 ∷ qs) rs k in
     let (a, w) = reads-list n (p .1) qs g in

@@ -1,5 +1,5 @@
 -- The theorems of the record's octets: the rules are what the format takes, a record within them reads back, what reads is the octets of
--- one record within them and of no other, and none passes 1,024 octets. Assumes nothing.
+-- one record within them and of no other, and none passes 1,024 octets.
 use mathlib.Core.Path.{_≡_, sym, ap, _∙_}
 use mathlib.Core.Logic.{_↔_}
 use mathlib.Core.Bool.{Bool, true, false, _&&_}
@@ -10,11 +10,11 @@ use native.Mathlib.Omega.{arith}
 use lib.Dec.{T, leb, ltb, leb→le, ltb→lt, le→leb, lt→ltb}
 use lib.ListN.{length, take}
 use lib.Seq.{length-take-le}
-use Rattle.format.specs.Format.{Law, exactly}
+use Rattle.format.specs.Format.{Law}
 use Rattle.format.proofs.Tests.{and-l, and-r}
 use Rattle.format.proofs.Formats.{viewed-law, injective, refuses}
-use Rattle.ber.specs.Field.{optGood, there, unless0, unlessNone, between, _⨾_}
-use Rattle.ber.specs.Int.{counted}
+use Rattle.ber.specs.Field.{unless0, unlessNone, _⨾_}
+use Rattle.ber.specs.Table.{ifSet, rowGood, tag}
 use Rattle.ber.proofs.Ints.{int-good}
 use Rattle.ber.proofs.Fields.{Caps, alone-law}
 use Rattle.calendar.specs.declared.Stamp.{Stamp}
@@ -26,8 +26,9 @@ use Rattle.container.proofs.Goods.{each-good, first-formed}
 use Rattle.container.specs.List.{eachOk, lastAlone, oneOffset, inOrder, qosRule, listOk, allFormed, containers}
 use Rattle.scdr.specs.declared.Record.{Record}
 use Rattle.scdr.specs.Rules.{shaped, within, numberOk, lastTime, duration, durationFrom}
+use Rattle.scdr.specs.Table.{recordTag, Network, Change, Number, NodeId}
 use Rattle.scdr.specs.Layout.{body, ofRecord, fieldsOf, toRecord, durationRight, rules, inside, scdr}
-use Rattle.scdr.proofs.Bodied.{body-law}
+use Rattle.scdr.proofs.BodyLaw.{body-law}
 use Rattle.scdr.proofs.Views.{shape, withins, apn-rules, node-rules, places-rules, fields-back, record-back}
 
 -- ---- the rules of a list one by one, as far as the octets rest on them
@@ -63,7 +64,8 @@ list-rules o cs t =
 seconds-most : (c : Container) → T (containerOk c) → c .time .seconds < 3155760000
 unfolding containerOk stampOk
 seconds-most c t =
-    let u : T (stampOk (c .time)) = and-r (qosOk (c .qos) && ltb (c .uplink) (2 ^ 40) && ltb (c .downlink) (2 ^ 40) && leb (c .condition) 2) (stampOk (c .time)) t in
+    let u : T (stampOk (c .time)) = and-r (qosOk (c .qos) && ltb (c .uplink) (2 ^ 40) && ltb (c .downlink) (2 ^ 40) && leb (c .condition) 2)
+    (stampOk (c .time)) t in
     ltb→lt (c .time .seconds) 3155760000 (and-l (ltb (c .time .seconds) 3155760000) (leb (c .time .zone) 1560) u)
 
 last-most : (t : ℕ) (cs : List Container) → t < 3155760000 → T (eachOk cs) → lastTime t cs < 3155760000
@@ -77,7 +79,7 @@ opening-most o t = ltb→lt (o .seconds) 3155760000 (and-l (ltb (o .seconds) 315
 
 -- ---- optional fields
 
-flag-good : (t : ℕ) (c : List ℕ) (b : Bool) → optGood t (exactly c) (there b)
+flag-good : (t : ℕ) (c : List ℕ) (b : Bool) → rowGood (ifSet t c) b
 flag-good t c true = tt
 flag-good t c false = tt
 
@@ -85,11 +87,11 @@ number-most : (c n : ℕ) → T (numberOk c n) → n ≤ 10 ^ 15
 unfolding numberOk
 number-most c n t = leb→le n (10 ^ 15) (and-l (leb n (10 ^ 15)) _ t)
 
-number-good : (n : ℕ) → n ≤ 10 ^ 15 → optGood 0x95 counted (unless0 n)
+number-good : (n : ℕ) → n ≤ 10 ^ 15 → rowGood Number (unless0 n)
 number-good zero h = tt
 number-good (suc n) h = (int-good (suc n) (omega arith), le→leb 1 (suc n) (omega arith))
 
-octets-good : (xs : List ℕ) → length xs ≤ 20 → optGood 0x96 (between 1 20) (unlessNone xs)
+octets-good : (xs : List ℕ) → length xs ≤ 20 → rowGood NodeId (unlessNone xs)
 octets-good [] h = tt
 octets-good (x ∷ xs) h = (h, le→leb 1 (suc (length xs)) (omega arith))
 
@@ -108,7 +110,7 @@ rules-body r t =
     let apnlen : length (take (r .apnlen) (r .apn)) ≡ r .apnlen = length-take-le (r .apnlen) (r .apn) (omega (arith, h .apn, a .most)) in
     let nodelen : length (take (r .nodelen) (r .nodeid)) ≡ r .nodelen = length-take-le (r .nodelen) (r .nodeid) (omega (arith, h .node, n .most)) in
     tt
-    ⨾ flag-good 0x81 (0xFF ∷ []) (r .network)
+    ⨾ flag-good (tag Network) (0xFF ∷ []) (r .network)
     ⨾ w .imsi
     ⨾ (lt→ltb (r .sgsn) (256 ^ 4) (h .sgsn), tt)
     ⨾ (int-good (r .charging) (omega (arith, h .charging)), lt→ltb (r .charging) (2 ^ 32) (h .charging))
@@ -119,7 +121,7 @@ rules-body r t =
     ⨾ each-good (take (r .count) (r .containers)) (l .formed) (l .least) (l .most)
     ⨾ w .opening
     ⨾ int-good (durationFrom (r .opening .seconds) (take (r .count) (r .containers))) (omega arith)
-    ⨾ flag-good 0x92 (0xFF ∷ []) (r .change)
+    ⨾ flag-good (tag Change) (0xFF ∷ []) (r .change)
     ⨾ tt
     ⨾ number-good (r .number) (number-most (r .cause) (r .number) (w .number))
     ⨾ octets-good (take (r .nodelen) (r .nodeid)) (omega (arith, nodelen, n .most))
@@ -140,7 +142,7 @@ inside-caps = tt
 
 pub scdr-law : Law scdr
 unfolding scdr
-scdr-law = alone-law 0xA0 inside inside-law inside-caps
+scdr-law = alone-law recordTag inside inside-law inside-caps
 
 -- ---- the theorems
 

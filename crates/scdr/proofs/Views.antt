@@ -1,4 +1,4 @@
--- Between a record and its fields: nothing is lost either way. Assumes nothing.
+-- Between a record and its fields: nothing is lost either way.
 use mathlib.Core.Path.{_≡_, sym, ap, _∙_}
 use mathlib.Core.Bool.{_&&_}
 use mathlib.Core.List.{List}
@@ -8,7 +8,8 @@ use lib.Dec.{T, leb, ltb, eqb, eqb→eq, eqb-refl, leb→le, ltb→lt}
 use lib.ListN.{length, take, drop}
 use lib.Seq.{length-take-le}
 use Rattle.format.proofs.Tests.{and-l, and-r, T-true}
-use Rattle.ber.specs.Field.{unless0, orZero, unlessNone, _⊗_, _⨾_}
+use Rattle.ber.specs.Field.{unless0, orZero, unlessNone, _⨾_}
+use Rattle.ber.specs.Table.{tag}
 use Rattle.ber.specs.Imsi.{imsiOk}
 use Rattle.ber.proofs.Counts.{number-back, number-kept}
 use Rattle.calendar.specs.Stamp.{stampOk}
@@ -19,6 +20,7 @@ use Rattle.octets.specs.Chars.{allOf, isZero, apnChar, nodeChar}
 use Rattle.octets.specs.Names.{apnOk, nodeOk}
 use Rattle.scdr.specs.Rules.{listRule, causeOk, numberOk, changeOk, shaped, within, duration, durationFrom}
 use Rattle.ber.specs.Text.{orNone}
+use Rattle.scdr.specs.Table.{Number, NodeId}
 use Rattle.octets.specs.Filled.{fillTo}
 use Rattle.scdr.specs.Layout.{Fields, body, ofRecord, fieldsOf, toRecord, durationRight, rules}
 use Rattle.octets.proofs.Filled.{take-fill, fill-take, zeros-are}
@@ -167,9 +169,9 @@ fields-back (_, (network, (imsi, (sgsn, (id, (ggsn, (apn, (pdptype, (address, (c
     let l : take (length cs) (padded cs) ≡ cs = take-padded cs in
     let d : durationFrom (o .seconds) (take (length cs) (padded cs)) ≡ lasts =
     ap (durationFrom (o .seconds)) l ∙ sym (eqb→eq lasts (durationFrom (o .seconds) cs) t) in
-    let n : unless0 (orZero number) ≡ number = number-back 0x95 number (last .0) in
+    let n : unless0 (orZero number) ≡ number = number-back (tag Number) number (last .0) in
     let s : unlessNone (take (length (orNone node)) (fillTo 20 0 (orNone node))) ≡ node =
-    ap unlessNone (take-fill 20 0 (orNone node)) ∙ octets-back 0x96 20 node (last .1 .0) in
+    ap unlessNone (take-fill 20 0 (orNone node)) ∙ octets-back (tag NodeId) 20 node (last .1 .0) in
     λ i. tt ⨾ network ⨾ imsi ⨾ sgsn ⨾ id ⨾ ggsn ⨾ a i ⨾ pdptype ⨾ address ⨾ l i ⨾ o ⨾ d i ⨾ change ⨾ cause ⨾ n i ⨾ s i ⨾ tt
 
 -- ---- from a record to fields and back
@@ -219,7 +221,8 @@ rules-made r t =
     record {
       apn = fill-take 63 0 (r .apnlen) (r .apn) (h .apn) (a .most) (zeros-are (drop (r .apnlen) (r .apn)) (a .rest));
       apnlen = length-take-le (r .apnlen) (r .apn) (omega (arith, h .apn, a .most));
-      list = padded-take (r .count) (r .containers) (h .places) (p .most) (blanks-are (drop (r .count) (r .containers)) (T-true (blanks (drop (r .count) (r .containers))) (p .rest)));
+      list = padded-take (r .count) (r .containers) (h .places) (p .most) (blanks-are (drop (r .count) (r .containers))
+          (T-true (blanks (drop (r .count) (r .containers))) (p .rest)));
       count = length-take-le (r .count) (r .containers) (omega (arith, h .places, p .most));
       node = fill-take 20 0 (r .nodelen) (r .nodeid) (h .node) (n .most) (zeros-are (drop (r .nodelen) (r .nodeid)) (n .rest));
       nodelen = length-take-le (r .nodelen) (r .nodeid) (omega (arith, h .node, n .most));

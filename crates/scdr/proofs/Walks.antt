@@ -1,12 +1,12 @@
 -- Where a field lies: the readers that go from field to field come to the place to which `walk` comes.
 use mathlib.Core.Path.{_≡_, refl, sym, ap, subst, _∙_}
-use mathlib.Core.Bool.{Bool, true, false, cond, _&&_}
+use mathlib.Core.Bool.{Bool, true, false, not, cond, _&&_}
 use mathlib.Core.Option.{Option, none, some, Option·none-ne-some, Option·some-injective}
-use mathlib.Core.List.{List}
-use Prim.Native.Nat.{ℕ, zero, suc, _-_, _≤_, _<_}
+use mathlib.Core.List.{List, [], _∷_}
+use Prim.Native.Nat.{ℕ, zero, suc, _+_, _-_, _≤_, _<_}
 use native.Mathlib.Nat.{not-suc-le-zero, le-of-suc-le-suc}
 use native.Mathlib.Omega.{arith}
-use lib.Dec.{leb, eqb, eqb-refl}
+use lib.Dec.{T, leb, eqb, eqb-refl}
 use lib.ListN.{length, take, drop, getD, length-drop}
 use borrow.Author.Tests.{le-leb, eqb-true, eqb-false}
 use Rattle.format.specs.Maybe.{bind}
@@ -14,13 +14,15 @@ use Rattle.format.specs.Format.{Fmt, exactly}
 use Rattle.format.proofs.Tests.{by, either, T-true}
 use Rattle.format.proofs.Maybe.{bind-some, guard-some}
 use Rattle.ber.specs.Tlv.{tlvDec}
-use Rattle.ber.specs.Field.{first, starts, maybe, flagged, isThere, between}
-use Rattle.ber.specs.Read.{nowhere, here, placed, Reads, partAt}
+use Rattle.ber.specs.Field.{first, starts, maybe, flagged, isThere, new, between}
+use Rattle.ber.specs.Table.{Row, always, ifSet, ifAny, ifNew, Value, Values, rowDec, tag, tags, among}
+use Rattle.ber.specs.Read.{nowhere, partAt}
 use Rattle.ber.specs.Text.{Copies, rawOf, Raw}
 use Rattle.ber.specs.declared.tlv.Part.{Part}
 use Rattle.ber.specs.declared.tlv.Part.the-variants as P
 use Rattle.ber.proofs.Places.{part-end, part-other, part-none, part-some, part-is, PartIs}
-use Rattle.ber.proofs.Readers.{here-no, reads-found, first-leaves, flagged-leaves, part-length}
+use Rattle.ber.proofs.Readers.{Got, reads-found, first-leaves, part-length}
+use Rattle.ber.proofs.Tables.{not-l, not-r, Gets, got-found}
 use Rattle.ber.proofs.Texts.{octets-only, copies-reads}
 use Rattle.scdr.specs.Apn.{walk}
 
@@ -62,19 +64,19 @@ module _ (u : ℕ) {A : Type 0} (x : Fmt A) (s : List ℕ) (at : ℕ) {v : A} {n
 
 -- ---- one value after another
 
--- a reader from nowhere answers nowhere
-pub lives : {A : Type 0} {blank : A} {p : List ℕ → Option (A × List ℕ)} {s : List ℕ} {at next : ℕ} {v : A}
-    → length s < nowhere → Reads blank p s at v next → next ≤ length s → at ≤ length s
-unfolding placed
-lives {A} {blank} {p} {s} {at} {next} h r k =
-    either at (length s) (λ j. j)
-    (λ j. absurd (let e : next ≡ nowhere = ap (λ (z : A × ℕ). z .1) (r .is ∙ ap (λ (o : Option (List ℕ)). placed blank s (bind o p)) (here-no s at j)) in
-    omega arith))
-
 -- among k values or more from a place on, what is sought under t lies at z
 pub record Finds (k t : ℕ) (s : List ℕ) (at : ℕ) (z : ℕ × ℕ) : Type 0 where
   pub place : at ≤ length s
   pub is : (n : ℕ) → k ≤ n → walk n t s at ≡ z
+
+more : {k m t : ℕ} {s : List ℕ} {at : ℕ} {z : ℕ × ℕ} → Finds k t s at z → k ≤ m → Finds m t s at z
+more f h = record { place = f .place; is = λ n l. f .is n (omega arith) }
+
+-- it lies after nothing
+stays : (s : List ℕ) (at next k t : ℕ) (z : ℕ × ℕ) → at ≤ length s → drop at s ≡ drop next s → Finds k t s next z → Finds (suc k) t s at z
+stays s at next k t z j e f =
+    let same : next ≡ at = omega (arith, ap length e, length-drop at s, length-drop next s, f .place) in
+    record { place = j; is = λ n o. subst (λ (y : ℕ). walk n t s y ≡ z) same (f .is n (omega arith)) }
 
 -- it lies after a value under another tag
 over-value : (u : ℕ) {A : Type 0} (x : Fmt A) (s : List ℕ) (at : ℕ) {v : A} {next k t : ℕ} {z : ℕ × ℕ}
@@ -85,32 +87,46 @@ over-value u x s at {v} {next} {k} {t} {z} j d ne f = record { place = j; is = g
     go zero h = absurd (not-suc-le-zero h)
     go (suc n) h = let (a, p, _) = value-part u x s at (f .place) d in walk-part p n t ∙ rw ne (f .is n (le-of-suc-le-suc h))
 
-module _ {s : List ℕ} (h : length s < nowhere) {at next k t : ℕ} {z : ℕ × ℕ} where
-  pub finds-over : (u : ℕ) {A : Type 0} (x : Fmt A) {blank v : A} → Reads blank (first u x) s at v next → eqb u t ≡ false
-      → Finds k t s next z → Finds (suc k) t s at z
-  finds-over u x r ne f =
-      let (j, _, d) = reads-found (first-leaves u x) h r (λ e. omega (arith, f .place)) in
-      over-value u x s at j d ne f
+-- or after a value that may be missing, and may be such a one
+over-maybe : (u : ℕ) {A : Type 0} (x : Fmt A) (s : List ℕ) (at next k t : ℕ) (z : ℕ × ℕ) (q : Option A × List ℕ)
+    → at ≤ length s → maybe u x (drop at s) ≡ some q → q .1 ≡ drop next s → eqb u t ≡ false → Finds k t s next z → Finds (suc k) t s at z
+unfolding maybe
+over-maybe u {A} x s at next k t z q j g l ne f =
+    by (starts u (drop at s))
+    (λ y.
+    let (b, m, o) = bind-some (first u x (drop at s)) (λ p. some (some (p .0), p .1)) q (rw y at g) in
+    let e : b .1 ≡ drop next s = ap (λ (y : Option A × List ℕ). y .1) (Option·some-injective (some (b .0), b .1) q o) ∙ l in
+    over-value u x s at j (m ∙ ap {B = Option (A × List ℕ)} (λ (y : List ℕ). some (b .0, y)) e) ne f)
+    (λ y. stays s at next k t z j (ap (λ (y : Option A × List ℕ). y .1) (Option·some-injective (none, drop at s) q (rw y at g)) ∙ l) f)
 
-  -- a flag is there, or nothing is
-  pub finds-flag : (u : ℕ) (c : List ℕ) {v : Bool} → Reads false (flagged u c) s at v next → eqb u t ≡ false → Finds k t s next z → Finds (suc k) t s at z
-  unfolding flagged maybe
-  finds-flag u c {v} r ne f =
-      let (j, _, d) = reads-found (flagged-leaves u c) h r (λ e. omega (arith, f .place)) in
-      let (q, g, w) = bind-some (maybe u (exactly c) (drop at s)) (λ p. some (isThere (p .0), p .1)) (v, drop next s) d in
-      go j q g (ap (λ (y : Bool × List ℕ). y .1) (Option·some-injective (isThere (q .0), q .1) (v, drop next s) w))
-    where
-      go : at ≤ length s → (q : Option (Unit {0}) × List ℕ) → maybe u (exactly c) (drop at s) ≡ some q → q .1 ≡ drop next s → Finds (suc k) t s at z
-      go j q g l =
-          by (starts u (drop at s))
-          (λ y.
-          let (b, m, o) = bind-some (first u (exactly c) (drop at s)) (λ p. some (some (p .0), p .1)) q (rw y at g) in
-          let e : b .1 ≡ drop next s = ap (λ (y : Option (Unit {0}) × List ℕ). y .1) (Option·some-injective (some (b .0), b .1) q o) ∙ l in
-          over-value u (exactly c) s at j (m ∙ ap {B = Option (Unit {0} × List ℕ)} (λ (y : List ℕ). some (b .0, y)) e) ne f)
-          (λ y.
-          let e : drop at s ≡ drop next s = ap (λ (y : Option (Unit {0}) × List ℕ). y .1) (Option·some-injective (none, drop at s) q (rw y at g)) ∙ l in
-          let same : next ≡ at = omega (arith, ap length e, length-drop at s, length-drop next s, f .place) in
-          record { place = j; is = λ n o. subst (λ (y : ℕ). walk n t s y ≡ z) same (f .is n (omega arith)) })
+over-row : (r : Row) (s : List ℕ) (at next k t : ℕ) (z : ℕ × ℕ) (v : Value r) → Got (rowDec r) s at v next → eqb (tag r) t ≡ false
+    → Finds k t s next z → Finds (suc k) t s at z
+unfolding flagged new
+over-row (always u x) s at next k t z v g ne f =
+    let (j, d) = got-found s (first u x) at next v g (f .place) in
+    over-value u x s at j d ne f
+over-row (ifSet u c) s at next k t z v g ne f =
+    let (j, d) = got-found s (flagged u c) at next v g (f .place) in
+    let (q, m, w) = bind-some (maybe u (exactly c) (drop at s)) (λ p. some (isThere (p .0), p .1)) (v, drop next s) d in
+    over-maybe u (exactly c) s at next k t z q j m (ap (λ (y : Bool × List ℕ). y .1) (Option·some-injective (isThere (q .0), q .1) (v, drop next s) w)) ne f
+over-row (ifAny u x) s at next k t z v g ne f =
+    let (j, d) = got-found s (maybe u x) at next v g (f .place) in
+    over-maybe u x s at next k t z (v, drop next s) j d refl ne f
+over-row (ifNew u x none) s at next k t z v g ne f =
+    let (j, d) = got-found s (new u x none) at next v g (f .place) in
+    over-value u x s at j d ne f
+over-row (ifNew u {A} x (some b)) s at next k t z v g ne f =
+    let (j, d) = got-found s (new u x (some b)) at next v g (f .place) in
+    stays s at next k t z j (ap (λ (y : A × List ℕ). y .1) (Option·some-injective (b, drop at s) (v, drop next s) d)) f
+
+-- or after rows that have other tags
+pub finds-rows : (s : List ℕ) (rs : List Row) (at next k t : ℕ) (z : ℕ × ℕ) (v : Values rs) → Gets s rs at v next → T (not (among t (tags rs)))
+    → Finds k t s next z → Finds (length rs + k) t s at z
+finds-rows s [] at next k t z v g ne f = subst (λ (m : ℕ). Finds (0 + k) t s m z) (sym g) (more f (omega arith))
+finds-rows s (r ∷ rs) at next k t z v (m, g, gs) ne f =
+    let h = not-l (eqb (tag r) t) (among t (tags rs)) ne in
+    more (over-row r s at m (length rs + k) t z (v .0) g h (finds-rows s rs m next k t z (v .1) gs (not-r (eqb (tag r) t) (among t (tags rs)) ne) f))
+    (omega arith)
 
 module _ {s : List ℕ} (h : length s < nowhere) {at next t : ℕ} where
   -- what was copied lies where it was looked for

@@ -9,9 +9,11 @@ use lib.Dec.{eqb}
 use lib.ListN.{length, take, drop, getD}
 use denote.Ref.{RefT, ptr, now}
 use Rattle.ber.specs.Read.{partAt}
+use Rattle.ber.specs.Table.{tag}
 use Rattle.ber.specs.declared.tlv.Part.{Part}
 use Rattle.ber.specs.declared.tlv.Part.the-variants as P
 use Rattle.scdr.specs.declared.Record.{Record}
+use Rattle.scdr.specs.Table.{recordTag, Apn, table}
 use Rattle.scdr.specs.Layout.{scdr}
 
 -- ---- a part of octets: where it begins, and where it ends
@@ -42,9 +44,10 @@ abbrev pub ifRead : Option Record → ℕ × ℕ → ℕ × ℕ
 ifRead none z = (0, 0)
 ifRead (some r) z = z
 
--- Where it lies in s: the contents under 8C, of the at most 16 fields under A0. Where s is no record within the rules, the empty part at the start.
+-- Where it lies in s: the contents under 8C, among the fields under A0, of which the table has so many. Where s is no record within the rules, the empty
+-- part at the start.
 unfoldable pub apnPlace : List ℕ → ℕ × ℕ
-apnPlace s = ifRead (scdr .dec s) (walkIn 16 0x8C s (partAt s 0 0xA0))
+apnPlace s = ifRead (scdr .dec s) (walkIn (length table) (tag Apn) s (partAt s 0 recordTag))
 
 -- the access point name of what was read
 unfoldable pub apnOf : Option Record → List ℕ

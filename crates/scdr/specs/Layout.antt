@@ -1,87 +1,48 @@
--- The record's octets (12.15's SGSNPDPRecord): A0, and inside the fields in ascending order.
+-- The record's octets (12.15's SGSNPDPRecord): A0, and inside the fields of the table in their order.
 use mathlib.Core.Bool.{Bool, _&&_}
-use mathlib.Core.Option.{Option}
-use mathlib.Core.List.{List, [], _∷_}
-use Prim.Native.Nat.{ℕ, _^_}
-use lib.Dec.{ltb, eqb}
+use mathlib.Core.List.{List}
+use Prim.Native.Nat.{ℕ}
+use lib.Dec.{eqb}
 use lib.ListN.{length, take}
-use Rattle.format.specs.Format.{Fmt, exactly, refined, viewed}
+use Rattle.format.specs.Format.{Fmt, viewed}
 use Rattle.octets.specs.Filled.{fillTo}
-use Rattle.ber.specs.Int.{int, counted}
-use Rattle.ber.specs.Field.{field, end, alone, optional, flag, between, anyOctet, unless0, orZero, unlessNone, _▸_, _⊗_, _⨾_}
-use Rattle.ber.specs.Fixed.{fixed, ipv4}
-use Rattle.ber.specs.Imsi.{imsi}
+use Rattle.ber.specs.Field.{alone, unless0, orZero, unlessNone, _⨾_}
+use Rattle.ber.specs.Table.{Values, layout}
 use Rattle.ber.specs.Text.{orNone}
-use Rattle.calendar.specs.declared.Stamp.{Stamp}
-use Rattle.calendar.specs.Stamp.{stamp}
-use Rattle.container.specs.declared.Container.{Container}
-use Rattle.container.specs.List.{containers, padded}
+use Rattle.container.specs.List.{padded}
 use Rattle.scdr.specs.declared.Record.{Record}
 use Rattle.scdr.specs.Rules.{shaped, within, duration, durationFrom}
+use Rattle.scdr.specs.Table.{recordTag, table}
 
--- ---- the fields, ascending, a line each, with 01's words ("The record's octets")
+-- ---- the fields
 
 abbrev pub Fields : Type 0
-Fields =
-    Unit {0}  -- 80
-    ⊗ Bool  -- 81
-    ⊗ List ℕ  -- 83
-    ⊗ ℕ  -- A5
-    ⊗ ℕ  -- 8A
-    ⊗ ℕ  -- AB
-    ⊗ List ℕ  -- 8C
-    ⊗ ℕ  -- 8D
-    ⊗ ℕ  -- AE
-    ⊗ List Container  -- AF
-    ⊗ Stamp  -- 90
-    ⊗ ℕ  -- 91
-    ⊗ Bool  -- 92
-    ⊗ ℕ  -- 93
-    ⊗ Option ℕ  -- 95
-    ⊗ Option (List ℕ)  -- 96
-    ⊗ Unit {0}
+Fields = Values table
 
 unfoldable pub body : Fmt Fields
-body =
-    field 0x80 (exactly (18 ∷ []))  -- record type 18
-    ▸ flag 0x81 (0xFF ∷ [])  -- network initiation (only when set, FF)
-    ▸ field 0x83 imsi  -- IMSI, half the digits rounded up, odd ones filled with F
-    ▸ field 0xA5 ipv4  -- SGSN
-    ▸ field 0x8A (refined (λ n. ltb n (2 ^ 32)) int)  -- charging ID
-    ▸ field 0xAB ipv4  -- GGSN
-    ▸ field 0x8C (between 1 63)  -- APN
-    ▸ field 0x8D (fixed 2)  -- PDP type
-    ▸ field 0xAE (alone 0xA0 ipv4)  -- served address, an A0 around it
-    ▸ field 0xAF containers  -- containers
-    ▸ field 0x90 stamp  -- opening time
-    ▸ field 0x91 int  -- duration
-    ▸ flag 0x92 (0xFF ∷ [])  -- SGSN change (FF; in which records, the node's rules say)
-    ▸ field 0x93 anyOctet  -- cause
-    ▸ optional 0x95 counted  -- sequence number
-    ▸ optional 0x96 (between 1 20)  -- node ID (if not empty)
-    ▸ end
+body = layout table
 
 -- ---- between a record and its fields
 
 -- the fields of a record that lasted so long
 unfoldable pub fieldsOf : Record → ℕ → Fields
 fieldsOf r lasts =
-    tt  -- 80
-    ⨾ r .network  -- 81
-    ⨾ r .imsi  -- 83
-    ⨾ r .sgsn  -- A5
-    ⨾ r .charging  -- 8A
-    ⨾ r .ggsn  -- AB
-    ⨾ take (r .apnlen) (r .apn)  -- 8C
-    ⨾ r .pdptype  -- 8D
-    ⨾ r .address  -- AE
-    ⨾ take (r .count) (r .containers)  -- AF
-    ⨾ r .opening  -- 90
-    ⨾ lasts  -- 91
-    ⨾ r .change  -- 92
-    ⨾ r .cause  -- 93
-    ⨾ unless0 (r .number)  -- 95
-    ⨾ unlessNone (take (r .nodelen) (r .nodeid))  -- 96
+    tt  -- the record type says nothing
+    ⨾ r .network
+    ⨾ r .imsi
+    ⨾ r .sgsn
+    ⨾ r .charging
+    ⨾ r .ggsn
+    ⨾ take (r .apnlen) (r .apn)
+    ⨾ r .pdptype
+    ⨾ r .address
+    ⨾ take (r .count) (r .containers)
+    ⨾ r .opening
+    ⨾ lasts
+    ⨾ r .change
+    ⨾ r .cause
+    ⨾ unless0 (r .number)
+    ⨾ unlessNone (take (r .nodelen) (r .nodeid))
     ⨾ tt
 
 unfoldable pub ofRecord : Record → Fields
@@ -122,4 +83,4 @@ unfoldable pub inside : Fmt Record
 inside = viewed durationRight rules toRecord ofRecord body
 
 unfoldable pub scdr : Fmt Record
-scdr = alone 0xA0 inside
+scdr = alone recordTag inside

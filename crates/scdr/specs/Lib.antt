@@ -1,4 +1,5 @@
 pub mod Rules
+pub mod Table
 pub mod Layout
 pub mod Sample
 pub mod Answers

@@ -8,6 +8,7 @@ use lib.ListN.{length, getD, drop}
 use Rattle.format.specs.Maybe.{bind}
 use Rattle.ber.specs.Field.{first}
 use Rattle.scdr.specs.declared.Record.{Record}
+use Rattle.scdr.specs.Table.{recordTag}
 use Rattle.scdr.specs.Layout.{inside, scdr}
 
 -- the octets of a list
@@ -25,7 +26,7 @@ listDec zero [] = some []
 listDec zero (x ∷ s) = none
 listDec (suc n) [] = some []
 listDec (suc n) (x ∷ s) =
-    cond (markAt (x ∷ s)) (bind (first 0xA0 inside (drop 2 (x ∷ s))) (λ p. bind (listDec n (p .1)) (λ rs. some (p .0 ∷ rs)))) none
+    cond (markAt (x ∷ s)) (bind (first recordTag inside (drop 2 (x ∷ s))) (λ p. bind (listDec n (p .1)) (λ rs. some (p .0 ∷ rs)))) none
 
 -- the list whose octets s is, if it reads in full
 unfoldable pub recordList : List ℕ → Option (List Record)

@@ -2,6 +2,7 @@
 use crate::Record;
 use crate::duration;
 use crate::parts;
+use crate::tags;
 use ber::text;
 use container::list;
 ghost use lib.Dec.{T};
@@ -16,14 +17,14 @@ pub fn put_body(out: &mut [u8], r: Record) -> usize
 {
     let imsi = r.imsi;
     let apn = r.apn;
-    let v = r.containers;
+    let containers = r.containers;
     let opening = r.opening;
     let nodeid = r.nodeid;
-    let last = v[r.count - 1];
+    let last = containers[r.count - 1];
     let lasts = duration::lasted(last, opening);
-    let a = parts::put_front(out, 0, r.network, imsi, r.sgsn, r.charging);
-    let b = parts::put_pdp(out, a, r.ggsn, apn, r.apnlen, r.pdptype, r.address);
-    let c = list::put_list(out, b, 0xAF, v, r.count);
-    let d = parts::put_end(out, c, opening, lasts, r.change, r.cause, r.number);
-    text::put_opt_text(out, d, 0x96, &nodeid, r.nodelen)
+    let pdp_at = parts::put_front(out, 0, r.network, imsi, r.sgsn, r.charging);
+    let list_at = parts::put_pdp(out, pdp_at, r.ggsn, apn, r.apnlen, r.pdptype, r.address);
+    let end_at = list::put_list(out, list_at, tags::CONTAINERS, containers, r.count);
+    let node_at = parts::put_end(out, end_at, opening, lasts, r.change, r.cause, r.number);
+    text::put_opt_text(out, node_at, tags::NODE_ID, &nodeid, r.nodelen)
 }

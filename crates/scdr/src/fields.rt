@@ -1,6 +1,7 @@
 // The reader of a record's fields: straight-line code, each field from where the last ended. A field that is not there answers
 // NOWHERE, and every later one fails from there by itself.
 use crate::Record;
+use crate::tags;
 use ber::address;
 use ber::count;
 use ber::field;
@@ -26,52 +27,52 @@ pub struct Wire {
 pub fn read_fields(s: &[u8]) -> Wire
     ensures { λ w. ⌜ Wired (now (s .entry)) w ⌝ }
 {
-    let a = field::const_at(s, 0, 0x80, 18);
-    let b = flag::flag_at(s, a, 0x81);
-    let c = imsi::imsi_at(s, b.next, 0x83);
-    let d = address::address_at(s, c.next, 0xA5);
-    let e = word::word_at(s, d.next, 0x8A);
-    let f = address::address_at(s, e.next, 0xAB);
+    let kind_end = field::const_at(s, 0, tags::RECORD_TYPE, 18);
+    let network = flag::flag_at(s, kind_end, tags::NETWORK);
+    let imsi = imsi::imsi_at(s, network.next, tags::IMSI);
+    let sgsn = address::address_at(s, imsi.next, tags::SGSN);
+    let charging = word::word_at(s, sgsn.next, tags::CHARGING_ID);
+    let ggsn = address::address_at(s, charging.next, tags::GGSN);
     let mut apn = [0u8; 63];
-    let g = text::octets_at(s, f.next, 0x8C, 1, &mut apn);
-    let h = fixed::pair_at(s, g.next, 0x8D);
-    let i = address::address_in_at(s, h.next, 0xAE);
-    let j = containers::list_at(s, i.next, 0xAF);
-    let k = stamp::stamp_at(s, j.next, 0x90);
-    let l = field::int_at(s, k.next, 0x91);
-    let m = flag::flag_at(s, l.next, 0x92);
-    let n = field::octet_at(s, m.next, 0x93);
-    let o = count::count_at(s, n.next, 0x95);
+    let name = text::octets_at(s, ggsn.next, tags::APN, 1, &mut apn);
+    let pdptype = fixed::pair_at(s, name.next, tags::PDP_TYPE);
+    let served = address::address_in_at(s, pdptype.next, tags::SERVED);
+    let list = containers::list_at(s, served.next, tags::CONTAINERS);
+    let stamp = stamp::stamp_at(s, list.next, tags::OPENING);
+    let lasts = field::int_at(s, stamp.next, tags::DURATION);
+    let change = flag::flag_at(s, lasts.next, tags::CHANGE);
+    let cause = field::octet_at(s, change.next, tags::CAUSE);
+    let number = count::count_at(s, cause.next, tags::NUMBER);
     let mut nodeid = [0u8; 20];
-    let p = text::text_at(s, o.next, 0x96, &mut nodeid);
-    let y = text::part_in(s, f.next, 0x8C, 63);
-    let digits = c.v;
-    let containers = j.v;
-    let opening = k.v;
+    let node = text::text_at(s, number.next, tags::NODE_ID, &mut nodeid);
+    let place = text::part_in(s, ggsn.next, tags::APN, 63);
+    let digits = imsi.v;
+    let containers = list.v;
+    let opening = stamp.v;
     let cdr = Record {
-        network: b.on,
+        network: network.on,
         imsi: digits,
-        sgsn: d.v,
-        charging: e.v,
-        ggsn: f.v,
+        sgsn: sgsn.v,
+        charging: charging.v,
+        ggsn: ggsn.v,
         apn,
-        apnlen: g.n,
-        pdptype: h.v,
-        address: i.v,
+        apnlen: name.n,
+        pdptype: pdptype.v,
+        address: served.v,
         containers,
-        count: j.n,
+        count: list.n,
         opening,
-        change: m.on,
-        cause: n.v,
-        number: o.v,
+        change: change.on,
+        cause: cause.v,
+        number: number.v,
         nodeid,
-        nodelen: p.n,
+        nodelen: node.n,
     };
     Wire {
         cdr,
-        lasts: l.v,
-        ok: p.next == s.len(),
-        from: y.a,
-        to: y.e,
+        lasts: lasts.v,
+        ok: node.next == s.len(),
+        from: place.a,
+        to: place.e,
     }
 }

@@ -6,6 +6,7 @@ mod fields;
 mod parts;
 pub mod read;
 pub mod rules;
+mod tags;
 pub mod write;
 
 use calendar::Stamp;

@@ -1,4 +1,5 @@
 // The parts of a record's octets.
+use crate::tags;
 use ber::address;
 use ber::count;
 use ber::field;
@@ -16,7 +17,7 @@ ghost use Rattle.ber.specs.Private.Wrote.{Wrote};
 ghost use Rattle.scdr.specs.Private.Parts.{frontEnc, pdpEnc, endEnc};
 ghost use Rattle.calendar.specs.Stamp.{stampOk};
 
-// 80 record type, 81 network initiation, 83 IMSI, A5 SGSN, 8A charging ID.
+// Record type, network initiation, IMSI, SGSN, charging ID.
 pub fn put_front(
     out: &mut [u8],
     at: usize,
@@ -28,14 +29,14 @@ pub fn put_front(
     requires { ⌜ T (imsiOk imsi) ⌝ }
     ensures { λ z. ⌜ Wrote (frontEnc network imsi sgsn charging) (now (out .entry)) (now (out .exit)) at z ⌝ }
 {
-    let a = field::put_octet(out, at, 0x80, 18);
-    let b = flag::put_flag(out, a, 0x81, network);
-    let c = imsi::put_imsi(out, b, 0x83, imsi);
-    let d = address::put_address(out, c, 0xA5, sgsn);
-    field::put_int(out, d, 0x8A, charging as u64)
+    let network_at = field::put_octet(out, at, tags::RECORD_TYPE, 18);
+    let imsi_at = flag::put_flag(out, network_at, tags::NETWORK, network);
+    let sgsn_at = imsi::put_imsi(out, imsi_at, tags::IMSI, imsi);
+    let charging_at = address::put_address(out, sgsn_at, tags::SGSN, sgsn);
+    field::put_int(out, charging_at, tags::CHARGING_ID, charging as u64)
 }
 
-// AB GGSN, 8C access point name, 8D PDP type, AE served address.
+// GGSN, access point name, PDP type, served address.
 pub fn put_pdp(
     out: &mut [u8],
     at: usize,
@@ -48,13 +49,13 @@ pub fn put_pdp(
     requires { ⌜ apnlen ≤ 63 ⌝ }
     ensures { λ z. ⌜ Wrote (pdpEnc ggsn (take apnlen apn) pdptype served) (now (out .entry)) (now (out .exit)) at z ⌝ }
 {
-    let a = address::put_address(out, at, 0xAB, ggsn);
-    let b = text::put_text(out, a, 0x8C, &apn, apnlen);
-    let c = fixed::put_pair(out, b, 0x8D, pdptype);
-    address::put_address_in(out, c, 0xAE, served)
+    let apn_at = address::put_address(out, at, tags::GGSN, ggsn);
+    let type_at = text::put_text(out, apn_at, tags::APN, &apn, apnlen);
+    let served_at = fixed::put_pair(out, type_at, tags::PDP_TYPE, pdptype);
+    address::put_address_in(out, served_at, tags::SERVED, served)
 }
 
-// 90 opening time, 91 duration, 92 SGSN change, 93 cause, 95 number.
+// Opening time, duration, SGSN change, cause, number.
 pub fn put_end(
     out: &mut [u8],
     at: usize,
@@ -67,9 +68,9 @@ pub fn put_end(
     requires { ⌜ T (stampOk opening) ⌝ }
     ensures { λ z. ⌜ Wrote (endEnc opening lasts change cause number) (now (out .entry)) (now (out .exit)) at z ⌝ }
 {
-    let a = stamp::put_stamp(out, at, 0x90, opening);
-    let b = field::put_int(out, a, 0x91, lasts as u64);
-    let c = flag::put_flag(out, b, 0x92, change);
-    let d = field::put_octet(out, c, 0x93, cause);
-    count::put_count(out, d, 0x95, number)
+    let duration_at = stamp::put_stamp(out, at, tags::OPENING, opening);
+    let change_at = field::put_int(out, duration_at, tags::DURATION, lasts as u64);
+    let cause_at = flag::put_flag(out, change_at, tags::CHANGE, change);
+    let number_at = field::put_octet(out, cause_at, tags::CAUSE, cause);
+    count::put_count(out, number_at, tags::NUMBER, number)
 }

@@ -3,6 +3,7 @@ use crate::Record;
 use crate::duration;
 use crate::fields;
 use crate::rules;
+use crate::tags;
 use ber::tlv;
 use ber::tlv::Part;
 ghost use mathlib.Core.Path.{_≡_};
@@ -23,10 +24,10 @@ pub struct Read {
 pub fn read_record(s: &[u8]) -> Read
     ensures { λ z. ⌜ ReadsRecord (now (s .entry)) (z .answer) (z .cdr) ⌝ }
 {
-    let w = take_apart(s);
-    let cdr = w.cdr;
+    let whole = take_apart(s);
+    let cdr = whole.cdr;
     Read {
-        answer: w.answer,
+        answer: whole.answer,
         cdr,
     }
 }
@@ -35,10 +36,10 @@ pub fn read_record(s: &[u8]) -> Read
 pub fn apn_part(s: &[u8]) -> &[u8]
     ensures { λ r. ⌜ ShowsApn (s .entry) r ⌝ }
 {
-    let w = take_apart(s);
-    let a = w.from;
-    let e = w.to;
-    &s[a..e]
+    let whole = take_apart(s);
+    let from = whole.from;
+    let to = whole.to;
+    &s[from..to]
 }
 
 // What is read of a record: the answer, the record, and where its access point name lies.
@@ -52,23 +53,23 @@ struct Whole {
 fn take_apart(s: &[u8]) -> Whole
     ensures { λ z. ⌜ Taken (now (s .entry)) (z .answer) (z .cdr) (z .from) (z .to) ⌝ }
 {
-    let Part::Found(a, e) = tlv::part_at(s, 0, 0xA0) else {
+    let Part::Found(a, e) = tlv::part_at(s, 0, tags::RECORD) else {
         return no_record();
     };
     if e != s.len() {
         return no_record();
     }
-    let w = fields::read_fields(&s[a..e]);
-    let cdr = w.cdr;
-    if !w.ok {
+    let wire = fields::read_fields(&s[a..e]);
+    let cdr = wire.cdr;
+    if !wire.ok {
         return no_record();
     }
-    if passes(cdr, w.lasts) {
+    if passes(cdr, wire.lasts) {
         return Whole {
             answer: 0,
             cdr,
-            from: a + w.from,
-            to: a + w.to,
+            from: a + wire.from,
+            to: a + wire.to,
         };
     }
     no_record()
@@ -81,9 +82,9 @@ fn passes(r: Record, lasts: u64) -> bool
     if !rules::within(r) {
         return false;
     }
-    let v = r.containers;
+    let containers = r.containers;
     let opening = r.opening;
-    lasts == duration::duration(v, r.count, opening) as u64
+    lasts == duration::duration(containers, r.count, opening) as u64
 }
 
 // No record: 20, and all zero.

@@ -14,15 +14,16 @@ pub fn within(r: Record) -> bool
     let digits = r.imsi;
     let apn = r.apn;
     let opening = r.opening;
-    let v = r.containers;
+    let containers = r.containers;
     let nodeid = r.nodeid;
-    let a = imsi::imsi_size(&digits) != 0;
-    let b = names::apn_ok(apn, r.apnlen);
-    let c = calendar::stamp_within(opening);
-    let d = rules::list_ok(v, r.count, opening) & unused::unused_blank(v, r.count);
-    let e = closing::cause_ok(r.cause);
-    let f = closing::number_ok(r.cause, r.number);
-    let g = closing::change_ok(r.change, r.number);
-    let h = names::node_ok(nodeid, r.nodelen);
-    a & b & c & d & e & f & g & h
+    let imsi = imsi::imsi_size(&digits) != 0;
+    let name = names::apn_ok(apn, r.apnlen);
+    let time = calendar::stamp_within(opening);
+    let list = rules::list_ok(containers, r.count, opening)
+        & unused::unused_blank(containers, r.count);
+    let cause = closing::cause_ok(r.cause);
+    let number = closing::number_ok(r.cause, r.number);
+    let change = closing::change_ok(r.change, r.number);
+    let node = names::node_ok(nodeid, r.nodelen);
+    imsi & name & time & list & cause & number & change & node
 }

@@ -2,6 +2,7 @@
 use crate::Record;
 use crate::body;
 use crate::rules;
+use crate::tags;
 use ber::tlv;
 ghost use mathlib.Core.Path.{_≡_};
 ghost use Rattle.scdr.specs.Answers.{Writes, Sizes};
@@ -22,7 +23,7 @@ pub fn write_record(r: Record, out: &mut [u8]) -> Written
     }
     let mut b = [0u8; 1024];
     let n = body::put_body(&mut b, r);
-    let end = tlv::put_tlv(out, 0, 0xA0, &b[..n]);
+    let end = tlv::put_tlv(out, 0, tags::RECORD, &b[..n]);
     if end == ber::NOWHERE {
         return Written { answer: 11, n: 0 };
     }

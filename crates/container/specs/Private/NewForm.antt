@@ -5,11 +5,12 @@ use mathlib.Core.List.{List, []}
 use Prim.Native.Nat.{ℕ}
 use Rattle.format.specs.Maybe.{guard}
 use Rattle.ber.specs.Tlv.{tlvEnc}
+use Rattle.ber.specs.Table.{tag}
 use Rattle.container.specs.declared.Qos.{Qos}
 use Rattle.container.specs.declared.Container.{Container}
 use Rattle.container.specs.Qos.{qosOk, qos}
-use Rattle.container.specs.Container.{isNew}
+use Rattle.container.specs.Container.{isNew, QosAfter}
 
--- after b: under A2 where it is new, else none
+-- after b: under its tag where it is new, else none
 unfoldable pub newForm : Container → Qos → Option (List ℕ)
-newForm b q = cond (isNew b) (guard (qosOk q) (tlvEnc 0xA2 (qos .enc q))) (some [])
+newForm b q = cond (isNew b) (guard (qosOk q) (tlvEnc (tag (QosAfter b)) (qos .enc q))) (some [])

@@ -1,31 +1,30 @@
--- The octets of a record's fields in the parts in which the code writes them. Assumes nothing.
+-- The octets of a record's fields in the parts in which the code writes them: the first five, the next four, the containers, five more, and the last.
 use mathlib.Core.Bool.{Bool}
-use mathlib.Core.List.{List, [], _∷_, _++_}
+use mathlib.Core.List.{List}
 use Prim.Native.Nat.{ℕ}
-use Rattle.format.specs.Format.{exactly}
-use Rattle.ber.specs.Int.{intEnc, lowest, counted}
-use Rattle.ber.specs.Tlv.{tlvEnc}
-use Rattle.ber.specs.Field.{optEnc, there, unless0, alone}
-use Rattle.ber.specs.Fixed.{ipv4}
-use Rattle.ber.specs.Imsi.{imsiEnc}
+use lib.ListN.{take, drop}
+use Rattle.ber.specs.Field.{unless0, _⨾_}
+use Rattle.ber.specs.Table.{Row, layout}
 use Rattle.calendar.specs.declared.Stamp.{Stamp}
-use Rattle.calendar.specs.Stamp.{stampEnc}
+use Rattle.scdr.specs.Table.{table}
 
--- a flag where it is set
-abbrev pub flagEnc : ℕ → Bool → List ℕ
-flagEnc t on = optEnc t (exactly (0xFF ∷ [])) (there on)
+-- record type to charging ID
+abbrev pub frontRows : List Row
+frontRows = take 5 table
 
--- record type, network initiation, IMSI, SGSN, charging ID
 abbrev pub frontEnc : Bool → List ℕ → ℕ → ℕ → List ℕ
-frontEnc network imsi sgsn charging =
-    tlvEnc 0x80 (18 ∷ []) ++ (flagEnc 0x81 network ++ (tlvEnc 0x83 (imsiEnc imsi) ++ (tlvEnc 0xA5 (ipv4 .enc sgsn) ++ tlvEnc 0x8A (intEnc 9 charging))))
+frontEnc network imsi sgsn charging = layout frontRows .enc (tt ⨾ network ⨾ imsi ⨾ sgsn ⨾ charging ⨾ tt)
 
--- GGSN, access point name, PDP type, served address
+-- GGSN to served address
+abbrev pub pdpRows : List Row
+pdpRows = take 4 (drop 5 table)
+
 abbrev pub pdpEnc : ℕ → List ℕ → ℕ → ℕ → List ℕ
-pdpEnc ggsn apn pdptype served =
-    tlvEnc 0xAB (ipv4 .enc ggsn) ++ (tlvEnc 0x8C apn ++ (tlvEnc 0x8D (lowest 2 pdptype) ++ tlvEnc 0xAE (alone 0xA0 ipv4 .enc served)))
+pdpEnc ggsn apn pdptype served = layout pdpRows .enc (ggsn ⨾ apn ⨾ pdptype ⨾ served ⨾ tt)
 
--- opening time, duration, SGSN change, cause, number
+-- opening time to number
+abbrev pub endRows : List Row
+endRows = take 5 (drop 10 table)
+
 abbrev pub endEnc : Stamp → ℕ → Bool → ℕ → ℕ → List ℕ
-endEnc opening lasts change cause number =
-    tlvEnc 0x90 (stampEnc opening) ++ (tlvEnc 0x91 (intEnc 9 lasts) ++ (flagEnc 0x92 change ++ (tlvEnc 0x93 (cause ∷ []) ++ optEnc 0x95 counted (unless0 number))))
+endEnc opening lasts change cause number = layout endRows .enc (opening ⨾ lasts ⨾ change ⨾ cause ⨾ unless0 number ⨾ tt)

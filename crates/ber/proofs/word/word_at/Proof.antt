@@ -19,12 +19,14 @@ cast-t7 c = search needs
 
 returns : tie.Need-returns
 returns c =
-    test-yes (c .before .before .before .args .tag) int (refined (λ n. ltb n (2 ^ 32)) int) (λ n. ltb n (2 ^ 32)) (λ n. n) (λ z. refl) (omega arith) (c .before .int-at .ensures)
+    test-yes (c .before .before .before .args .tag) int (refined (λ n. ltb n (2 ^ 32)) int) (λ n. ltb n (2 ^ 32)) (λ n. n) (λ z. refl) (omega arith)
+    (c .before .int-at .ensures)
     (lt-ltb (c .before .int-at .result .v) (2 ^ 32) (c .if1 .taken))
 
 returns-2 : tie.Need-returns-2
 returns-2 c =
-    test-no (c .before .before .before .args .tag) int (refined (λ n. ltb n (2 ^ 32)) int) (λ n. ltb n (2 ^ 32)) (λ n. n) (λ z. refl) (omega arith) (c .before .int-at .ensures)
+    test-no (c .before .before .before .args .tag) int (refined (λ n. ltb n (2 ^ 32)) int) (λ n. ltb n (2 ^ 32)) (λ n. n) (λ z. refl) (omega arith)
+    (c .before .int-at .ensures)
     (le-ltb (c .before .int-at .result .v) (2 ^ 32) (c .if1 .left))
 
 pub word-at-spec : {M : Type 1} → statement M

@@ -5,7 +5,7 @@ use Prim.Native.Nat.{_-_}
 use native.Mathlib.Omega.{arith}
 use borrow.Author.Needs.{needs}
 use Rattle.ber.proofs.Readers.{got, first-leaves}
-use Rattle.container.specs.Container.{container}
+use Rattle.container.specs.Container.{containerTag, container}
 use Rattle.container.specs.List.{noContainers}
 use Rattle.container.proofs.Lists.{SoFar, sofar-none, sofar-more, list-cut, list-long, list-empty, list-there, listed-none}
 use Rattle.container.proofs.list.list_of.Statement.{statement}
@@ -30,7 +30,8 @@ no-list-requires c κs = search needs
 returns : tie.Need-returns Inv-loop μ-loop
 returns c =
     let s = c .before .before .before .before .before .before .args .s .now in
-    listed-none s (list-long s (c .before .before .before .loop .inv) (c .before .before .loop-test .taken) (omega (arith, c .before .if1 .taken))) (c .no-list .ensures)
+    listed-none s (list-long s (c .before .before .before .loop .inv) (c .before .before .loop-test .taken) (omega (arith, c .before .if1 .taken)))
+    (c .no-list .ensures)
 
 container-at-requires : tie.Need-container-at-requires Inv-loop μ-loop
 container-at-requires c κs = search needs
@@ -51,7 +52,9 @@ loop-again : tie.Need-loop-again Inv-loop μ-loop
 loop-again c =
     let s = c .before .before .before .before .before .before .before .args .s .now in
     let l = c .before .before .before .before .loop in
-    sofar-more s (l .inv) (c .before .before .before .loop-test .taken) (c .before .before .if1 .left) (got (first-leaves 0x30 (container (l .last))) (omega (arith, c .before .before .before .before .before .before .before .good .0 .1)) (c .before .container-at .ensures))
+    sofar-more s (l .inv) (c .before .before .before .loop-test .taken) (c .before .before .if1 .left)
+    (got (first-leaves containerTag (container (l .last))) (omega (arith, c .before .before .before .before .before .before .before .good .0 .1))
+    (c .before .container-at .ensures))
 
 no-list-requires-2 : tie.Need-no-list-requires-2 Inv-loop μ-loop
 no-list-requires-2 c κs = search needs
@@ -59,7 +62,8 @@ no-list-requires-2 c κs = search needs
 returns-2 : tie.Need-returns-2 Inv-loop μ-loop
 returns-2 c =
     let s = c .before .before .before .before .before .before .args .s .now in
-    listed-none s (list-cut s (c .before .before .before .loop .inv) (omega (arith, c .before .before .loop-test .left, c .before .if2 .taken))) (c .no-list2 .ensures)
+    listed-none s (list-cut s (c .before .before .before .loop .inv) (omega (arith, c .before .before .loop-test .left, c .before .if2 .taken)))
+    (c .no-list2 .ensures)
 
 no-list-requires-3 : tie.Need-no-list-requires-3 Inv-loop μ-loop
 no-list-requires-3 c κs = search needs

@@ -26,19 +26,21 @@ returns : tie.Need-returns
 returns c =
     let a = c .before .before .before .before .before .args in
     reads-as (c .before .before .before .no-qos .ensures)
-    (first-absent (a .tag) qos (a .s .now) (a .at) (part-none (a .s .now) (a .at) (a .tag) (sym (c .enum-told .given .1) ∙ c .before .before .part-at .ensures)))
+    (first-absent (a .tag) qos (a .s .now) (a .at) (part-none (a .s .now) (a .at) (a .tag) (sym (c .enum-told .given .1)
+    ∙ c .before .before .part-at .ensures)))
 
-sub-t : tie.Need-sub-t
-sub-t c = let a = c .before .before .before .before .before .before .args in part-some (a .s .now) (a .at) (a .tag) (sym (c .before .a .given .1) ∙ c .before .before .before .part-at .ensures) .order
+sub-contents : tie.Need-sub-contents
+sub-contents c = let a = c .before .before .before .before .before .before .args in part-some (a .s .now) (a .at) (a .tag) (sym (c .before .a .given .1)
+    ∙ c .before .before .before .part-at .ensures) .order
 
-part-t-start : tie.Need-part-t-start
-part-t-start c =
+part-contents-start : tie.Need-part-contents-start
+part-contents-start c =
     let a = c .before .before .before .before .before .before .args in
     let p = part-some (a .s .now) (a .at) (a .tag) (sym (c .before .a .given .1) ∙ c .before .before .before .part-at .ensures) in
     omega (arith, p .order, p .inside)
 
-part-t-end : tie.Need-part-t-end
-part-t-end c =
+part-contents-end : tie.Need-part-contents-end
+part-contents-end c =
     let a = c .before .before .before .before .before .before .args in
     let p = part-some (a .s .now) (a .at) (a .tag) (sym (c .before .a .given .1) ∙ c .before .before .before .part-at .ensures) in
     omega (arith, p .order, p .inside)
@@ -61,10 +63,17 @@ octet-at-requires-5 c κs = search needs
 returns-2 : tie.Need-returns-2
 returns-2 c =
     let a = c .before .before .before .before .before .before .before .before .before .before .before .before .before .before .args in
-    let p = part-some (a .s .now) (a .at) (a .tag) (sym (c .before .before .before .before .before .before .before .before .before .a .given .1) ∙ c .before .before .before .before .before .before .before .before .before .before .before .part-at .ensures) in
+    let p = part-some (a .s .now) (a .at) (a .tag) (sym (c .before .before .before .before .before .before .before .before .before .a .given .1)
+    ∙ c .before .before .before .before .before .before .before .before .before .before .before .part-at .ensures) in
     reads-as (c .before .before .before .before .before .before .before .before .before .before .before .before .no-qos .ensures)
     (inner-bad (a .tag) qos (a .s .now) (a .at) p
-    (qos-cut (part-short p (omega (arith, c .before .before .before .before .before .before .before .before .before .before .before .before .before .before .good .0 .1))) (c .before .before .before .before .before .before .octet-at .ensures) (c .before .before .before .before .before .octet-at2 .ensures) (c .before .before .before .before .octet-at3 .ensures) (c .before .before .before .octet-at4 .ensures) (c .before .before .octet-at5 .ensures) (c .if1 .taken)))
+    (qos-cut (part-short p (omega (
+      arith,
+      c .before .before .before .before .before .before .before .before .before .before .before .before .before
+          .before .good .0 .1,
+    ))) (c .before .before .before .before .before .before .octet-at .ensures)
+    (c .before .before .before .before .before .octet-at2 .ensures) (c .before .before .before .before .octet-at3 .ensures)
+    (c .before .before .before .octet-at4 .ensures) (c .before .before .octet-at5 .ensures) (c .if1 .taken)))
 
 qos-ok-requires : tie.Need-qos-ok-requires
 qos-ok-requires c κs = search needs
@@ -72,17 +81,35 @@ qos-ok-requires c κs = search needs
 returns-3 : tie.Need-returns-3
 returns-3 c =
     let a = c .before .before .before .before .before .before .before .before .before .before .before .before .before .before .before .before .args in
-    let p = part-some (a .s .now) (a .at) (a .tag) (sym (c .before .before .before .before .before .before .before .before .before .before .before .a .given .1) ∙ c .before .before .before .before .before .before .before .before .before .before .before .before .before .part-at .ensures) in
+    let p = part-some (a .s .now) (a .at) (a .tag)
+    (sym (c .before .before .before .before .before .before .before .before .before .before .before .a .given .1)
+    ∙ c .before .before .before .before .before .before .before .before .before .before .before .before .before .part-at .ensures) in
     reads-as (c .before .before .before .before .before .before .before .before .before .before .before .before .before .before .no-qos .ensures)
     (inner-bad (a .tag) qos (a .s .now) (a .at) p
-    (qos-out (part-short p (omega (arith, c .before .before .before .before .before .before .before .before .before .before .before .before .before .before .before .before .good .0 .1))) (c .before .before .before .before .before .before .before .before .octet-at .ensures) (c .before .before .before .before .before .before .before .octet-at2 .ensures) (c .before .before .before .before .before .before .octet-at3 .ensures) (c .before .before .before .before .before .octet-at4 .ensures) (c .before .before .before .before .octet-at5 .ensures) (c .before .before .if1 .left) (sym (c .before .qos-ok .ensures) ∙ not-true _ (c .if2 .taken))))
+    (qos-out (part-short p (omega (
+      arith,
+      c .before .before .before .before .before .before .before .before .before .before .before .before .before
+          .before .before .before .good .0 .1,
+    ))) (c .before .before .before .before .before .before .before .before .octet-at .ensures)
+    (c .before .before .before .before .before .before .before .octet-at2 .ensures)
+    (c .before .before .before .before .before .before .octet-at3 .ensures) (c .before .before .before .before .before .octet-at4 .ensures)
+    (c .before .before .before .before .octet-at5 .ensures) (c .before .before .if1 .left) (sym (c .before .qos-ok .ensures) ∙ not-true _ (c .if2 .taken))))
 
 returns-4 : tie.Need-returns-4
 returns-4 c =
     let a = c .before .before .before .before .before .before .before .before .before .before .before .before .before .before .before .before .args in
-    let p = part-some (a .s .now) (a .at) (a .tag) (sym (c .before .before .before .before .before .before .before .before .before .before .before .a .given .1) ∙ c .before .before .before .before .before .before .before .before .before .before .before .before .before .part-at .ensures) in
+    let p = part-some (a .s .now) (a .at) (a .tag)
+    (sym (c .before .before .before .before .before .before .before .before .before .before .before .a .given .1)
+    ∙ c .before .before .before .before .before .before .before .before .before .before .before .before .before .part-at .ensures) in
     inner-there (a .tag) qos (a .s .now) (a .at) p
-    (qos-there (part-short p (omega (arith, c .before .before .before .before .before .before .before .before .before .before .before .before .before .before .before .before .good .0 .1))) (c .before .before .before .before .before .before .before .before .octet-at .ensures) (c .before .before .before .before .before .before .before .octet-at2 .ensures) (c .before .before .before .before .before .before .octet-at3 .ensures) (c .before .before .before .before .before .octet-at4 .ensures) (c .before .before .before .before .octet-at5 .ensures) (c .before .before .if1 .left) (sym (c .before .qos-ok .ensures) ∙ not-false _ (c .if2 .left)))
+    (qos-there (part-short p (omega (
+      arith,
+      c .before .before .before .before .before .before .before .before .before .before .before .before .before
+          .before .before .before .good .0 .1,
+    ))) (c .before .before .before .before .before .before .before .before .octet-at .ensures)
+    (c .before .before .before .before .before .before .before .octet-at2 .ensures)
+    (c .before .before .before .before .before .before .octet-at3 .ensures) (c .before .before .before .before .before .octet-at4 .ensures)
+    (c .before .before .before .before .octet-at5 .ensures) (c .before .before .if1 .left) (sym (c .before .qos-ok .ensures) ∙ not-false _ (c .if2 .left)))
 
 pub qos-at-spec : {M : Type 1} → statement M
 qos-at-spec =
@@ -93,9 +120,9 @@ qos-at-spec =
     enum-known-a
     enum-told
     returns
-    sub-t
-    part-t-start
-    part-t-end
+    sub-contents
+    part-contents-start
+    part-contents-end
     octet-at-requires
     octet-at-requires-2
     octet-at-requires-3

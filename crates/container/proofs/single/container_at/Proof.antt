@@ -5,7 +5,7 @@ use borrow.Author.Needs.{needs}
 use borrow.Author.Tests.{not-true, not-false}
 use Rattle.ber.proofs.Places.{part-none, part-some}
 use Rattle.ber.proofs.Readers.{first-absent, inner-bad, inner-there}
-use Rattle.container.specs.Container.{container}
+use Rattle.container.specs.Container.{containerTag, container}
 use Rattle.container.proofs.Fields.{reads-as, part-short, container-cut, container-out, container-there}
 use Rattle.container.proofs.single.container_at.Statement.{statement}
 use Rattle.container.proofs.single.container_at.Tie as tie
@@ -26,21 +26,23 @@ returns : tie.Need-returns
 returns c =
     let a = c .before .before .before .before .before .args in
     reads-as (c .before .before .before .no-container .ensures)
-    (first-absent 0x30 (container (a .last)) (a .s .now) (a .at) (part-none (a .s .now) (a .at) 0x30 (sym (c .enum-told .given .1) ∙ c .before .before .part-at .ensures)))
+    (first-absent containerTag (container (a .last)) (a .s .now) (a .at) (part-none (a .s .now) (a .at) containerTag (sym (c .enum-told .given .1)
+    ∙ c .before .before .part-at .ensures)))
 
-sub-t : tie.Need-sub-t
-sub-t c = let a = c .before .before .before .before .before .before .args in part-some (a .s .now) (a .at) 0x30 (sym (c .before .a .given .1) ∙ c .before .before .before .part-at .ensures) .order
+sub-contents : tie.Need-sub-contents
+sub-contents c = let a = c .before .before .before .before .before .before .args in part-some (a .s .now) (a .at) containerTag (sym (c .before .a .given .1)
+    ∙ c .before .before .before .part-at .ensures) .order
 
-part-t-start : tie.Need-part-t-start
-part-t-start c =
+part-contents-start : tie.Need-part-contents-start
+part-contents-start c =
     let a = c .before .before .before .before .before .before .args in
-    let p = part-some (a .s .now) (a .at) 0x30 (sym (c .before .a .given .1) ∙ c .before .before .before .part-at .ensures) in
+    let p = part-some (a .s .now) (a .at) containerTag (sym (c .before .a .given .1) ∙ c .before .before .before .part-at .ensures) in
     omega (arith, p .order, p .inside)
 
-part-t-end : tie.Need-part-t-end
-part-t-end c =
+part-contents-end : tie.Need-part-contents-end
+part-contents-end c =
     let a = c .before .before .before .before .before .before .args in
-    let p = part-some (a .s .now) (a .at) 0x30 (sym (c .before .a .given .1) ∙ c .before .before .before .part-at .ensures) in
+    let p = part-some (a .s .now) (a .at) containerTag (sym (c .before .a .given .1) ∙ c .before .before .before .part-at .ensures) in
     omega (arith, p .order, p .inside)
 
 qos-after-requires : tie.Need-qos-after-requires
@@ -61,28 +63,61 @@ stamp-at-requires c κs = search needs
 returns-2 : tie.Need-returns-2
 returns-2 c =
     let a = c .before .before .before .before .before .before .before .before .before .before .before .before .before .before .before .before .args in
-    let p = part-some (a .s .now) (a .at) 0x30 (sym (c .before .before .before .before .before .before .before .before .before .before .before .a .given .1) ∙ c .before .before .before .before .before .before .before .before .before .before .before .before .before .part-at .ensures) in
+    let p = part-some (a .s .now) (a .at) containerTag
+    (sym (c .before .before .before .before .before .before .before .before .before .before .before .a .given .1)
+    ∙ c .before .before .before .before .before .before .before .before .before .before .before .before .before .part-at .ensures) in
     reads-as (c .before .before .before .before .before .before .before .before .before .before .before .before .before .before .no-container .ensures)
-    (inner-bad 0x30 (container (a .last)) (a .s .now) (a .at) p
-    (container-cut (a .last) (part-short p (omega (arith, c .before .before .before .before .before .before .before .before .before .before .before .before .before .before .before .before .good .0 .1))) (c .before .before .before .before .before .before .before .before .qos-after .ensures) (c .before .before .before .before .before .before .before .int-at .ensures) (c .before .before .before .before .before .before .int-at2 .ensures) (c .before .before .before .before .before .octet-at .ensures) (c .before .before .before .before .stamp-at .ensures) (c .if1 .taken)))
+    (inner-bad containerTag (container (a .last)) (a .s .now) (a .at) p
+    (container-cut (a .last) (part-short p (omega (
+      arith,
+      c .before .before .before .before .before .before .before .before .before .before .before .before .before .before .before .before .good .0
+          .1,
+    ))) (c .before .before .before .before .before .before .before .before .qos-after .ensures)
+    (c .before .before .before .before .before .before .before .int-at .ensures) (c .before .before .before .before .before .before .int-at2 .ensures)
+    (c .before .before .before .before .before .octet-at .ensures) (c .before .before .before .before .stamp-at .ensures) (c .if1 .taken)))
 
 container-ok-requires : tie.Need-container-ok-requires
 container-ok-requires c κs = search needs
 
 returns-3 : tie.Need-returns-3
 returns-3 c =
-    let a = c .before .before .before .before .before .before .before .before .before .before .before .before .before .before .before .before .before .before .args in
-    let p = part-some (a .s .now) (a .at) 0x30 (sym (c .before .before .before .before .before .before .before .before .before .before .before .before .before .a .given .1) ∙ c .before .before .before .before .before .before .before .before .before .before .before .before .before .before .before .part-at .ensures) in
-    reads-as (c .before .before .before .before .before .before .before .before .before .before .before .before .before .before .before .before .no-container .ensures)
-    (inner-bad 0x30 (container (a .last)) (a .s .now) (a .at) p
-    (container-out (a .last) (part-short p (omega (arith, c .before .before .before .before .before .before .before .before .before .before .before .before .before .before .before .before .before .before .good .0 .1))) (c .before .before .before .before .before .before .before .before .before .before .qos-after .ensures) (c .before .before .before .before .before .before .before .before .before .int-at .ensures) (c .before .before .before .before .before .before .before .before .int-at2 .ensures) (c .before .before .before .before .before .before .before .octet-at .ensures) (c .before .before .before .before .before .before .stamp-at .ensures) (c .before .before .if1 .left) (sym (c .before .container-ok .ensures) ∙ not-true _ (c .if2 .taken))))
+    let a = c .before .before .before .before .before .before .before .before .before .before .before .before .before .before .before .before .before
+    .before .args in
+    let p = part-some (a .s .now) (a .at) containerTag
+    (sym (c .before .before .before .before .before .before .before .before .before .before .before .before .before .a .given .1)
+    ∙ c .before .before .before .before .before .before .before .before .before .before .before .before .before .before .before .part-at .ensures) in
+    reads-as (c .before .before .before .before .before .before .before .before .before .before .before .before .before .before .before .before
+    .no-container .ensures)
+    (inner-bad containerTag (container (a .last)) (a .s .now) (a .at) p
+    (container-out (a .last) (part-short p (omega (
+      arith,
+      c .before .before .before .before .before .before .before .before .before .before .before .before .before .before .before .before .before
+          .before .good .0 .1,
+    ))) (c .before .before .before .before .before .before .before .before .before .before .qos-after .ensures)
+    (c .before .before .before .before .before .before .before .before .before .int-at .ensures)
+    (c .before .before .before .before .before .before .before .before .int-at2 .ensures)
+    (c .before .before .before .before .before .before .before .octet-at .ensures)
+    (c .before .before .before .before .before .before .stamp-at .ensures) (c .before .before .if1 .left) (sym (c .before .container-ok .ensures)
+    ∙ not-true _ (c .if2 .taken))))
 
 returns-4 : tie.Need-returns-4
 returns-4 c =
-    let a = c .before .before .before .before .before .before .before .before .before .before .before .before .before .before .before .before .before .before .args in
-    let p = part-some (a .s .now) (a .at) 0x30 (sym (c .before .before .before .before .before .before .before .before .before .before .before .before .before .a .given .1) ∙ c .before .before .before .before .before .before .before .before .before .before .before .before .before .before .before .part-at .ensures) in
-    inner-there 0x30 (container (a .last)) (a .s .now) (a .at) p
-    (container-there (a .last) (part-short p (omega (arith, c .before .before .before .before .before .before .before .before .before .before .before .before .before .before .before .before .before .before .good .0 .1))) (c .before .before .before .before .before .before .before .before .before .before .qos-after .ensures) (c .before .before .before .before .before .before .before .before .before .int-at .ensures) (c .before .before .before .before .before .before .before .before .int-at2 .ensures) (c .before .before .before .before .before .before .before .octet-at .ensures) (c .before .before .before .before .before .before .stamp-at .ensures) (c .before .before .if1 .left) (sym (c .before .container-ok .ensures) ∙ not-false _ (c .if2 .left)))
+    let a = c .before .before .before .before .before .before .before .before .before .before .before .before .before .before .before .before .before
+    .before .args in
+    let p = part-some (a .s .now) (a .at) containerTag
+    (sym (c .before .before .before .before .before .before .before .before .before .before .before .before .before .a .given .1)
+    ∙ c .before .before .before .before .before .before .before .before .before .before .before .before .before .before .before .part-at .ensures) in
+    inner-there containerTag (container (a .last)) (a .s .now) (a .at) p
+    (container-there (a .last) (part-short p (omega (
+      arith,
+      c .before .before .before .before .before .before .before .before .before .before .before .before .before .before .before .before .before
+          .before .good .0 .1,
+    ))) (c .before .before .before .before .before .before .before .before .before .before .qos-after .ensures)
+    (c .before .before .before .before .before .before .before .before .before .int-at .ensures)
+    (c .before .before .before .before .before .before .before .before .int-at2 .ensures)
+    (c .before .before .before .before .before .before .before .octet-at .ensures)
+    (c .before .before .before .before .before .before .stamp-at .ensures) (c .before .before .if1 .left) (sym (c .before .container-ok .ensures)
+    ∙ not-false _ (c .if2 .left)))
 
 pub container-at-spec : {M : Type 1} → statement M
 container-at-spec =
@@ -93,9 +128,9 @@ container-at-spec =
     enum-known-a
     enum-told
     returns
-    sub-t
-    part-t-start
-    part-t-end
+    sub-contents
+    part-contents-start
+    part-contents-end
     qos-after-requires
     int-at-requires
     int-at-requires-2

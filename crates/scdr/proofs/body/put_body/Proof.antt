@@ -1,23 +1,20 @@
--- `scdr::body::put_body` meets its contract: the parts one after another make the body. Assumes nothing.
+-- `scdr::body::put_body` meets its contract: the parts one after another make the body.
 use mathlib.Core.Path.{_≡_, sym, ap, _∙_}
-use mathlib.Core.Bool.{_&&_}
 use Prim.Native.Nat.{ℕ, _≤_}
 use native.Mathlib.Omega.{arith}
-use lib.Dec.{leb}
-use lib.ListN.{length, take}
+use lib.ListN.{length}
 use borrow.Author.Needs.{needs}
-use Rattle.format.proofs.Maybe.{guard-yes}
-use Rattle.ber.specs.Tlv.{tlvEnc}
+use Rattle.ber.specs.Table.{tag}
 use Rattle.ber.proofs.Texts.{opt-value}
 use Rattle.ber.proofs.Writers.{wrote, wrote-then, wrote-is}
 use Rattle.container.specs.Container.{noContainer}
-use Rattle.container.specs.List.{containers, allFormed}
 use Rattle.scdr.specs.Rules.{duration}
+use Rattle.scdr.specs.Table.{NodeId}
 use Rattle.scdr.specs.Private.Parts.{endEnc}
 use Rattle.format.proofs.Arrays.{length-of-map}
 use Rattle.scdr.proofs.Views.{withins, apn-rules, node-rules}
 use Rattle.scdr.proofs.Durations.{duration-is}
-use Rattle.scdr.proofs.Bodies.{body-parts, count-known, list-asks}
+use Rattle.scdr.proofs.BodyParts.{body-parts, count-known, list-form}
 use Rattle.scdr.proofs.body.put_body.Statement.{statement}
 use Rattle.scdr.proofs.body.put_body.Tie as tie
 
@@ -38,25 +35,38 @@ mul-last : tie.Need-mul-last
 mul-last c = omega (arith, last-known (c .before .before .before .before .before .before .before))
 
 array-copy-out-last : tie.Need-array-copy-out-last
-array-copy-out-last c = omega (arith, last-known (c .before .before .before .before .before .before .before), places-known (c .before .before .before .before .before .before .before))
+array-copy-out-last c = omega (
+  arith,
+  last-known (c .before .before .before .before .before .before .before),
+  places-known
+      (c .before .before .before .before .before .before .before),
+)
 
 lasted-requires : tie.Need-lasted-requires
 lasted-requires c κs = search needs
 
 put-front-requires : tie.Need-put-front-requires
-put-front-requires c κs = withins (c .before .before .before .before .before .before .before .before .before .before .args .r) (c .before .before .before .before .before .before .before .before .before .before .pre) .imsi
+put-front-requires c κs = withins (c .before .before .before .before .before .before .before .before .before .before .args .r)
+    (c .before .before .before .before .before .before .before .before .before .before .pre) .imsi
 
 put-pdp-requires : tie.Need-put-pdp-requires
-put-pdp-requires c κs = let r = c .before .before .before .before .before .before .before .before .before .before .before .before .before .before .args .r in apn-rules (r .apn) (r .apnlen) (withins r (c .before .before .before .before .before .before .before .before .before .before .before .before .before .before .pre) .apn) .most
+put-pdp-requires c κs = let r = c .before .before .before .before .before .before .before .before .before .before .before .before .before .before .args .r in
+    apn-rules (r .apn) (r .apnlen) (withins r
+    (c .before .before .before .before .before .before .before .before .before .before .before .before .before .before .pre) .apn) .most
 
 put-list-requires : tie.Need-put-list-requires
 put-list-requires c κs = search needs
 
 put-end-requires : tie.Need-put-end-requires
-put-end-requires c κs = withins (c .before .before .before .before .before .before .before .before .before .before .before .before .before .before .before .before .before .before .before .before .before .before .args .r) (c .before .before .before .before .before .before .before .before .before .before .before .before .before .before .before .before .before .before .before .before .before .before .pre) .opening
+put-end-requires c κs = withins (c .before .before .before .before .before .before .before .before .before .before .before .before .before .before .before
+    .before .before .before .before .before .before .before .args .r)
+    (c .before .before .before .before .before .before .before .before .before .before .before .before .before .before .before .before .before .before
+    .before .before .before .before .pre) .opening
 
 slice-aggregate-put-opt-text : tie.Need-slice-aggregate-put-opt-text
-slice-aggregate-put-opt-text c = sym (node-known (c .before .before .before .before .before .before .before .before .before .before .before .before .before .before .before .before .before .before .before .before .before .before .before .before .before .before .before))
+slice-aggregate-put-opt-text c = sym (node-known
+    (c .before .before .before .before .before .before .before .before .before .before .before .before .before .before .before .before .before .before
+    .before .before .before .before .before .before .before .before .before))
 
 put-opt-text-requires : tie.Need-put-opt-text-requires
 put-opt-text-requires c κs = search needs
@@ -67,16 +77,27 @@ same-length c = search needs
 returns : tie.Need-returns
 unfolding duration
 returns c =
-    let r = c .before .before .before .before .before .before .before .before .before .before .before .before .before .before .before .before .before .before .before .before .before .before .before .before .before .before .before .before .before .before .args .r in
-    let n = node-rules (r .nodeid) (r .nodelen) (withins r (c .before .before .before .before .before .before .before .before .before .before .before .before .before .before .before .before .before .before .before .before .before .before .before .before .before .before .before .before .before .before .pre) .node) in
-    let k = node-known (c .before .before .before .before .before .before .before .before .before .before .before .before .before .before .before .before .before .before .before .before .before .before .before .before .before .before .before .before .before .before) in
-    let m = last-known (c .before .before .before .before .before .before .before .before .before .before .before .before .before .before .before .before .before .before .before .before .before .before .before .before .before .before .before .before .before .before) in
-    let p = places-known (c .before .before .before .before .before .before .before .before .before .before .before .before .before .before .before .before .before .before .before .before .before .before .before .before .before .before .before .before .before .before) in
+    let ended = c .before .before .before .before .before .before .before in
+    let listed = ended .before .before .before .before in
+    let named = listed .before .before .before .before in
+    let begun = named .before .before .before .before in
+    let timed = begun .before .before in
+    let start = timed .before .before .before .before .before .before .before .before .before in
+    let r = start .args .r in
+    let n = node-rules (r .nodeid) (r .nodelen) (withins r (start .pre) .node) in
+    let k = node-known start in
+    let m = last-known start in
+    let p = places-known start in
     wrote-is (body-parts r)
-    (wrote-then (c .before .before .before .before .before .before .before .before .before .before .before .before .before .before .before .before .before .before .before .put-front .ensures) (wrote-then (c .before .before .before .before .before .before .before .before .before .before .before .before .before .before .before .put-pdp .ensures) (wrote-then
-    (wrote (guard-yes (leb 1 (r .count) && leb (r .count) 15 && allFormed noContainer (take (r .count) (r .containers))) (tlvEnc 0xAF (containers .enc (take (r .count) (r .containers)))) (list-asks r (c .before .before .before .before .before .before .before .before .before .before .before .before .before .before .before .before .before .before .before .before .before .before .before .before .before .before .before .before .before .before .pre) (places-known (c .before .before .before .before .before .before .before .before .before .before .before .before .before .before .before .before .before .before .before .before .before .before .before .before .before .before .before .before .before .before)))) (c .before .before .before .before .before .before .before .before .before .before .before .put-list .ensures))
-    (wrote-then (wrote-is (ap (λ (d : ℕ). endEnc (r .opening) d (r .change) (r .cause) (r .number)) (c .before .before .before .before .before .before .before .before .before .before .before .before .before .before .before .before .before .before .before .before .before .lasted .ensures ∙ duration-is (r .opening .seconds) (r .containers) (r .count) noContainer (m .0) (omega (arith, m .1, p)))) (c .before .before .before .before .before .before .before .put-end .ensures))
-    (wrote (opt-value 0x96 20 (r .nodeid) (r .nodelen) (omega (arith, n .most, k)) (omega (arith, n .most))) (c .before .before .put-opt-text .ensures))))))
+    (wrote-then (begun .put-front .ensures)
+    (wrote-then (named .put-pdp .ensures)
+    (wrote-then (wrote (list-form r (start .pre) p) (listed .put-list .ensures))
+    (wrote-then
+    (wrote-is (ap (λ (d : ℕ). endEnc (r .opening) d (r .change) (r .cause) (r .number))
+    (timed .lasted .ensures ∙ duration-is (r .opening .seconds) (r .containers) (r .count) noContainer (m .0) (omega (arith, m .1, p))))
+    (ended .put-end .ensures))
+    (wrote (opt-value (tag NodeId) 20 (r .nodeid) (r .nodelen) (omega (arith, n .most, k)) (omega (arith, n .most)))
+    (c .before .before .put-opt-text .ensures))))))
 
 pub put-body-spec : {M : Type 1} → statement M
 put-body-spec =

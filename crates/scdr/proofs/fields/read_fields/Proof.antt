@@ -72,10 +72,41 @@ part-in-requires c κs = search needs
 
 returns : tie.Need-returns
 returns c =
-    wired (short (c .before .before .before .before .before .before .before .before .before .before .before .before .before .before .before .before .before .before .before .before .before .before .before .before .before .before)) (c .before .before .before .before .before .before .before .before .before .before .before .before .before .before .before .before .before .before .before .before .before .before .before .before .const-at .ensures) (c .before .before .before .before .before .before .before .before .before .before .before .before .before .before .before .before .before .before .before .before .before .before .before .flag-at .ensures) (c .before .before .before .before .before .before .before .before .before .before .before .before .before .before .before .before .before .before .before .before .before .before .imsi-at .ensures) (c .before .before .before .before .before .before .before .before .before .before .before .before .before .before .before .before .before .before .before .before .before .address-at .ensures) (c .before .before .before .before .before .before .before .before .before .before .before .before .before .before .before .before .before .before .before .before .word-at .ensures)
-    (c .before .before .before .before .before .before .before .before .before .before .before .before .before .before .before .before .before .before .before .address-at2 .ensures) (c .before .before .before .before .before .before .before .before .before .before .before .before .before .before .before .before .before .octets-at .ensures) (c .before .before .before .before .before .before .before .before .before .before .before .before .before .before .before .pair-at .ensures) (c .before .before .before .before .before .before .before .before .before .before .before .before .before .before .address-in-at .ensures) (c .before .before .before .before .before .before .before .before .before .before .before .before .before .list-at .ensures)
-    (c .before .before .before .before .before .before .before .before .before .before .before .before .stamp-at .ensures) (c .before .before .before .before .before .before .before .before .before .before .before .int-at .ensures) (c .before .before .before .before .before .before .before .before .before .before .flag-at2 .ensures) (c .before .before .before .before .before .before .before .before .before .octet-at .ensures) (c .before .before .before .before .before .before .before .before .count-at .ensures) (c .before .before .before .before .before .before .text-at .ensures)
-    refl refl (c .before .before .before .before .part-in .ensures)
+    let looked = c .before .before .before .before in
+    let node = looked .before .before in
+    let number = node .before .before in
+    let cause = number .before in
+    let change = cause .before in
+    let lasts = change .before in
+    let opening = lasts .before in
+    let list = opening .before in
+    let served = list .before in
+    let pdptype = served .before in
+    let apn = pdptype .before .before in
+    let ggsn = apn .before .before in
+    let charging = ggsn .before in
+    let sgsn = charging .before in
+    let imsi = sgsn .before in
+    let network = imsi .before in
+    let kind = network .before in
+    wired (short (kind .before .before))
+    (kind .const-at .ensures)
+    (network .flag-at .ensures)
+    (imsi .imsi-at .ensures)
+    (sgsn .address-at .ensures)
+    (charging .word-at .ensures)
+    (ggsn .address-at2 .ensures)
+    (apn .octets-at .ensures)
+    (pdptype .pair-at .ensures)
+    (served .address-in-at .ensures)
+    (list .list-at .ensures)
+    (opening .stamp-at .ensures)
+    (lasts .int-at .ensures)
+    (change .flag-at2 .ensures)
+    (cause .octet-at .ensures)
+    (number .count-at .ensures)
+    (node .text-at .ensures)
+    refl refl (looked .part-in .ensures)
 
 pub read-fields-spec : {M : Type 1} → statement M
 read-fields-spec =

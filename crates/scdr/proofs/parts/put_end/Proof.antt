@@ -1,10 +1,11 @@
--- `scdr::parts::put_end` meets its contract: its fields one after another. Assumes nothing.
+-- `scdr::parts::put_end` meets its contract: its fields one after another.
 use mathlib.Core.Path.{refl}
 use borrow.Author.Needs.{needs}
 use Rattle.format.proofs.Maybe.{guard-yes}
-use Rattle.ber.specs.Tlv.{tlvEnc}
-use Rattle.ber.proofs.Writers.{wrote, wrote-then}
-use Rattle.calendar.specs.Stamp.{stampOk, stampEnc}
+use Rattle.ber.specs.Table.{rowEnc}
+use Rattle.ber.proofs.Writers.{wrote, wrote-then, wrote-none}
+use Rattle.calendar.specs.Stamp.{stampOk}
+use Rattle.scdr.specs.Table.{Opening}
 use Rattle.scdr.proofs.parts.put_end.Statement.{statement}
 use Rattle.scdr.proofs.parts.put_end.Tie as tie
 
@@ -28,10 +29,17 @@ same-length c = search needs
 
 returns : tie.Need-returns
 returns c =
-    let t = c .before .before .before .before .before .before .before .before .before .before .before .before .before .before .before .before .before .before .before .before .before .args .opening in
-    wrote-then (wrote (guard-yes (stampOk t) (tlvEnc 0x90 (stampEnc t)) (c .before .before .before .before .before .before .before .before .before .before .before .before .before .before .before .before .before .before .before .before .before .pre)) (c .before .before .before .before .before .before .before .before .before .before .before .before .before .before .before .before .before .before .put-stamp .ensures))
-    (wrote-then (wrote refl (c .before .before .before .before .before .before .before .before .before .before .before .before .before .before .put-int .ensures)) (wrote-then (wrote refl (c .before .before .before .before .before .before .before .before .before .before .put-flag .ensures))
-    (wrote-then (wrote refl (c .before .before .before .before .before .before .put-octet .ensures)) (wrote refl (c .before .before .put-count .ensures)))))
+    let caused = c .before .before .before .before .before .before in
+    let changed = caused .before .before .before .before in
+    let lasted = changed .before .before .before .before in
+    let opened = lasted .before .before .before .before in
+    let start = opened .before .before .before in
+    let t = start .args .opening in
+    wrote-then (wrote (guard-yes (stampOk t) (rowEnc Opening t) (start .pre)) (opened .put-stamp .ensures))
+    (wrote-then (wrote refl (lasted .put-int .ensures))
+    (wrote-then (wrote refl (changed .put-flag .ensures))
+    (wrote-then (wrote refl (caused .put-octet .ensures))
+    (wrote-then (wrote refl (c .before .before .put-count .ensures)) wrote-none))))
 
 pub put-end-spec : {M : Type 1} → statement M
 put-end-spec =

@@ -1,10 +1,11 @@
--- `scdr::parts::put_front` meets its contract: its fields one after another. Assumes nothing.
+-- `scdr::parts::put_front` meets its contract: its fields one after another.
 use mathlib.Core.Path.{refl}
 use borrow.Author.Needs.{needs}
 use Rattle.format.proofs.Maybe.{guard-yes}
-use Rattle.ber.specs.Tlv.{tlvEnc}
-use Rattle.ber.specs.Imsi.{imsiOk, imsiEnc}
-use Rattle.ber.proofs.Writers.{wrote, wrote-then}
+use Rattle.ber.specs.Table.{rowEnc}
+use Rattle.ber.specs.Imsi.{imsiOk}
+use Rattle.ber.proofs.Writers.{wrote, wrote-then, wrote-none}
+use Rattle.scdr.specs.Table.{Imsi}
 use Rattle.scdr.proofs.parts.put_front.Statement.{statement}
 use Rattle.scdr.proofs.parts.put_front.Tie as tie
 
@@ -28,10 +29,17 @@ same-length c = search needs
 
 returns : tie.Need-returns
 returns c =
-    let v = c .before .before .before .before .before .before .before .before .before .before .before .before .before .before .before .before .before .before .before .before .before .args .imsi in
-    wrote-then (wrote refl (c .before .before .before .before .before .before .before .before .before .before .before .before .before .before .before .before .before .before .put-octet .ensures)) (wrote-then (wrote refl (c .before .before .before .before .before .before .before .before .before .before .before .before .before .before .put-flag .ensures))
-    (wrote-then (wrote (guard-yes (imsiOk v) (tlvEnc 0x83 (imsiEnc v)) (c .before .before .before .before .before .before .before .before .before .before .before .before .before .before .before .before .before .before .before .before .before .pre)) (c .before .before .before .before .before .before .before .before .before .before .put-imsi .ensures))
-    (wrote-then (wrote refl (c .before .before .before .before .before .before .put-address .ensures)) (wrote refl (c .before .before .put-int .ensures)))))
+    let homed = c .before .before .before .before .before .before in
+    let named = homed .before .before .before .before in
+    let flagged = named .before .before .before .before in
+    let typed = flagged .before .before .before .before in
+    let start = typed .before .before .before in
+    let v = start .args .imsi in
+    wrote-then (wrote refl (typed .put-octet .ensures))
+    (wrote-then (wrote refl (flagged .put-flag .ensures))
+    (wrote-then (wrote (guard-yes (imsiOk v) (rowEnc Imsi v) (start .pre)) (named .put-imsi .ensures))
+    (wrote-then (wrote refl (homed .put-address .ensures))
+    (wrote-then (wrote refl (c .before .before .put-int .ensures)) wrote-none))))
 
 pub put-front-spec : {M : Type 1} → statement M
 put-front-spec =

@@ -14,7 +14,8 @@ within-requires : tie.Need-within-requires
 within-requires c κs = search needs
 
 returns : tie.Need-returns
-returns c = and-no (eqb (c .before .before .args .lasts) (duration (c .before .before .args .r))) (sym (c .before .within .ensures) ∙ not-true _ (c .if1 .taken))
+returns c = and-no (eqb (c .before .before .args .lasts) (duration (c .before .before .args .r))) (sym (c .before .within .ensures) ∙ not-true _
+    (c .if1 .taken))
 
 duration-requires : tie.Need-duration-requires
 duration-requires c κs =
@@ -28,7 +29,8 @@ returns-2 : tie.Need-returns-2
 unfolding duration
 returns-2 c =
     let a = c .before .before .before .before .before .args in
-    ap (eqb (a .lasts)) (c .duration .ensures) ∙ and-yes (eqb (a .lasts) (duration (a .r))) (sym (c .before .before .before .before .within .ensures) ∙ not-false _ (c .before .before .before .if1 .left))
+    ap (eqb (a .lasts)) (c .duration .ensures) ∙ and-yes (eqb (a .lasts) (duration (a .r))) (sym (c .before .before .before .before .within .ensures)
+    ∙ not-false _ (c .before .before .before .if1 .left))
 
 pub passes-spec : {M : Type 1} → statement M
 passes-spec = tie.close (tie.spec within-requires returns duration-requires cast-result returns-2)

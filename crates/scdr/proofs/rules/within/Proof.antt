@@ -1,4 +1,4 @@
--- `scdr::rules::within` meets its contract: each rule as its function finds it. Assumes nothing.
+-- `scdr::rules::within` meets its contract: each rule as its function finds it.
 use mathlib.Core.Path.{ap, _∙_}
 use mathlib.Core.Bool.{not}
 use Prim.Native.Nat.{ℕ}
@@ -41,8 +41,13 @@ node-ok-requires c κs = search needs
 
 returns : tie.Need-returns
 returns c =
-    within-is (c .before .before .before .before .before .before .before .before .before .before .before .before .before .before .before .args .r) (ap (λ (n : ℕ). not (eqb n 0)) (c .before .before .before .before .before .before .before .before .imsi-size .ensures) ∙ imsi-room (c .before .before .before .before .before .before .before .before .before .before .before .before .before .before .before .args .r .imsi)) (c .before .before .before .before .before .before .before .apn-ok .ensures) (c .before .before .before .before .before .before .stamp-within .ensures)
-    (c .before .before .before .before .before .list-ok .ensures) (c .before .before .before .before .unused-blank .ensures) (c .before .before .before .cause-ok .ensures) (c .before .before .number-ok .ensures) (c .before .change-ok .ensures) (c .node-ok .ensures)
+    let unused = c .before .before .before .before in
+    let name = unused .before .before .before in
+    let size = name .before in
+    let r = size .before .before .before .before .before .before .before .args .r in
+    within-is r (ap (λ (n : ℕ). not (eqb n 0)) (size .imsi-size .ensures) ∙ imsi-room (r .imsi)) (name .apn-ok .ensures)
+    (unused .before .before .stamp-within .ensures) (unused .before .list-ok .ensures) (unused .unused-blank .ensures)
+    (c .before .before .before .cause-ok .ensures) (c .before .before .number-ok .ensures) (c .before .change-ok .ensures) (c .node-ok .ensures)
 
 pub within-spec : {M : Type 1} → statement M
 within-spec =

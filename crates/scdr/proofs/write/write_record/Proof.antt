@@ -35,16 +35,19 @@ slice-aggregate-put-body : tie.Need-slice-aggregate-put-body
 slice-aggregate-put-body c = search needs
 
 put-body-requires : tie.Need-put-body-requires
-put-body-requires c κs = true-T (within (c .before .before .before .before .args .r)) (sym (c .before .before .within .ensures) ∙ not-false _ (c .before .if1 .left))
+put-body-requires c κs = true-T (within (c .before .before .before .before .args .r)) (sym (c .before .before .within .ensures) ∙ not-false _
+    (c .before .if1 .left))
 
 array-share-prefix-b : tie.Need-array-share-prefix-b
 array-share-prefix-b c =
-    let t = passed (c .before .before .before .before .before .before .before) (sym (c .before .before .before .before .before .within .ensures) ∙ not-false _ (c .before .before .before .before .if1 .left)) in
+    let t = passed (c .before .before .before .before .before .before .before) (sym (c .before .before .before .before .before .within .ensures)
+    ∙ not-false _ (c .before .before .before .before .if1 .left)) in
     filled (c .before .before .put-body .ensures) (body-short (c .before .before .before .before .before .before .before .args .r) t) .2
 
 slice-aggregate-put-tlv : tie.Need-slice-aggregate-put-tlv
 slice-aggregate-put-tlv c =
-    let t = passed (c .before .before .before .before .before .before .before .before) (sym (c .before .before .before .before .before .before .within .ensures) ∙ not-false _ (c .before .before .before .before .before .if1 .left)) in
+    let t = passed (c .before .before .before .before .before .before .before .before)
+    (sym (c .before .before .before .before .before .before .within .ensures) ∙ not-false _ (c .before .before .before .before .before .if1 .left)) in
     let f = filled (c .before .before .before .put-body .ensures) (body-short (c .before .before .before .before .before .before .before .before .args .r) t) in
     f .1 ∙ ap length (sym (f .0))
 
@@ -57,7 +60,8 @@ same-length c = search needs
 returns-2 : tie.Need-returns-2
 returns-2 c =
     let r = c .before .before .before .before .before .before .before .before .before .before .before .before .args .r in
-    let w = sym (c .before .before .before .before .before .before .before .before .before .before .within .ensures) ∙ not-false _ (c .before .before .before .before .before .before .before .before .before .if1 .left) in
+    let w = sym (c .before .before .before .before .before .before .before .before .before .before .within .ensures) ∙ not-false _
+    (c .before .before .before .before .before .before .before .before .before .if1 .left) in
     let t = passed (c .before .before .before .before .before .before .before .before .before .before .before .before) w in
     let f = filled (c .before .before .before .before .before .before .before .put-body .ensures) (body-short r t) in
     writes-full r t w (puts-is (octets-form r t (f .0)) (c .before .before .before .put-tlv .ensures)) (c .if2 .taken)
@@ -68,7 +72,8 @@ same-length-2 c = search needs
 returns-3 : tie.Need-returns-3
 returns-3 c =
     let r = c .before .before .before .before .before .before .before .before .before .before .before .before .args .r in
-    let w = sym (c .before .before .before .before .before .before .before .before .before .before .within .ensures) ∙ not-false _ (c .before .before .before .before .before .before .before .before .before .if1 .left) in
+    let w = sym (c .before .before .before .before .before .before .before .before .before .before .within .ensures) ∙ not-false _
+    (c .before .before .before .before .before .before .before .before .before .if1 .left) in
     let t = passed (c .before .before .before .before .before .before .before .before .before .before .before .before) w in
     let f = filled (c .before .before .before .before .before .before .before .put-body .ensures) (body-short r t) in
     writes-done r t w (puts-is (octets-form r t (f .0)) (c .before .before .before .put-tlv .ensures)) (c .if2 .left)
