@@ -8,7 +8,6 @@ use Rattle.history.proofs.Scans as S
 use Rattle.history.proofs.Scans.{Asks}
 use Rattle.profile.specs.declared.Limits.{Limits}
 use Rattle.context.specs.declared.slots.Slot.{Slot}
-use Rattle.context.specs.declared.slots.Found.{Found}
 use Rattle.context.specs.declared.slots.Found.the-variants.{At, Nothing}
 use Rattle.context.specs.Slots.{naming, bears, foundAt, distinct}
 use Rattle.context.specs.Private.Clash.{clash}

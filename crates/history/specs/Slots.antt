@@ -4,7 +4,7 @@ use mathlib.Core.Bool.{Bool, true, not, cond, _&&_, _||_}
 use mathlib.Core.List.{List, [], _∷_, _++_}
 use mathlib.Core.Option.{Option, none, some}
 use Prim.Native.Nat.{ℕ, zero, suc}
-use Rattle.history.specs.Table.{Step, Handling}
+use Rattle.history.specs.Table.{Handling}
 
 -- The first place at which a test passes, where the list begins at place i.
 unfoldable pub firstFrom : {A : Type 0} → (A → Bool) → ℕ → List A → Option ℕ

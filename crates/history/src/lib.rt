@@ -14,5 +14,6 @@
 //
 // proofs/ has the theorem for every kind and every such node (Demand), the same of each call (Calls), what it says of all that is
 // written and stored under a name (Everything), the laws of one history (Records, Whole), and what an instance uses (Tables, Runs;
-// and for its code Scans, Ranges and Slots: loops over the slots, some of them one after another, and what the table does).
+// and for its code Scans, Ranges, Slots and Heards: loops over the slots, some of them one after another, what is free and filled,
+// and what the table does).
 // Sample shows how a node takes all this.

@@ -1,8 +1,8 @@
--- The table hears an event: history's laws of slots (proofs/Slots.antt) of contexts.
+-- The table hears an event: history's laws of slots (proofs/Slots.antt, Heards.antt) of contexts.
 use mathlib.Core.Path.{_≡_, refl, sym, ap, _∙_}
 use mathlib.Core.Logic.{_↔_}
-use mathlib.Core.Bool.{Bool, true, _&&_}
-use mathlib.Core.List.{List, [], _∷_, map}
+use mathlib.Core.Bool.{true}
+use mathlib.Core.List.{List, map}
 use Prim.Native.Nat.{ℕ, suc}
 use lib.Dec.{eqb}
 use lib.ListN.{length}
@@ -26,6 +26,7 @@ use Rattle.history.specs.Slots.{distinct, across, along}
 use Rattle.history.proofs.Lists.{all-map, all-both}
 use Rattle.history.proofs.Scans.{First, asks-all}
 use Rattle.history.proofs.Slots as S
+use Rattle.history.proofs.Heards as H
 use Rattle.node.specs.declared.Message.{Message}
 use Rattle.node.specs.Step.{Brought, handling, taken, seen, stood, markedOctets, octetsOf}
 use Rattle.node.specs.Held.{Shaped}
@@ -73,17 +74,17 @@ module _ (p : Profile) (t : ℕ) (h : Message) where
   module _ (cs : List Context) (s : All Settled cs) where
     pub all-after : map stood (slotsHear K tt t (tellsAll h) (map seen cs)) ≡ across 0 (length cs) (slotNext p t h) cs
     unfolding slotNext
-    all-after = S.all-after K taken noContext tt t markedOctets h cs s
+    all-after = H.all-after K taken noContext tt t markedOctets h cs s
 
     pub all-outs : octetsOf (slotsWrite K tt t (tellsAll h) (map seen cs)) ≡ along 0 (length cs) (slotOut p t h) cs
     unfolding slotOut octetsOf
-    all-outs = S.all-outs K taken noContext tt t markedOctets h cs s
+    all-outs = H.all-outs K taken noContext tt t markedOctets h cs s
 
   module _ (m : Name) {cs : List Context} {i : ℕ} (f : First (named m) cs i) (s : All Settled cs) (d : distinct contexts cs ≡ true) where
     pub tells-after : map stood (slotsHear K tt t (tells m h) (map seen cs)) ≡ across i (suc i) (slotNext p t h) cs
     unfolding slotNext
-    tells-after = S.tells-after K taken noContext tt t markedOctets h same-exactly m f s d
+    tells-after = H.tells-after K taken noContext tt t markedOctets h same-exactly m f s d
 
     pub tells-outs : octetsOf (slotsWrite K tt t (tells m h) (map seen cs)) ≡ along i (suc i) (slotOut p t h) cs
     unfolding slotOut octetsOf
-    tells-outs = S.tells-outs K taken noContext tt t markedOctets h same-exactly m f s d
+    tells-outs = H.tells-outs K taken noContext tt t markedOctets h same-exactly m f s d

@@ -1,5 +1,5 @@
 -- Some slots of the table, one after another: history's loops (proofs/Ranges.antt), which write into the lent buffer.
-use mathlib.Core.Path.{_≡_, refl}
+use mathlib.Core.Path.{refl}
 use mathlib.Core.List.{List, []}
 use Prim.Native.Nat.{ℕ, _<_}
 use native.Mathlib.Omega.{arith}

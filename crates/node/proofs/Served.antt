@@ -17,7 +17,8 @@ use Rattle.history.specs.Slots.{distinct, across, along}
 use Rattle.history.specs.Log.{Said, activates, tells, tellsAll}
 use Rattle.history.specs.Table.{free, slotsAfter}
 use Rattle.history.proofs.Scans.{First}
-use Rattle.history.proofs.Slots.{found-active, none-active, found-free, none-free, filled}
+use Rattle.history.proofs.Slots.{found-free, none-free, filled}
+use Rattle.history.proofs.Heards.{found-active, none-active}
 use Rattle.node.specs.declared.Node.{Node}
 use Rattle.node.specs.declared.Message.{Message}
 use Rattle.node.specs.Sound.{sound, latest, mostAccepted}

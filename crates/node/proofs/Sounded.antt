@@ -1,18 +1,16 @@
 -- Every accepted call keeps the node sound and as the types have it, and each record that it writes is within the rules and reads back.
 use mathlib.Core.Path.{_≡_, refl, sym, _∙_}
-use mathlib.Core.Bool.{true, false, not, _&&_, _||_}
-use mathlib.Core.List.{List, [], _∷_, _++_, map}
+use mathlib.Core.Bool.{true, false, not, _||_}
+use mathlib.Core.List.{List, [], _∷_, _++_}
 use Prim.Native.Nat.{ℕ, _+_, _≤_, _<_}
 use native.Mathlib.Omega.{arith}
 use lib.Dec.{leb, ltb}
 use lib.ListN.{length}
 use borrow.Author.Tests.{le-leb, leb-false, ltb-false, not-false as not-false-true}
-use Rattle.format.proofs.Tests.{both}
-use Rattle.profile.specs.Profile.{profileOk}
 use Rattle.event.specs.declared.Name.{Name}
 use Rattle.event.specs.declared.Decoded.the-variants as D
 use Rattle.event.specs.Fields.{timeOf}
-use Rattle.event.specs.Rows.{Row, row, firstFit, rows}
+use Rattle.event.specs.Rows.{row, firstFit, rows}
 use Rattle.event.specs.Event.{eventOf, saidBy, decoded}
 use Rattle.event.proofs.Firsts.{passed}
 use Rattle.context.specs.declared.Context.{Context}
@@ -21,7 +19,8 @@ use Rattle.context.specs.Context.{noContext}
 use Rattle.context.proofs.Sounds.{slot-active}
 use Rattle.history.specs.Lists.{All}
 use Rattle.history.specs.Slots.{distinct}
-use Rattle.history.proofs.Slots.{neither, fill-is, filled-all, filled-length, filled-distinct, none-bears, pairs-length}
+use Rattle.history.proofs.Slots.{neither, fill-is, filled-all, filled-length, filled-distinct, pairs-length}
+use Rattle.history.proofs.Heards.{none-bears}
 use Rattle.history.specs.Log.{Said, activates, tells, tellsAll, nothing}
 use Rattle.node.specs.declared.Node.{Node}
 use Rattle.node.specs.declared.Message.{Message}

@@ -27,7 +27,8 @@ use Rattle.history.specs.Table.{Handling, hears, listen, slot, slotsHear, slots
 use Rattle.history.specs.Slots.{distinct}
 use Rattle.history.proofs.Lists.{all-map, all-both}
 use Rattle.history.proofs.Scans.{asks-all, all-ask}
-use Rattle.history.proofs.Slots.{Keeps, same, freed, Pairs, pairs-all, pairs-distinct, hear-pairs, hear-all}
+use Rattle.history.proofs.Slots.{Keeps, same, freed, Pairs, pairs-all, pairs-distinct}
+use Rattle.history.proofs.Heards.{hear-pairs, hear-all}
 use Rattle.node.specs.declared.Message.{Message}
 use Rattle.node.specs.Step.{Brought, handling, taken, seen, stood}
 use Rattle.node.specs.Private.Told.{Fair, Small, Due, Apt}

@@ -1,19 +1,19 @@
 -- The sample's guests: hearing does what the history says.
-use Prim.Native.Nat.{ℕ, zero, suc, _+_}
+use Prim.Native.Nat.{ℕ, suc, _+_}
 use mathlib.Core.Path.{_≡_, refl, sym, ap, _∙_}
 use mathlib.Core.Logic.{_↔_}
-use mathlib.Core.Bool.{Bool, true, false, cond, _&&_}
+use mathlib.Core.Bool.{Bool, true, false, cond}
 use mathlib.Core.List.{List, [], _∷_, _++_, append-nil}
-use mathlib.Core.Option.{Option, none, some}
+use mathlib.Core.Option.{none, some}
 use native.Mathlib.Omega.{arith}
 use lib.Dec.{leb, eqb, eqb→eq}
 use lib.ListN.{length, length-append}
 use Rattle.history.specs.Lists.{each, test}
-use Rattle.history.specs.History.{History, standing, tally}
-use Rattle.history.specs.Records.{Stretch, inForce, changes, sinceOpening, closes, running, stretches, closings, leaves}
+use Rattle.history.specs.History.{History}
+use Rattle.history.specs.Records.{inForce, sinceOpening, closes, stretches, closings, leaves}
 use Rattle.history.specs.Log.{activates, heard}
 use Rattle.history.specs.Sample.Events.{Badge, Turn, Event}
-use Rattle.history.specs.Sample.Guests.{same, Stay, Heard, after, change, rules, says, settles, meaning, Stop, Visit, Guest, stop, forms}
+use Rattle.history.specs.Sample.Guests.{same, Stay, Heard, after, rules, says, settles, meaning, Visit, Guest, stop, forms}
 use Rattle.history.specs.Sample.Guests.{keep, moved, full, hear, takes, handling}
 use Rattle.history.proofs.Lists.{both, each-append, none≢some}
 use Rattle.history.proofs.Records.{inForce-open, inForce-running, changed}

@@ -3,17 +3,17 @@ use Prim.Native.Nat.{ℕ, zero, suc, _+_}
 use mathlib.Core.Path.{_≡_, refl, sym, ap}
 use mathlib.Core.Logic.{_↔_}
 use mathlib.Core.Bool.{Bool, true, false, cond}
-use mathlib.Core.List.{List, [], _∷_, _++_, map}
-use mathlib.Core.Option.{Option, none, some}
+use mathlib.Core.List.{List, [], _∷_, map}
+use mathlib.Core.Option.{none, some}
 use native.Mathlib.Nat.{add-zero}
 use native.Mathlib.Omega.{arith}
 use lib.Dec.{leb, eqb, T, eqb→eq, eqb-refl}
 use Rattle.history.specs.Lists.{sumOf, test}
 use Rattle.history.specs.History.{History, beganWith, total}
 use Rattle.history.specs.Records.{Stretch, whole, number, inForce, sinceOpening, running, stretches, closings, leaves}
-use Rattle.history.specs.Log.{activates, tells, tellsAll, heard}
+use Rattle.history.specs.Log.{activates, tellsAll, heard}
 use Rattle.history.specs.Sample.Events.{Order, Event, Settings, settles, soleOr}
-use Rattle.history.specs.Sample.Lines.{Force, Heard, after, octets, rules, says, meaning, Part, Bill, Line, part, forms}
+use Rattle.history.specs.Sample.Lines.{Force, Heard, after, octets, rules, says, meaning, Bill, Line, part, forms}
 use Rattle.history.specs.Sample.Lines.{keep, counted, turned, full, hear, takes, handling}
 use Rattle.history.proofs.Lists.{map-append, none≢some}
 use Rattle.history.proofs.Records.{inForce-running, every-open}

@@ -1,9 +1,8 @@
 -- The sample node meets the demand, for lines and for guests, with calls of several events.
-use Prim.Native.Nat.{ℕ, zero, suc, _+_, _≤_}
-use mathlib.Core.Path.{_≡_, refl, sym, ap, _∙_}
+use Prim.Native.Nat.{ℕ, zero, suc, _+_}
+use mathlib.Core.Path.{_≡_, refl, sym}
 use mathlib.Core.Bool.{Bool, true, false, not, cond, _&&_}
-use mathlib.Core.List.{List, [], _∷_, _++_, map, append-nil}
-use mathlib.Core.Option.{Option, none, some}
+use mathlib.Core.List.{List, [], _∷_, _++_, append-nil}
 use native.Mathlib.Nat.{add-zero}
 use native.Mathlib.Omega.{arith}
 use lib.Dec.{leb, eqb, leb→le, eqb→eq}
@@ -13,7 +12,7 @@ use Rattle.history.specs.Table.{Handling, free, active, writes}
 use Rattle.history.specs.Run.{ifZero, run, allWritten, log}
 use Rattle.history.specs.Demand.{Sight, Demand3, under, held}
 use Rattle.history.specs.Calls.{OneCall}
-use Rattle.history.specs.Sample.Events.{Badge, Order, Turn, Event, Settings, settles}
+use Rattle.history.specs.Sample.Events.{Badge, Event, Settings, settles}
 use Rattle.history.specs.Sample.Lines as lines
 use Rattle.history.specs.Sample.Guests as guests
 use Rattle.history.specs.Sample.Node.{Node, fresh, Written, bill, visit, excess, refusal, answer, written, single}
@@ -150,6 +149,11 @@ module _ (set : Settings) where
   -- and each call
   pub met-by-each : (calls : List Call) (i : Call) (n : ℕ) → OneCall lines.rules lines.meaning lines.forms ofLines machine (fresh set) set calls i n
   met-by-each calls i n = one-call lines.rules lines.meaning lines.forms ofLines machine (fresh set) set n (λ cs. met cs n) calls i
+
+  pub met-by-each-guest : (calls : List Call) (i : Call) (n : Badge)
+      → OneCall guests.rules guests.meaning guests.forms ofGuests machine (fresh set) (set .offset) calls i n
+  met-by-each-guest calls i n =
+      one-call guests.rules guests.meaning guests.forms ofGuests machine (fresh set) (set .offset) n (λ cs. met-by-guests cs n) calls i
 
   -- Every octet once, of the sample: the parts billed and stored, and what runs, are what was reported of a line by name.
   pub octets-billed : (calls : List Call) (n : ℕ)

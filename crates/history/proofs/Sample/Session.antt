@@ -3,11 +3,11 @@ use Prim.Native.Nat.{ℕ}
 use mathlib.Core.Path.{_≡_, refl}
 use mathlib.Core.List.{List, [], _∷_}
 use mathlib.Core.Option.{none, some}
-use Rattle.history.specs.Run.{applied, run, allWritten}
+use Rattle.history.specs.Run.{applied, allWritten}
 use Rattle.history.specs.Sample.Events.{Badge, Order, Turn, Event, Settings}
 use Rattle.history.specs.Sample.Lines.{Part}
 use Rattle.history.specs.Sample.Guests.{Stop}
-use Rattle.history.specs.Sample.Node.{Node, fresh, Written, bill, visit, Call, one, reports, machine}
+use Rattle.history.specs.Sample.Node.{fresh, bill, visit, Call, one, reports, machine}
 
 abbrev at : ℕ → Event → Call
 at t v = one (record { time = t; event = v })

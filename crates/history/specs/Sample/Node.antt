@@ -1,6 +1,6 @@
 -- The sample's node: lines and guests in one value, under one clock. What it writes is a record of either kind.
 use Prim.Native.Nat.{ℕ, zero, suc}
-use mathlib.Core.Bool.{Bool, cond}
+use mathlib.Core.Bool.{cond}
 use mathlib.Core.List.{List, [], _∷_, _++_, map}
 use mathlib.Core.Option.{Option, none}
 use lib.Dec.{leb, eqb}
