@@ -1,5 +1,5 @@
 -- The next event of a file: its length by what the code finds; it lies within what is left of the file, and is not nothing.
-use mathlib.Core.Path.{_≡_, refl, ap}
+use mathlib.Core.Path.{_≡_, refl, sym, ap, _∙_}
 use mathlib.Core.Bool.{Bool, true, false, cond, _&&_}
 use mathlib.Core.List.{List}
 use Prim.Native.Nat.{ℕ, _≤_, _<_, _+_}
@@ -7,14 +7,14 @@ use native.Mathlib.Omega.{arith}
 use lib.Dec.{leb}
 use lib.ListN.{length}
 use borrow.Author.Tests.{leb-true}
-use Rattle.format.proofs.Tests.{by}
 use Rattle.event.specs.Fields.{kindOf, countOf}
-use Rattle.event.specs.Kinds.{Kind, kinds, wholeOf}
+use Rattle.event.specs.Kinds.{Kind, kinds, rowOf, theRow, wholeOf}
+use Rattle.event.specs.Kinds.{activateKind, trafficKind, qosKind, tariffKind, releaseKind, tickKind, managementKind, noKind}
 use Rattle.event.specs.Rows.{known}
 use Rattle.event.specs.Framing.{nextLength}
 use Rattle.event.specs.Private.Entries.{entryOf}
 use Rattle.event.specs.declared.kinds.Entry.{Entry}
-use Rattle.event.proofs.Table.{Every, row-has, row-else}
+use Rattle.event.proofs.Table.{Every, row-else}
 
 -- ---- what the code finds
 
@@ -40,12 +40,31 @@ some : (t : Bool) (w n : ℕ) → 1 ≤ w → 1 ≤ n → 1 ≤ cond t w n
 some true w n a b = a
 some false w n a b = b
 
--- every kind's whole length is something
-whole-some : (s : List ℕ) → known s ≡ true → 1 ≤ wholeOf s
-unfolding wholeOf Every kinds
-whole-some s h =
-    row-has (λ (k : Kind). 1 ≤ k .whole s) s
-    (omega arith, (omega arith, (omega arith, (omega arith, (omega arith, (omega arith, (omega arith, tt))))))) h
+-- Of a kind's whole length: it is something, none is more than an activate's with 255 octets of name, and it goes by the octet of n alone.
+record Sized (k : Kind) : Type 0 where
+  some : (s : List ℕ) → 1 ≤ k .whole s
+  most : (s : List ℕ) → countOf s < 256 → k .whole s ≤ 291
+  same : (s t : List ℕ) → countOf t ≡ countOf s → k .whole t ≡ k .whole s
+
+-- one length for every event of the kind
+fixed : (k : Kind) (n : ℕ) → ((s : List ℕ) → k .whole s ≡ n) → 1 ≤ n → n ≤ 291 → Sized k
+fixed k n e a b =
+    record { some = λ s. omega (arith, e s); most = λ s h. omega (arith, e s); same = λ s t h. e t ∙ sym (e s) }
+
+named : Sized activateKind
+named = record { some = λ s. omega arith; most = λ s h. omega arith; same = λ s t h. ap (λ (i : ℕ). 36 + i) h }
+
+sized : (s : List ℕ) → Sized (theRow (rowOf s))
+unfolding Every kinds
+sized s =
+    let b = fixed trafficKind 23 (λ s. refl) (omega arith) (omega arith) in
+    let c = fixed qosKind 20 (λ s. refl) (omega arith) (omega arith) in
+    let d = fixed tariffKind 7 (λ s. refl) (omega arith) (omega arith) in
+    let e = fixed releaseKind 16 (λ s. refl) (omega arith) (omega arith) in
+    let f = fixed tickKind 7 (λ s. refl) (omega arith) (omega arith) in
+    let g = fixed managementKind 15 (λ s. refl) (omega arith) (omega arith) in
+    let z = fixed noKind 7 (λ s. refl) (omega arith) (omega arith) in
+    row-else Sized s (named, (b, (c, (d, (e, (f, (g, tt))))))) z
 
 -- never more than what is left
 pub next-within : (s : List ℕ) → nextLength s ≤ length s
@@ -54,23 +73,15 @@ next-within s = within (known s) (leb (wholeOf s) (length s)) (wholeOf s) (lengt
 
 -- and something, where something is left: a program that goes on behind each event comes to the end
 pub next-some : (s : List ℕ) → 1 ≤ length s → 1 ≤ nextLength s
-unfolding nextLength
-next-some s h =
-    by (known s) (λ k. rw k (some (leb (wholeOf s) (length s)) (wholeOf s) (length s) (whole-some s k) h)) (λ k. rw k h)
+unfolding nextLength wholeOf
+next-some s h = some (known s && leb (wholeOf s) (length s)) (wholeOf s) (length s) (sized s .some s) h
 
 -- ---- what the whole length goes by
 
--- the octet of the kind, and that of n
 pub whole-same : (s t : List ℕ) → kindOf t ≡ kindOf s → countOf t ≡ countOf s → wholeOf t ≡ wholeOf s
-unfolding wholeOf Every kinds
-whole-same s t k n =
-    rw (wholeOf, k)
-    (row-else (λ (r : Kind). r .whole t ≡ r .whole s) s
-    (ap (λ (i : ℕ). 36 + i) n, (refl, (refl, (refl, (refl, (refl, (refl, tt))))))) refl)
+unfolding wholeOf
+whole-same s t k n = rw (wholeOf, k) (sized s .same s t n)
 
--- no kind's is more than an activate's with 255 octets of name
 pub whole-most : (s : List ℕ) → countOf s < 256 → wholeOf s ≤ 291
-unfolding wholeOf Every kinds
-whole-most s h =
-    row-else (λ (r : Kind). r .whole s ≤ 291) s
-    (omega arith, (omega arith, (omega arith, (omega arith, (omega arith, (omega arith, (omega arith, tt))))))) (omega arith)
+unfolding wholeOf
+whole-most s h = sized s .most s h

@@ -68,7 +68,7 @@ isRow (some k) = true
 
 -- What stands in for the row that octets of no kind lack. They are refused as such, whatever it says.
 abbrev pub noKind : Kind
-noKind = record { number = 0; whole = λ s. 0; inRange = λ s. false; says = λ s. Tick }
+noKind = record { number = 0; whole = λ s. 7; inRange = λ s. false; says = λ s. Tick }
 
 abbrev pub theRow : Option Kind → Kind
 theRow none = noKind

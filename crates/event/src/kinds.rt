@@ -112,7 +112,7 @@ fn unknown(s: &[u8]) -> Entry
 {
     Entry {
         known: false,
-        whole: 0,
+        whole: 7,
         right: false,
         event: Event::Tick,
     }
