@@ -151,5 +151,13 @@ module _ (p : Profile) (t : ℕ) (c : Context) (a : Apt p t c) (size : length (c
       let k = fit p (a .due .profile) in
       let w = closes (p .limits) (c .current) t m (c .closed) (apt-grows p t c a .closed) f e in
       let o = opening-ok (p .limits .volume) (p .limits .changes) (p .zone) (a .due .clock) (c .current) (g .current) t (a .due .since) (a .due .until) (k .zone) in
-      rw (list-ok cause (numberFor (c .closed) (m .releases)), g .imsi, g .apn, o, w .known, w .number,
-      first-alone (c .closed) (eqb (c .flags / 2 % 2) 1) (m .releases), k .node)
+      rw (
+        list-ok cause (numberFor (c .closed) (m .releases)),
+        g .imsi,
+        g .apn,
+        o,
+        w .known,
+        w .number,
+        first-alone (c .closed) (eqb (c .flags / 2 % 2) 1) (m .releases),
+        k .node,
+      )

@@ -13,42 +13,105 @@ use Rattle.node.specs.declared.meaning.Meaning.the-variants.{Opens, Tell
 -- nothing at all
 abbrev pub quiet : Message
 quiet = record {
-  counts = false; up = 0; down = 0; brings = false; qos = noQos; tariff = false; ticks = false; closes = false; cause = 0; releases = false;
+  counts = false;
+  up = 0;
+  down = 0;
+  brings = false;
+  qos = noQos;
+  tariff = false;
+  ticks = false;
+  closes = false;
+  cause = 0;
+  releases = false;
 }
 
 -- "Traffic adds both volumes"; the volume limit is looked at "after a traffic event"
 abbrev pub report : ℕ → ℕ → Message
 report up down = record {
-  counts = true; up = up; down = down; brings = false; qos = noQos; tariff = false; ticks = false; closes = false; cause = 0; releases = false;
+  counts = true;
+  up = up;
+  down = down;
+  brings = false;
+  qos = noQos;
+  tariff = false;
+  ticks = false;
+  closes = false;
+  cause = 0;
+  releases = false;
 }
 
 -- a QoS profile, which is in force from now on
 abbrev pub newQos : Qos → Message
 newQos q = record {
-  counts = false; up = 0; down = 0; brings = true; qos = q; tariff = false; ticks = false; closes = false; cause = 0; releases = false;
+  counts = false;
+  up = 0;
+  down = 0;
+  brings = true;
+  qos = q;
+  tariff = false;
+  ticks = false;
+  closes = false;
+  cause = 0;
+  releases = false;
 }
 
 -- "Tariff ends the container of every context"
 abbrev pub tariffChange : Message
 tariffChange = record {
-  counts = false; up = 0; down = 0; brings = false; qos = noQos; tariff = true; ticks = false; closes = false; cause = 0; releases = false;
+  counts = false;
+  up = 0;
+  down = 0;
+  brings = false;
+  qos = noQos;
+  tariff = true;
+  ticks = false;
+  closes = false;
+  cause = 0;
+  releases = false;
 }
 
 -- "Time is looked at only on a tick."
 abbrev pub tick : Message
 tick = record {
-  counts = false; up = 0; down = 0; brings = false; qos = noQos; tariff = false; ticks = true; closes = false; cause = 0; releases = false;
+  counts = false;
+  up = 0;
+  down = 0;
+  brings = false;
+  qos = noQos;
+  tariff = false;
+  ticks = true;
+  closes = false;
+  cause = 0;
+  releases = false;
 }
 
 -- it closes the record, whatever the limits are; a release does, and no record opens after it
 abbrev pub closeWith : ℕ → Message
 closeWith cause = record {
-  counts = false; up = 0; down = 0; brings = false; qos = noQos; tariff = false; ticks = false; closes = true; cause = cause; releases = false;
+  counts = false;
+  up = 0;
+  down = 0;
+  brings = false;
+  qos = noQos;
+  tariff = false;
+  ticks = false;
+  closes = true;
+  cause = cause;
+  releases = false;
 }
 
 abbrev pub releaseWith : ℕ → Message
 releaseWith cause = record {
-  counts = false; up = 0; down = 0; brings = false; qos = noQos; tariff = false; ticks = false; closes = true; cause = cause; releases = true;
+  counts = false;
+  up = 0;
+  down = 0;
+  brings = false;
+  qos = noQos;
+  tariff = false;
+  ticks = false;
+  closes = true;
+  cause = cause;
+  releases = true;
 }
 
 -- Who hears an event, and what it is to them: an activate opens a context; traffic, QoS, release and management are told to the one that

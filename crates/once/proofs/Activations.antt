@@ -73,9 +73,9 @@ module _ (p : Profile) (name : Name) where
     times-within = all-of-map (λ r. Timed r × Lasts p name r) Timely (recordFrom p name) timely (records R h)
         (all-both Timed (Lasts p name) (records R h) (z .in-records) (durations p name h));
     uplink = rw (read h) (count-one R (forms p) name (entry p) containersOf used (carried p name) (carries p name) up
-        (λ c. c .uplink) (λ c. c .uplink) (λ x. add-zero _) (λ o. refl) h (ended R h) refl);
+        (λ c. c .uplink) (λ c. c .current .uplink) (λ x. add-zero _) (λ o. refl) h (ended R h) refl);
     downlink = rw (read h) (count-one R (forms p) name (entry p) containersOf used (carried p name) (carries p name) down
-        (λ c. c .downlink) (λ c. c .downlink) (λ x. add-zero _) (λ o. refl) h (ended R h) refl);
+        (λ c. c .downlink) (λ c. c .current .downlink) (λ x. add-zero _) (λ o. refl) h (ended R h) refl);
   }
 
 -- ---- all of a name's

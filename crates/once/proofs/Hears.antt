@@ -46,6 +46,10 @@ nodes Heard.management = closeWith 20
 
 -- ---- the volumes of containers, and the number of a record
 
+or-none : (o : Option ℕ) → orElse o none ≡ o
+or-none none = refl
+or-none (some k) = refl
+
 volumes : (p : Profile) (xs : List (Stretch Force Heard))
     → volumeOf (map (container p) xs) ≡ sumOf (λ x. total up (whole x)) xs + sumOf (λ x. total down (whole x)) xs
 unfolding volumeOf
@@ -209,11 +213,11 @@ module _ (p : Profile) (n : Name) (h : History Force Heard) (t : ℕ) where
 
   closes-alike : (e : Heard) → closing (p .limits) (stands (inForce R h) .current) t (nodes e) ≡ causeFor R past t e
   unfolding closing limitMet reported changeOf
-  closes-alike (Heard.traffic u d) = rw (counted u d)
+  closes-alike (Heard.traffic u d) = rw (counted u d) (or-none _)
   closes-alike (Heard.qos q) = closes-qos q _ refl
   closes-alike Heard.tariff = rw add-one
   closes-alike (Heard.release x) = refl
-  closes-alike Heard.tick = refl
+  closes-alike Heard.tick = or-none _
   closes-alike Heard.management = refl
 
   -- what the history says, with one name for what is in force

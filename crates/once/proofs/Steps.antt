@@ -15,9 +15,9 @@ use Rattle.profile.specs.declared.Profile.{Profile}
 use Rattle.event.specs.declared.Name.{Name}
 use Rattle.event.specs.Fields.{kindOf, timeOf}
 use Rattle.event.specs.Rows.{Row, row, firstFit, known}
-use Rattle.event.specs.Kinds.{kinds, kindIn}
+use Rattle.event.specs.Kinds.{kinds}
 use Rattle.event.specs.Event.{eventOf}
-use Rattle.event.proofs.Table.{known-is}
+use Rattle.event.proofs.Table.{Every, row-has, row-number}
 use Rattle.context.specs.declared.Context.{Context}
 use Rattle.history.specs.Log.{Said, activates, tells, tellsAll, nothing}
 use Rattle.history.specs.Table as table
@@ -34,19 +34,12 @@ use Rattle.once.proofs.Handles.{said, handling, active-alike}
 
 -- The octets of a known kind say to the node what they mean.
 pub says-alike : (s : List ℕ) → known s ≡ true → step.saidOf s ≡ said (says s)
-unfolding says eventOf kinds kindIn
-says-alike s z =
-    let k = kindOf s in
-    let w = both (leb 1 k) (leb k 7) (sym (known-is s) ∙ z) in
-    by (eqb k 1) (λ e. rw e)
-    (λ a. by (eqb k 2) (λ e. rw (a, e))
-    (λ b. by (eqb k 3) (λ e. rw (a, b, e))
-    (λ c. by (eqb k 4) (λ e. rw (a, b, c, e))
-    (λ d. by (eqb k 5) (λ e. rw (a, b, c, d, e))
-    (λ f. by (eqb k 6) (λ e. rw (a, b, c, d, f, e))
-    (λ g.
-    let i : k ≡ 7 = omega (arith, leb-true 1 k (w .0), leb-true k 7 (w .1), eqb-false k 1 a, eqb-false k 2 b, eqb-false k 3 c, eqb-false k 4 d, eqb-false k 5 f, eqb-false k 6 g) in
-    rw (a, b, c, d, f, g, eq-eqb k 7 i)))))))
+unfolding says eventOf kinds Every
+says-alike s z = row-has (λ k. k .number ≡ kindOf s → step.takes (k .says s) s ≡ said (says s)) s alike z (row-number s z)
+  where
+    alike : Every (λ k. k .number ≡ kindOf s → step.takes (k .says s) s ≡ said (says s)) kinds
+    alike =
+        ((λ e. rw (← e)), ((λ e. rw (← e)), ((λ e. rw (← e)), ((λ e. rw (← e)), ((λ e. rw (← e)), ((λ e. rw (← e)), ((λ e. rw (← e)), tt)))))))
 
 -- ---- what the answer 0 says of the refusal table
 

@@ -22,8 +22,12 @@ returns-3 c =
 returns-4 : tie.Need-returns-4
 returns-4 c =
     let o = c .before .before .before .before .before .before .args .o in
-    rw (c .ended .ensures, lt-ltb (o .count) 15 (c .before .before .before .if2 .left), sym (c .before .before .unused-blank .ensures) ∙ not-false _ (c .before .if3 .left),
-    lt-ltb (o .changes) 255 (c .before .before .before .before .if1 .left))
+    rw (
+      c .ended .ensures,
+      lt-ltb (o .count) 15 (c .before .before .before .if2 .left),
+      sym (c .before .before .unused-blank .ensures) ∙ not-false _ (c .before .if3 .left),
+      lt-ltb (o .changes) 255 (c .before .before .before .before .if1 .left),
+    )
 
 pub changed-spec : {M : Type 1} → statement M
 changed-spec =

@@ -5,7 +5,7 @@ use Rattle.container.proofs.open.is_sound.Statement.{statement}
 use Rattle.container.proofs.open.is_sound.Tie as tie
 
 returns : tie.Need-returns
-returns c = 
+returns c =
     let t = c .before .before .before .before in
     let a = c .before .before .before .before .before .before .before .before .before .before .before .args in
     rules-found (a .volume) (a .changes) (a .zone) (a .clock) (a .o) (t .before .before .before .qos-ok .ensures) (t .before .before .spend .ensures)

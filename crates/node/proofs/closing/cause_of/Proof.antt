@@ -38,7 +38,6 @@ returns-5 c =
     by-none (a .l) (a .o) (a .t) (a .m) (x .before .before .before .before .before .before .before .reported .ensures) (x .before .before .before .before .before .before .volume-met .ensures) (x .before .before .before .before .time-met .ensures)
     (x .before .before .is-change .ensures) (x .before .changes-met .ensures) (x .if1 .left) (c .before .before .if2 .left) (c .before .if3 .left) (c .if4 .left)
 
-
 pub cause-of-spec : {M : Type 1} → statement M
 cause-of-spec =
     tie.close

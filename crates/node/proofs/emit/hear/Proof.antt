@@ -32,9 +32,10 @@ put-record-requires : tie.Need-put-record-requires
 put-record-requires c κs =
     let s = c .before .before .before .before .before .before .before .before .before in
     let a = s .args in
-    let e = perhaps-is (closing (a .p .limits) (a .c .current) (a .t) (a .m)) (c .before .before .before .before .before .cause-of .ensures) (c .before .before .before .k .given .1) in
-    (rw (c .before .closed-by .ensures) (closed-within (a .p) (a .t) (a .c) (s .pre .0) (placed s) (a .m) (s .pre .1 .0) (small s) _ e),
-    room-closes (a .p) (a .c) (a .t) (a .m) (a .at) e (c .before .closed-by .ensures) (s .pre .1 .1))
+    let e = perhaps-is (closing (a .p .limits) (a .c .current) (a .t) (a .m)) (c .before .before .before .before .before .cause-of .ensures) (c .before .before .before .k .given .1) in (
+      rw (c .before .closed-by .ensures) (closed-within (a .p) (a .t) (a .c) (s .pre .0) (placed s) (a .m) (s .pre .1 .0) (small s) _ e),
+      room-closes (a .p) (a .c) (a .t) (a .m) (a .at) e (c .before .closed-by .ensures) (s .pre .1 .1),
+    )
 
 after-closing-requires : tie.Need-after-closing-requires
 after-closing-requires c κs = let s = c .before .before .before .before .before .before .before .before .before .before .before .before in apt-grows (s .args .p) (s .args .t) (s .args .c) (s .pre .0)

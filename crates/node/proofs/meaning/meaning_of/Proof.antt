@@ -24,7 +24,6 @@ returns-6 c = rw (c .before .enum-told2 .given .1, c .tick .ensures)
 returns-7 : tie.Need-returns-7
 returns-7 c = rw (c .before .before .e5 .given .1, c .close-with .ensures)
 
-
 pub meaning-of-spec : {M : Type 1} → statement M
 meaning-of-spec =
     tie.close

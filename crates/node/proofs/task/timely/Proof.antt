@@ -25,8 +25,12 @@ returns-4 : tie.Need-returns-4
 unfolding timelyTask
 returns-4 c =
     let a = c .before .before .before .before .before .args in
-    rw (le-ltb latest (a .t) (c .before .before .before .before .if1 .left), le-ltb (a .t) (a .clock) (c .before .before .before .if2 .left), lt-leb mostAccepted (a .accepted) (c .before .before .if3 .left),
-    ← c .before .meaning-of .ensures) (c .task-of .ensures)
+    rw (
+      le-ltb latest (a .t) (c .before .before .before .before .if1 .left),
+      le-ltb (a .t) (a .clock) (c .before .before .before .if2 .left),
+      lt-leb mostAccepted (a .accepted) (c .before .before .if3 .left),
+      ← c .before .meaning-of .ensures,
+    ) (c .task-of .ensures)
 
 pub timely-spec : {M : Type 1} → statement M
 timely-spec = tie.close (tie.spec returns returns-2 returns-3 (λ c κs. search needs) task-of-requires returns-4)

@@ -16,8 +16,16 @@ returns c =
     let o = s .args .c .current in
     let m = s .args .m in
     let k = perhaps-is (changeOf o m) (c .before .before .before .before .before .before .before .before .change-of .ensures) (c .before .before .before .before .before .k .given .1) in
-    rw (c .going .ensures, c .before .changed .ensures, c .before .before .before .before .before .before .before .reported .ensures, roomy-reported o m (s .pre .place), fewer-reported o m (s .pre .changes),
-    c .before .before .time-at .ensures, c .before .before .before .qos-after .ensures, k)
+    rw (
+      c .going .ensures,
+      c .before .changed .ensures,
+      c .before .before .before .before .before .before .before .reported .ensures,
+      roomy-reported o m (s .pre .place),
+      fewer-reported o m (s .pre .changes),
+      c .before .before .time-at .ensures,
+      c .before .before .before .qos-after .ensures,
+      k,
+    )
 
 returns-2 : tie.Need-returns-2
 unfolding goesOn
