@@ -10,15 +10,17 @@ use lib.ListN.{length, getD, take, drop, length-take}
 use lib.Seq.{getD-take, take-all, take-take}
 use borrow.Author.Tests.{eqb-true, eqb-false, le-leb, le-ltb, ne-eqb}
 use Rattle.format.proofs.Tests.{by, either}
-use Rattle.event.specs.Fields.{kindOf, countOf, timeOf, wholeLength}
+use Rattle.event.specs.Fields.{kindOf, timeOf}
+use Rattle.event.specs.Kinds.{wholeOf}
 use Rattle.event.specs.Rows.{row, firstFit, rows, marked, known}
 use Rattle.event.specs.Framing.{nextLength}
-use Rattle.event.proofs.Framed.{next-within, next-some}
+use Rattle.event.proofs.Framed.{whole-most, whole-same, next-within, next-some}
 use Rattle.history.specs.Lists.{All}
 use Rattle.node.specs.declared.Node.{Node}
 use Rattle.node.specs.Sound.{sound}
 use Rattle.node.specs.Step.{saidOf, refusals, stepOf}
 use Rattle.node.specs.Held.{Octets}
+use Rattle.node.proofs.Brings.{octet-at}
 use Rattle.node.proofs.Demands.{refused}
 use Rattle.charging.specs.Done.{Done, nothing}
 use Rattle.charging.specs.File.{nextEvent, roomy, taken, firstOf}
@@ -47,27 +49,9 @@ module _ (n : Node) (s : List ℕ) where
 
 -- ---- in a window
 
-octet-at : (s : List ℕ) → Octets s → (i : ℕ) → getD s i 0 < 256
-octet-at [] o i = omega arith
-octet-at (x ∷ s) o zero = o .0
-octet-at (x ∷ s) o (suc i) = octet-at s (o .1) i
-
--- no kind's whole length is more than an activate's with 255 octets of name
-below : (t : Bool) (w n : ℕ) → w ≤ 291 → n ≤ 291 → cond t w n ≤ 291
-below true w n a b = a
-below false w n a b = b
-
-whole-below : (k n : ℕ) → n < 256 → wholeLength k n ≤ 291
-unfolding wholeLength
-whole-below k n h =
-    below (eqb k 1) (36 + n) _ (omega arith)
-    (below (eqb k 2) 23 _ (omega arith)
-    (below (eqb k 3) 20 _ (omega arith) (below (eqb k 5) 16 _ (omega arith) (below (eqb k 7) 15 7 (omega arith) (omega arith)))))
-
--- a known kind with its whole length there
-next-known : (s : List ℕ) → known s ≡ true → wholeLength (kindOf s) (countOf s) ≤ length s → nextLength s ≡ wholeLength (kindOf s) (countOf s)
+next-known : (s : List ℕ) → known s ≡ true → wholeOf s ≤ length s → nextLength s ≡ wholeOf s
 unfolding nextLength
-next-known s k h = rw (k, le-leb (wholeLength (kindOf s) (countOf s)) (length s) h)
+next-known s k h = rw (k, le-leb (wholeOf s) (length s) h)
 
 next-unknown : (s : List ℕ) → known s ≡ false → nextLength s ≡ length s
 unfolding nextLength
@@ -119,11 +103,11 @@ module _ (n : Node) (s : List ℕ) (h : ℕ) (o : Octets s) (long : 291 ≤ leng
   unfolding marked
   same-marked = rw (same-at 0 (omega arith), same-at 1 (omega arith))
 
-  same-whole : wholeLength (kindOf t) (countOf t) ≡ wholeLength (kindOf s) (countOf s)
-  same-whole = rw (same-at 2 (omega arith), same-at 35 (omega arith))
+  same-whole : wholeOf t ≡ wholeOf s
+  same-whole = whole-same s t (same-at 2 (omega arith)) (same-at 35 (omega arith))
 
-  whole-there : wholeLength (kindOf s) (countOf s) ≤ 291
-  whole-there = whole-below (kindOf s) (countOf s) (octet-at s o 35)
+  whole-there : wholeOf s ≤ 291
+  whole-there = whole-most s (octet-at s o 35)
 
   next-same : known s ≡ true → nextLength t ≡ nextLength s
   next-same k =

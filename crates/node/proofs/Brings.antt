@@ -41,7 +41,7 @@ use Rattle.node.proofs.Fits.{fit}
 
 -- ---- numbers in octets
 
-octet-at : (s : List ℕ) → Octets s → (i : ℕ) → getD s i 0 < 256
+pub octet-at : (s : List ℕ) → Octets s → (i : ℕ) → getD s i 0 < 256
 octet-at [] o i = omega arith
 octet-at (x ∷ s) o zero = o .0
 octet-at (x ∷ s) o (suc i) = octet-at s (o .1) i
