@@ -1,4 +1,4 @@
-/* The plain C beside the proved program `pace`, doing the same with the same files (bench/run).
+/* The plain C beside the proved program's `testing pace`, doing the same with the same files (bench/run).
  *
  *     plain PROFILE EVENTS          the record list of the events, on standard output
  *     plain PROFILE EVENTS RECORDS  three lines: what the step, the writer and the reader did, and how long they took

@@ -1,7 +1,8 @@
 // Characters on their way to standard output: they wait in a buffer, which is written where it is full, and at the end.
 //
-// No contract can say what is written: of one character it says what waits then, as the write went; each other function is proved safe and ending.
-// Each puts something behind the characters that wait, and answers how many wait then: 4097 once a write has failed.
+// No contract can say what is written: of one character it says what waits then, as the write went; each other function that puts
+// something is proved safe and ending. It puts it behind the characters that wait, and answers how many wait then: 4097 once a write has
+// failed.
 use libc::STDOUT_FILENO;
 ghost use Rattle.out.specs.Put.{PutsOne};
 
@@ -34,20 +35,13 @@ pub fn put_all(text: &mut [u8; 4096], waiting: usize, s: &[u8]) -> usize {
     w
 }
 
-// So many spaces, at most 32.
-pub fn put_spaces(text: &mut [u8; 4096], waiting: usize, n: usize) -> usize {
-    put_all(
-        text,
-        waiting,
-        window::front(b"                                ", n),
-    )
-}
-
-// A number.
-pub fn put_number(text: &mut [u8; 4096], waiting: usize, n: u64) -> usize {
+// A number at the right of a column, which is at most 32 wide.
+pub fn put_right(text: &mut [u8; 4096], waiting: usize, n: u64, width: usize) -> usize {
     let mut digits = [0u8; 20];
     let k = io::decimal(n, &mut digits);
-    put_all(text, waiting, &digits[..k])
+    let spaces = window::front(b"                                ", gap(width, k));
+    let w = put_all(text, waiting, spaces);
+    put_all(text, w, &digits[..k])
 }
 
 // How far a word of k characters stands from the left of a column.
@@ -56,20 +50,6 @@ fn gap(width: usize, k: usize) -> usize {
         return width - k;
     }
     0
-}
-
-// A number at the right of a column.
-pub fn put_right(text: &mut [u8; 4096], waiting: usize, n: u64, width: usize) -> usize {
-    let mut digits = [0u8; 20];
-    let k = io::decimal(n, &mut digits);
-    let w = put_spaces(text, waiting, gap(width, k));
-    put_all(text, w, &digits[..k])
-}
-
-// A word at the left of a column.
-pub fn put_left(text: &mut [u8; 4096], waiting: usize, s: &[u8], width: usize) -> usize {
-    let w = put_all(text, waiting, s);
-    put_spaces(text, w, gap(width, s.len()))
 }
 
 // One digit of sixteen, as a character.

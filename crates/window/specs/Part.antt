@@ -1,4 +1,4 @@
--- A part of octets. Assumes nothing.
+-- A part of octets.
 use mathlib.Core.Bool.{cond, _&&_}
 use mathlib.Core.List.{List, []}
 use Prim.Native.Nat.{ℕ, _-_}

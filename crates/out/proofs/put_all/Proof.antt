@@ -1,4 +1,4 @@
--- `out::put_all` is safe and ends. Assumes nothing.
+-- `out::put_all` is safe and ends.
 use Prim.Native.Nat.{_-_, _≤_}
 use native.Mathlib.Omega.{arith}
 use lib.ListN.{length}

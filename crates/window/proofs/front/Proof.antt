@@ -1,4 +1,4 @@
--- `window::front` meets its contract. Assumes nothing.
+-- `window::front` meets its contract.
 use mathlib.Core.Path.{sym}
 use native.Mathlib.Omega.{arith}
 use lib.Seq.{length-take-le, take-all}

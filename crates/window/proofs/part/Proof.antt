@@ -1,4 +1,4 @@
--- `window::part` meets its contract. Assumes nothing.
+-- `window::part` meets its contract.
 use lib.ListN.{length}
 use borrow.Author.Tests.{le-leb, lt-leb}
 use Rattle.window.specs.Part.{partOf}
@@ -18,7 +18,9 @@ slice-aggregate-result-2 c = search needs
 
 returns-2 : tie.Need-returns-2
 unfolding partOf
-returns-2 c = let a = c .before .before .before .args in rw (le-leb (a .a) (a .b) (c .before .before .if1 .left), lt-leb (a .b) (length (a .s .now)) (c .before .if2 .taken))
+returns-2 c =
+    let a = c .before .before .before .args in
+    rw (le-leb (a .a) (a .b) (c .before .before .if1 .left), lt-leb (a .b) (length (a .s .now)) (c .before .if2 .taken))
 
 part-result-start : tie.Need-part-result-start
 part-result-start c = search needs
@@ -28,7 +30,9 @@ part-result-end c = search needs
 
 returns-3 : tie.Need-returns-3
 unfolding partOf
-returns-3 c = let a = c .before .before .before .args in rw (le-leb (a .a) (a .b) (c .before .before .if1 .left), le-leb (a .b) (length (a .s .now)) (c .before .if2 .left))
+returns-3 c =
+    let a = c .before .before .before .args in
+    rw (le-leb (a .a) (a .b) (c .before .before .if1 .left), le-leb (a .b) (length (a .s .now)) (c .before .if2 .left))
 
 pub part-spec : {M : Type 1} → statement M
 part-spec =

@@ -1,0 +1,150 @@
+// The numbers that the letters of a form stand for, each at the place of its letter: a at 1, b at 2, and so on. 0 where there is none.
+use container::Container;
+use scdr::Record;
+
+fn flag(set: bool) -> u64 {
+    if set {
+        return 1;
+    }
+    0
+}
+
+fn wide(x: u8) -> u64 {
+    x as u64
+}
+
+// A record: which it is, counted from 1 (r), how many octets of the file lie before its mark (o), how many it has without the mark (l),
+// and its fields.
+pub fn of_record(r: Record, which: u64, before: u64, size: u64) -> [u64; 27] {
+    let list = r.containers;
+    let opening = r.opening;
+    let seconds = lasted(list, r.count, opening.seconds);
+    [
+        0,
+        0,
+        // b: how long the node ID is
+        r.nodelen as u64,
+        // c: chargingID
+        r.charging as u64,
+        // d: duration; e: how many containers there are
+        seconds,
+        r.count as u64,
+        // f: the opening in seconds; g: ggsnAddressUsed; h: sgsnChange
+        opening.seconds as u64,
+        r.ggsn as u64,
+        flag(r.change),
+        0,
+        // j: how long the access point name is; k: causeForRecClosing
+        r.apnlen as u64,
+        wide(r.cause),
+        // l; m: whether there is a node ID; n: whether there is no recordSequenceNumber
+        size,
+        flag(r.nodelen != 0),
+        flag(r.number == 0),
+        // o; p: servedPDPAddress; q: recordSequenceNumber
+        before,
+        r.address as u64,
+        r.number,
+        // r; s: sgsnAddress; t: the opening's zone
+        which,
+        r.sgsn as u64,
+        opening.zone as u64,
+        0,
+        0,
+        // w: networkInitiation
+        flag(r.network),
+        0,
+        // y, z: the two octets of the PDP type
+        (r.pdptype / 256) as u64,
+        (r.pdptype % 256) as u64,
+    ]
+}
+
+// How long a record lasted: from its opening to the end of its last container.
+fn lasted(list: [Container; 15], count: usize, opening: u32) -> u64 {
+    if count < 1 {
+        return 0;
+    }
+    if 15 < count {
+        return 0;
+    }
+    let c = list[count - 1];
+    let t = c.time;
+    seconds_from(opening, t.seconds)
+}
+
+fn seconds_from(opening: u32, last: u32) -> u64 {
+    if last < opening {
+        return 0;
+    }
+    (last - opening) as u64
+}
+
+// A container: octets up (u) and down (v), why it ended (k), when, in seconds (f) and with its zone (t), and its QoS: reliability (b), delay
+// (e), precedence (j), peak (w) and mean (h). q is 0 for the first of a list.
+pub fn of_container(c: Container, place: usize) -> [u64; 27] {
+    let q = c.qos;
+    let t = c.time;
+    [
+        0,
+        0,
+        wide(q.reliability),
+        0,
+        0,
+        wide(q.delay),
+        t.seconds as u64,
+        0,
+        wide(q.mean),
+        0,
+        wide(q.precedence),
+        wide(c.condition),
+        0,
+        0,
+        0,
+        0,
+        0,
+        flag(place != 0),
+        0,
+        0,
+        t.zone as u64,
+        c.uplink,
+        c.downlink,
+        wide(q.peak),
+        0,
+        0,
+        0,
+    ]
+}
+
+// The sums of a record's containers: octets up (u) and down (v).
+pub fn of_sums(up: u64, down: u64) -> [u64; 27] {
+    [
+        0,
+        0,
+        0,
+        0,
+        0,
+        0,
+        0,
+        0,
+        0,
+        0,
+        0,
+        0,
+        0,
+        0,
+        0,
+        0,
+        0,
+        0,
+        0,
+        0,
+        0,
+        up,
+        down,
+        0,
+        0,
+        0,
+        0,
+    ]
+}

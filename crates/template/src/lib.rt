@@ -1,0 +1,306 @@
+// A form: characters as they are to be written, in which `%` and a character stand for a value. A form has 26 numbers, one for each letter
+// (at the place of its letter: a at 1, b at 2, and so on), and one word: octets.
+//
+//     %a to %z   the number of that letter, or the word, written as the letter and the style ask: below, at `put_value` and `put_plain`
+//     %A to %Z   begins a choice by the number of that letter. What follows stands where it is 0,
+//     %;         what follows this where it is 1 more, and
+//     %.         ends the choice. There is no choice within a choice
+//     %0 to %8   the word is a time of nine octets, as it stands in a record: one of them, of YY MM DD hh mm ss S hh mm
+//
+// No contract can say what is written: each function that puts something is proved safe and ending.
+use libc::STDERR_FILENO;
+use out::put;
+use out::put_hex;
+use out::put_octet;
+use out::put_right;
+use std::num::wrapping_sub_u64;
+ghost use mathlib.Core.Path.{_≡_};
+ghost use Rattle.template.specs.Numbers.{fourOf};
+
+// For people, and the words that programs say: numbers stand in columns.
+pub const TEXT: u8 = 0;
+
+// For JSON: numbers as they are, and names with escapes.
+pub const JSON: u8 = 1;
+
+// Each value in octets of a fixed number, two digits of sixteen each.
+pub const PLAIN: u8 = 2;
+
+// The digits of an IMSI.
+const DIGITS: u8 = 3;
+
+// How far a form has been written: how many characters wait; whether a `%` came last; how many `%;` are to come until characters stand.
+struct Fill {
+    waiting: usize,
+    code: bool,
+    skip: u64,
+}
+
+// Puts what a form says behind the characters that wait, and answers how many wait then.
+pub fn put_form(
+    text: &mut [u8; 4096],
+    waiting: usize,
+    style: u8,
+    form: &[u8],
+    numbers: &[u64; 27],
+    word: &[u8],
+) -> usize {
+    let mut f = Fill {
+        waiting,
+        code: false,
+        skip: 0,
+    };
+    let mut i: usize = 0;
+    while i < form.len() {
+        f = put_next(text, f, style, form[i], numbers, word);
+        i += 1;
+    }
+    f.waiting
+}
+
+// What a form says, in the style for people, on standard error. It has at most 4,096 characters.
+pub fn say(form: &[u8], numbers: &[u64; 27], word: &[u8]) {
+    let mut text = [0u8; 4096];
+    let n = put_form(&mut text, 0, TEXT, form, numbers, word);
+    write_front(&text, n);
+}
+
+fn write_front(text: &[u8; 4096], n: usize) {
+    io::write_all(STDERR_FILENO, window::front(text, n));
+}
+
+// The numbers of a form that has four at most: %k, %l, %m and %n.
+pub fn four(k: u64, l: u64, m: u64, n: u64) -> [u64; 27]
+    ensures { λ r. ⌜ r ≡ fourOf k l m n ⌝ }
+{
+    [
+        0,
+        0,
+        0,
+        0,
+        0,
+        0,
+        0,
+        0,
+        0,
+        0,
+        0,
+        k,
+        l,
+        m,
+        n,
+        0,
+        0,
+        0,
+        0,
+        0,
+        0,
+        0,
+        0,
+        0,
+        0,
+        0,
+        0,
+    ]
+}
+
+// One character of a form.
+fn put_next(
+    text: &mut [u8; 4096],
+    f: Fill,
+    style: u8,
+    x: u8,
+    numbers: &[u64; 27],
+    word: &[u8],
+) -> Fill {
+    if f.code {
+        return put_code(text, f, style, x, number_of(numbers, x), word);
+    }
+    if x == b'%' {
+        return Fill {
+            waiting: f.waiting,
+            code: true,
+            skip: f.skip,
+        };
+    }
+    if f.skip != 0 {
+        return f;
+    }
+    Fill {
+        waiting: put(text, f.waiting, x),
+        code: false,
+        skip: 0,
+    }
+}
+
+// The character after a `%`, and its number.
+fn put_code(text: &mut [u8; 4096], f: Fill, style: u8, x: u8, n: u64, word: &[u8]) -> Fill {
+    let skip = skip_after(f.skip, x, n);
+    if f.skip != 0 {
+        return Fill {
+            waiting: f.waiting,
+            code: false,
+            skip,
+        };
+    }
+    Fill {
+        waiting: put_value(text, f.waiting, style, x, n, word),
+        code: false,
+        skip,
+    }
+}
+
+// How many `%;` are to come then. Past the part that stands that is a number which no form uses up.
+fn skip_after(skip: u64, x: u8, n: u64) -> u64 {
+    match x {
+        b'.' => 0,
+        b';' => wrapping_sub_u64(skip, 1),
+        b'A'..=b'Z' => n,
+        _ => skip,
+    }
+}
+
+// The octet that a digit names; 0 past the end.
+fn octet_of(s: &[u8], digit: u8) -> u8 {
+    let at = size(digit % 16);
+    if at < s.len() {
+        return s[at];
+    }
+    0
+}
+
+fn size(x: u8) -> usize {
+    x as usize
+}
+
+// The number that a letter names.
+fn number_of(numbers: &[u64], letter: u8) -> u64 {
+    let at = size(letter % 32);
+    if at < numbers.len() {
+        return numbers[at];
+    }
+    0
+}
+
+// A value where it stands for people or in JSON: an octet of a time (the seventh is a sign, the others are two decimal digits each), the
+// word, an address, an octet, or else a number.
+fn put_value(
+    text: &mut [u8; 4096],
+    waiting: usize,
+    style: u8,
+    x: u8,
+    n: u64,
+    word: &[u8],
+) -> usize {
+    if style == PLAIN {
+        return put_plain(text, waiting, x, n, word);
+    }
+    match x {
+        b'.' | b';' | b'A'..=b'Z' => waiting,
+        b'6' => put(text, waiting, octet_of(word, x)),
+        b'0'..=b'8' => put_octet(text, waiting, octet_of(word, x)),
+        b'a' => put_word(text, waiting, style, word),
+        b'i' => put_word(text, waiting, DIGITS, word),
+        b'g' | b'p' | b's' => put_address(text, waiting, n),
+        b'y' | b'z' => put_octet(text, waiting, lowest(n)),
+        _ => put_right(text, waiting, n, width(style, x)),
+    }
+}
+
+// How wide the column of a number is in the table of containers.
+fn width(style: u8, letter: u8) -> usize {
+    if style == JSON {
+        return 0;
+    }
+    match letter {
+        b'u' | b'v' => 16,
+        b'b' => 13,
+        b'e' => 6,
+        b'j' => 11,
+        b'h' | b'w' => 5,
+        _ => 0,
+    }
+}
+
+// A value in its octets: the word, or as many of a number's as its letter has.
+fn put_plain(text: &mut [u8; 4096], waiting: usize, letter: u8, n: u64, word: &[u8]) -> usize {
+    if letter == b'a' {
+        return put_hex(text, waiting, word);
+    }
+    let octets = octets_of(n);
+    put_hex(text, waiting, window::part(&octets, first(letter), 8))
+}
+
+// The octets of a number, the most significant first.
+fn octets_of(n: u64) -> [u8; 8] {
+    [
+        lowest(n / 72057594037927936),
+        lowest(n / 281474976710656),
+        lowest(n / 1099511627776),
+        lowest(n / 4294967296),
+        lowest(n / 16777216),
+        lowest(n / 65536),
+        lowest(n / 256),
+        lowest(n),
+    ]
+}
+
+// The first of the eight octets that a number of this letter has: of eight, four, two or one.
+fn first(letter: u8) -> usize {
+    match letter {
+        b'q' | b'u' | b'v' => 0,
+        b'c' | b'f' | b'g' | b'p' | b's' => 4,
+        b't' => 6,
+        _ => 7,
+    }
+}
+
+// The lowest octet of a number.
+fn lowest(n: u64) -> u8 {
+    (n % 256) as u8
+}
+
+// The characters of a name, or the digits of an IMSI.
+fn put_word(text: &mut [u8; 4096], waiting: usize, style: u8, s: &[u8]) -> usize {
+    let mut w = waiting;
+    let mut i: usize = 0;
+    while i < s.len() {
+        w = put_char(text, w, style, s[i]);
+        i += 1;
+    }
+    w
+}
+
+// A character of a name, of which JSON escapes two; or two digits, the low half of the octet first.
+fn put_char(text: &mut [u8; 4096], waiting: usize, style: u8, x: u8) -> usize {
+    if style == DIGITS {
+        let w = put_digit(text, waiting, x % 16);
+        return put_digit(text, w, x / 16);
+    }
+    if (style == JSON) & ((x == b'"') | (x == b'\\')) {
+        let w = put(text, waiting, b'\\');
+        return put(text, w, x);
+    }
+    put(text, waiting, x)
+}
+
+// A decimal digit; nothing for the F that fills an octet.
+fn put_digit(text: &mut [u8; 4096], waiting: usize, d: u8) -> usize {
+    if d < 10 {
+        return put(text, waiting, b'0' + d);
+    }
+    waiting
+}
+
+// An IPv4 address, dotted.
+fn put_address(text: &mut [u8; 4096], waiting: usize, a: u64) -> usize {
+    let w = put_part(text, waiting, a / 16777216);
+    let w = put_part(text, w, a / 65536 % 256);
+    let w = put_part(text, w, a / 256 % 256);
+    put_right(text, w, a % 256, 0)
+}
+
+fn put_part(text: &mut [u8; 4096], waiting: usize, n: u64) -> usize {
+    let w = put_right(text, waiting, n, 0);
+    put(text, w, b'.')
+}

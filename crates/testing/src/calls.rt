@@ -1,0 +1,206 @@
+// The node's calls, for comparison with other programs.
+//
+//     calls PROFILE CALLS
+//
+// The calls of a file are run from a fresh node, each on the node that the last one handed back, refused ones among them. A line a
+// call: the answer, the written length, the written octets in hex (docs/FORMATS.md). A call is a room and an event, after two lengths.
+use crate::records::block::number;
+use libc::STDERR_FILENO;
+use node::Node;
+use std::num::wrapping_add_u64;
+use std::num::wrapping_add_usize;
+use template::TEXT;
+use template::four;
+use template::put_form;
+use template::say;
+use window::Place;
+ghost use Prim.Native.Nat.{_≤_};
+
+// Where the next call lies, and its number, from 1; whether it lies whole in the window, and its room and the length of its event then, else
+// 0; and whether to go on. (The node is kept apart: what holds it is slow to prove.)
+struct State {
+    place: Place,
+    number: u64,
+    whole: bool,
+    room: usize,
+    length: usize,
+    going: bool,
+}
+
+// The same without a call.
+fn moved(s: State, place: Place, going: bool) -> State {
+    State {
+        place,
+        number: s.number,
+        whole: false,
+        room: 0,
+        length: 0,
+        going,
+    }
+}
+
+// Looks for a whole call in the window, or reads on.
+fn fed(fd: i32, s: State, held: &mut [u8; 4096]) -> State {
+    let p = s.place;
+    let here = window::left(p);
+    if here < 4 {
+        return read_on(fd, s, held);
+    }
+    let room = size_at(held, p.at);
+    let length = size_at(held, wrapping_add_usize(p.at, 2));
+    if (20000 < room) | (300 < length) {
+        say_large(s.number, p.offset, room, length);
+        return moved(s, p, false);
+    }
+    if here - 4 < length {
+        return read_on(fd, s, held);
+    }
+    State {
+        place: p,
+        number: s.number,
+        whole: true,
+        room,
+        length,
+        going: true,
+    }
+}
+
+// A number of two octets.
+fn size_at(held: &[u8], at: usize) -> usize {
+    (number(held, at, 2) % 65536) as usize
+}
+
+// More of the file, or its end.
+fn read_on(fd: i32, s: State, held: &mut [u8; 4096]) -> State {
+    let p = s.place;
+    let f = window::fill(fd, held, p);
+    let q = f.place;
+    if f.got < 0 {
+        setup::fail(b"calls", b"the file of calls");
+    }
+    if (f.got == 0) & (0 < window::left(q)) {
+        say(
+            b"calls: call %k, at octet %l of the file: the file ends within the call\n",
+            &four(s.number, q.offset, 0, 0),
+            b"",
+        );
+    }
+    moved(s, q, 0 < f.got)
+}
+
+// What is wrong with a call: which it is, counted from 1, and how many octets of the file lie before it.
+fn say_large(number: u64, offset: u64, room: usize, length: usize) {
+    let v = four(number, offset, room as u64, length as u64);
+    if 20000 < room {
+        say(
+            b"calls: call %k, at octet %l of the file: a room of %m octets; at most 20000\n",
+            &v,
+            b"",
+        );
+        return;
+    }
+    say(
+        b"calls: call %k, at octet %l of the file: an event of %n octets; at most 300\n",
+        &v,
+        b"",
+    );
+}
+
+// The event of a call.
+fn event_of(p: Place, length: usize, held: &[u8; 4096]) -> &[u8] {
+    let a = wrapping_add_usize(p.at, 4);
+    window::part(held, a, wrapping_add_usize(a, length))
+}
+
+// A room is never more than the buffer has.
+fn at_most(room: usize) -> usize
+    ensures { λ r. ⌜ r ≤ 20000 ⌝ }
+{
+    if room < 20000 {
+        return room;
+    }
+    20000
+}
+
+// What a call answered and wrote, if there was one.
+fn told(s: State, answer: u8, written: usize, out: &[u8]) -> State {
+    if !s.whole {
+        return s;
+    }
+    let p = s.place;
+    let place = window::after(p, wrapping_add_usize(s.length, 4));
+    let going = write_line(answer, written, window::front(out, written));
+    if !going {
+        setup::fail(b"calls", b"standard output");
+    }
+    State {
+        place,
+        number: wrapping_add_u64(s.number, 1),
+        whole: false,
+        room: 0,
+        length: 0,
+        going,
+    }
+}
+
+// Writes a line: the answer, how many octets were written, and these in hex. Answers whether it could be written.
+fn write_line(answer: u8, written: usize, octets: &[u8]) -> bool {
+    let mut text = [0u8; 4096];
+    let v = four(answer as u64, written as u64, 0, 0);
+    let a = put_form(&mut text, 0, TEXT, b"%k %l ", &v, b"");
+    let b = out::put_hex(&mut text, a, octets);
+    let c = out::put(&mut text, b, b'\n');
+    out::write_out(&text, c)
+}
+
+// A proved loop has to end, and nothing says that a file does. So it counts its turns down, from a number that no run uses up. Where no whole
+// call is in the window the step is asked nothing, which it refuses.
+fn run(fd: i32, node: Node) {
+    let mut held = io::buffer();
+    let mut out = [0u8; 20000];
+    let mut now = node;
+    let mut s = State {
+        place: Place {
+            at: 0,
+            end: 0,
+            offset: 0,
+        },
+        number: 1,
+        whole: false,
+        room: 0,
+        length: 0,
+        going: true,
+    };
+    let mut turns = u64::MAX;
+    while s.going {
+        s = fed(fd, s, &mut held);
+        let p = s.place;
+        let room = at_most(s.room);
+        let r = node::step::step(now, event_of(p, s.length, &held), &mut out[..room]);
+        now = r.node;
+        s = told(s, r.answer, r.written, &out);
+        if turns == 0 {
+            return;
+        }
+        turns -= 1;
+    }
+}
+
+// The file that an argument names, from a fresh node.
+pub fn run_file(argument: usize) {
+    let m = setup::node_of_profile(b"calls");
+    let fd = setup::open_after(m.answer, b"calls", argument);
+    if 0 <= fd {
+        let node = m.node;
+        run(fd, node);
+        libc::close(fd);
+    }
+}
+
+pub fn main() {
+    if os::arg_count() != 4 {
+        io::write_all(STDERR_FILENO, b"usage: calls PROFILE CALLS\n");
+        return;
+    }
+    run_file(3);
+}

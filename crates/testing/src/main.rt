@@ -1,0 +1,55 @@
+// The commands for tests and measures, each in a module of its own. bin/program runs them.
+//
+//     testing calls PROFILE CALLS            the node's calls, a line a call (calls.rt)
+//     testing records write|read|both        the record's writer and reader (records.rt)
+//     testing pace PROFILE EVENTS RECORDS    how long the step, the writer and the reader take (pace.rt)
+//     testing all PROFILE CALLS..            files of calls, then what `records both` makes of standard input, then 01's bench table (table.rt)
+//
+// No contract can say what is read or written: each function is proved safe and ending.
+mod calls;
+mod pace;
+mod records;
+mod table;
+
+use libc::STDERR_FILENO;
+
+// Each file of calls from a fresh node.
+fn all() {
+    let count = os::arg_count();
+    let mut i: usize = 3;
+    while i < count {
+        calls::run_file(i);
+        i += 1;
+    }
+    records::all_blocks(true);
+    table::write_rows();
+}
+
+fn run(command: &[u8]) {
+    if check::same(command, b"calls") {
+        calls::main();
+        return;
+    }
+    if check::same(command, b"records") {
+        records::main();
+        return;
+    }
+    if check::same(command, b"pace") {
+        pace::main();
+        return;
+    }
+    if check::same(command, b"all") {
+        all();
+        return;
+    }
+    io::write_all(
+        STDERR_FILENO,
+        b"usage: testing calls|records|pace|all ARGUMENT..\n",
+    );
+}
+
+fn main() {
+    let mut word = [0u8; 16];
+    let n = os::arg(1, &mut word);
+    run(&word[..n]);
+}

@@ -1,0 +1,120 @@
+// From a block to a record: every field at its place.
+use calendar::Stamp;
+use container::Container;
+use container::Qos;
+use scdr::Record;
+use std::num::wrapping_add_usize;
+ghost use Prim.Native.Nat.{_<_};
+
+// The octet at a place, 0 past the end.
+fn one(b: &[u8], at: usize) -> u8 {
+    if at < b.len() {
+        return b[at];
+    }
+    0
+}
+
+fn wide(x: u8) -> u64
+    ensures { λ r. ⌜ r < 256 ⌝ }
+{
+    x as u64
+}
+
+// The number that n octets from a place on spell, at most eight of them.
+pub fn number(b: &[u8], at: usize, n: usize) -> u64 {
+    let mut v: u64 = 0;
+    let mut i: usize = 0;
+    while i < n {
+        v = v % 72057594037927936 * 256 + wide(one(b, wrapping_add_usize(at, i)));
+        i += 1;
+    }
+    v
+}
+
+pub fn two(b: &[u8], at: usize) -> usize
+    ensures { λ r. ⌜ r < 65536 ⌝ }
+{
+    (number(b, at, 2) % 65536) as usize
+}
+
+fn four(b: &[u8], at: usize) -> u32 {
+    (number(b, at, 4) % 4294967296) as u32
+}
+
+fn stamp_of(b: &[u8], at: usize) -> Stamp {
+    Stamp {
+        seconds: four(b, at),
+        zone: (two(b, wrapping_add_usize(at, 4)) % 65536) as u16,
+    }
+}
+
+// The container whose 28 octets b is.
+fn container_of(b: &[u8]) -> Container {
+    Container {
+        qos: Qos {
+            reliability: one(b, 0),
+            delay: one(b, 1),
+            precedence: one(b, 2),
+            peak: one(b, 3),
+            mean: one(b, 4),
+        },
+        uplink: number(b, 5, 8),
+        downlink: number(b, 13, 8),
+        condition: one(b, 21),
+        time: stamp_of(b, 22),
+    }
+}
+
+fn containers_of(b: &[u8]) -> [Container; 15] {
+    let mut v = [container::single::no_container(); 15];
+    let mut i: usize = 0;
+    while i < 15 {
+        v[i] = container_of(window::part(b, 129 + 28 * i, 157 + 28 * i));
+        i += 1;
+    }
+    v
+}
+
+// As many octets as dst has, from a place on.
+fn fill(b: &[u8], at: usize, dst: &mut [u8]) {
+    let mut i: usize = 0;
+    while i < dst.len() {
+        dst[i] = one(b, wrapping_add_usize(at, i));
+        i += 1;
+    }
+}
+
+// Are the two flags 0 or 1?
+pub fn flags_ok(b: &[u8]) -> bool {
+    (one(b, 0) < 2) & (one(b, 97) < 2)
+}
+
+pub fn record_of(b: &[u8]) -> Record {
+    let mut imsi = [0u8; 8];
+    fill(b, 1, &mut imsi);
+    let mut apn = [0u8; 63];
+    fill(b, 22, &mut apn);
+    let mut nodeid = [0u8; 20];
+    fill(b, 108, &mut nodeid);
+    let containers = containers_of(b);
+    let opening = stamp_of(b, 91);
+    Record {
+        network: one(b, 0) != 0,
+        imsi,
+        sgsn: four(b, 9),
+        charging: four(b, 13),
+        ggsn: four(b, 17),
+        apn,
+        apnlen: one(b, 21) as usize,
+        pdptype: (two(b, 85) % 65536) as u16,
+        address: four(b, 87),
+        containers,
+        count: one(b, 128) as usize,
+        opening,
+        change: one(b, 97) != 0,
+        cause: one(b, 98),
+        number: number(b, 99, 8),
+        nodeid,
+        nodelen: one(b, 107) as usize,
+    }
+}
