@@ -24,6 +24,15 @@ struct charging_container {
     uint8_t condition;
     struct charging_stamp time;
 };
+/* a record that is not closed yet */
+struct charging_open_record {
+    struct charging_stamp opening;
+    struct charging_qos qos;
+    uint64_t uplink, downlink;
+    uint8_t changes;
+    struct charging_container containers[CHARGING_CONTAINERS];
+    size_t count;
+};
 struct charging_context {
     uint8_t active, flags;
     struct charging_name name;
@@ -32,12 +41,7 @@ struct charging_context {
     size_t apnlen;
     uint16_t pdptype;
     uint32_t address;
-    struct charging_qos qos;
-    uint64_t uplink, downlink;
-    struct charging_stamp opening;
-    uint8_t changes;
-    struct charging_container containers[CHARGING_CONTAINERS];
-    size_t count;
+    struct charging_open_record current;
     uint64_t closed;
 };
 struct charging_limits { uint64_t volume; uint32_t seconds; uint8_t changes; };

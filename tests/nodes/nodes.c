@@ -58,6 +58,16 @@ static void container(struct charging_container *c) {
     stamp(&c->time);
 }
 
+static void open_record(struct charging_open_record *o) {
+    qos(&o->qos);
+    FIELD(o->uplink);
+    FIELD(o->downlink);
+    stamp(&o->opening);
+    FIELD(o->changes);
+    for (int i = 0; i < CHARGING_CONTAINERS; i++) container(&o->containers[i]);
+    FIELD(o->count);
+}
+
 static void context(struct charging_context *c) {
     FIELD(c->active);
     FIELD(c->flags);
@@ -68,13 +78,7 @@ static void context(struct charging_context *c) {
     FIELD(c->apnlen);
     FIELD(c->pdptype);
     FIELD(c->address);
-    qos(&c->qos);
-    FIELD(c->uplink);
-    FIELD(c->downlink);
-    stamp(&c->opening);
-    FIELD(c->changes);
-    for (int i = 0; i < CHARGING_CONTAINERS; i++) container(&c->containers[i]);
-    FIELD(c->count);
+    open_record(&c->current);
     FIELD(c->closed);
 }
 

@@ -54,7 +54,7 @@ with-few p c t h (some cause) = omega arith
 
 hear-few : (p : Profile) (c : Context) (t : ℕ) (h : Message) → length (hear p c t h .out) ≤ 1
 unfolding hear
-hear-few p c t h = with-few p c t h (closing (p .limits) c t h)
+hear-few p c t h = with-few p c t h (closing (p .limits) (c .current) t h)
 
 module _ (p : Profile) (t : ℕ) (w : Said (Unit {0}) Name Brought Message) where
   listen-few : (c : Context) (o : Option Message) → hears (handling p) (c .name) w ≡ o → length (slot (handling p) tt t w (some c) .out) ≤ 1

@@ -105,13 +105,13 @@ module _ (volume limit z clock : ℕ) (o : OpenRecord) where
       (openOk z (o .opening .seconds) (o .qos) clock (used o)) (blanks (drop (o .count) (o .containers)))
       (ltb (volumeOf (used o)) (volume - o .uplink - o .downlink)))
 
-  -- nothing is left of a limit that is met
-  pub nothing-left : {a b d : ℕ} → a ≡ volume - volumeOf (used o) → b ≡ a - o .uplink → d ≡ b - o .downlink → eqb d 0 ≡ volumeMet volume o
-  nothing-left {a} {b} {d} p q r =
+  -- what is left of a limit that is met is no more than the last counter
+  pub limit-met : {a b : ℕ} → a ≡ volume - volumeOf (used o) → b ≡ a - o .uplink → leb b (o .downlink) ≡ volumeMet volume o
+  limit-met {a} {b} p q =
       let sum = volumeOf (used o) + o .uplink + o .downlink in
       by (leb volume sum)
-      (λ t. rw t (eq-eqb d 0 (omega (arith, leb-true volume sum t))))
-      (λ t. rw t (ne-eqb d 0 (λ e. omega (arith, leb-false volume sum t))))
+      (λ t. rw t (le-leb b (o .downlink) (omega (arith, leb-true volume sum t))))
+      (λ t. rw t (lt-leb b (o .downlink) (omega (arith, leb-false volume sum t))))
 
 -- ---- a slot that is free holds none
 

@@ -123,8 +123,8 @@ pub fn volume_met(o: OpenRecord, limit: u64) -> bool
     ensures { λ r. ⌜ r ≡ volumeMet limit o ⌝ }
 {
     let v = o.containers;
-    let left = held::left_after(v, o.count, limit);
-    held::spend(held::spend(left, o.uplink), o.downlink) == 0
+    let left = held::spend(held::left_after(v, o.count, limit), o.uplink);
+    left <= o.downlink
 }
 
 // Has it been open for at least the limit, at a time?
