@@ -1,4 +1,4 @@
--- The table that the calendar makes: the code's must be this one, entry for entry, which antt computes. Assumes nothing.
+-- The table that the calendar makes: the code's must be this one, entry for entry, which antt computes.
 use mathlib.Core.Path.{_≡_, sym, ap, _∙_}
 use mathlib.Core.List.{List, [], _∷_}
 use Prim.Native.Nat.{ℕ, zero, suc, _+_, _*_, _≤_, _<_}

@@ -1,4 +1,4 @@
--- Laws of the months: they follow one another without a gap, so a day of 2000 to 2099 lies in exactly one of them. Assumes nothing.
+-- Laws of the months: they follow one another without a gap, so a day of 2000 to 2099 lies in exactly one of them.
 use mathlib.Core.Path.{_≡_, refl, sym, ap, _∙_}
 use mathlib.Core.Bool.{Bool, true, false, cond, _&&_}
 use mathlib.Core.List.{List, [], _∷_}
@@ -86,7 +86,8 @@ seek-lies zero k f d e h q u =
 seek-lies (suc n) k f d e h q u =
     by (ltb d (f + monthLen k))
     (λ a. rw (a, seek) (record { starts = omega arith; inside = omega (arith, ltb-true d (f + monthLen k) a); known = omega arith }))
-    (λ a. rw (a, seek) (seek-lies n (suc k) (f + monthLen k) d (ap (λ (x : ℕ). x + monthLen k) e ∙ sym (next k)) (ltb-false d (f + monthLen k) a) (omega arith) u))
+    (λ a. rw (a, seek) (seek-lies n (suc k) (f + monthLen k) d (ap (λ (x : ℕ). x + monthLen k) e ∙ sym (next k)) (ltb-false d (f + monthLen k) a)
+    (omega arith) u))
 
 -- a day of these years has its place in the month that `monthDay` gives
 pub lies : (d : ℕ) → d < 36525 → Lies d (monthDay d .0) (monthDay d .1)

@@ -1,4 +1,4 @@
--- Time stamps worked out by antt: the times of document 01's bench, with their octets, and octets that are none. Assumes nothing.
+-- Time stamps worked out by antt: the times of document 01's bench, with their octets, and octets that are none.
 use mathlib.Core.Bool.{Bool, _&&_}
 use mathlib.Core.List.{List, [], _∷_}
 use mathlib.Core.Option.{none}

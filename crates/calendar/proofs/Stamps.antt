@@ -135,7 +135,9 @@ read-length s n = differ s (λ e. n (sym (ap length e) ∙ length-stamp (stampVa
 -- nor those that name a month past 2099
 pub read-late : (s : List ℕ) → 1200 ≤ monthVal (getD s 0 0) (getD s 1 0) → NoTime ≡ stampRead (stamp .dec s)
 unfolding stampOk stampVal
-read-late s h = out s (ap (λ (b : Bool). b && leb (stampVal s .zone) 1560) (le-ltb (stampVal s .seconds) 3155760000 (omega (arith, past (monthVal (getD s 0 0) (getD s 1 0)) h))))
+read-late s h =
+    out s (ap (λ (b : Bool). b && leb (stampVal s .zone) 1560)
+    (le-ltb (stampVal s .seconds) 3155760000 (omega (arith, past (monthVal (getD s 0 0) (getD s 1 0)) h))))
 
 -- A time's octets name its own day, which lies in its month, and its own second, which lies in its day.
 module _ (s : List ℕ) (h : stampOk (stampVal s) ≡ true) (e : stampEnc (stampVal s) ≡ s) where

@@ -1,4 +1,4 @@
--- The calendar from 2000 on: months counted from 0, which is January 2000, and days from 0, which is 2000-01-01. Assumes nothing.
+-- The calendar from 2000 on: months counted from 0, which is January 2000, and days from 0, which is 2000-01-01.
 use mathlib.Core.Bool.{Bool, true, false, cond, not, _&&_, _||_}
 use mathlib.Core.List.{List, [], _∷_}
 use mathlib.Core.Path.{_≡_}

@@ -1,5 +1,5 @@
 -- TimeStamp: nine octets YY MM DD hh mm ss S hh mm, in BCD. S is 2B for an offset of zero or more, 2D below zero; the offset's
--- size follows it. Assumes nothing.
+-- size follows it.
 use mathlib.Core.Bool.{Bool, cond, _&&_}
 use mathlib.Core.List.{List, [], _∷_}
 use mathlib.Core.Option.{Option, none, some}

@@ -36,9 +36,9 @@ use Rattle.node.specs.Step.{
   stepOf,
 }
 use Rattle.node.specs.Held.{Octets, Held, Whole}
-use Rattle.node.proofs.Kept.{Fine}
+use Rattle.node.proofs.ContextKept.{Fine}
 use Rattle.node.proofs.Demands.{answered}
-use Rattle.node.proofs.Sounded.{records-good}
+use Rattle.node.proofs.NodeKept.{records-good}
 use Rattle.node.proofs.Runs.{step-kept}
 use Rattle.charging.specs.Done.{Done, andThen}
 use Rattle.charging.specs.File.{nextEvent, roomy, taken, firstOf, chargedIn, charged}

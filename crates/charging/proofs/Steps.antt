@@ -12,7 +12,7 @@ use Rattle.event.specs.Framing.{nextLength}
 use Rattle.node.specs.declared.Node.{Node}
 use Rattle.node.specs.Step.{saidOf, nodeAfter, output, refusals, stepOf, Steps}
 use Rattle.node.proofs.Demands.{answered, refused, accepted}
-use Rattle.node.proofs.Sounded.{accepts}
+use Rattle.node.proofs.NodeKept.{accepts}
 use Rattle.charging.specs.Done.{Done}
 use Rattle.charging.specs.File.{nextEvent, roomy, taken, firstOf}
 use Rattle.charging.proofs.Joins.{made}

@@ -33,7 +33,7 @@ use Rattle.container.specs.Qos.{qosOk, sameQos, Reliability, Delay, Prec
 use Rattle.container.specs.Container.{containerOk, isNew, told, isTold, formed, QosAfter, Uplink, Downlink, Condition, Time, containerTable}
 use Rattle.container.specs.Container.{container, toContainer, ofContainer, noStamp}
 use Rattle.container.specs.Private.NewForm.{newForm}
-use Rattle.container.proofs.Goods.{qos-law, qos-good, told-none, told-some, container-law, container-good, within}
+use Rattle.container.proofs.Formats.{qos-law, qos-good, told-none, told-some, container-law, container-good, within}
 
 -- ---- answers of readers
 

@@ -1,8 +1,8 @@
 pub mod TagLists
-pub mod Goods
+pub mod Formats
 pub mod Fields
 pub mod Lists
-pub mod Turns
+pub mod Stepwise
 pub mod Opens
 pub mod Padded
 pub mod OpenRules

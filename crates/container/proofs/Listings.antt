@@ -34,7 +34,8 @@ module _ {s : List ℕ} {at t : ℕ} where
     pub lists-there : {ok : Bool} {n : ℕ} {v : List Container} → Listed (containers .dec (take (e - a) (drop a s))) ok n v → ok ≡ true → ListsAt s at t n v e
     lists-there {ok} {n} {v} l k =
         let q = there-some (containers .dec (take (e - a) (drop a s))) (sym (l .found) ∙ k) in
-        let w : take n v ≡ listed (containers .dec (take (e - a) (drop a s))) = rw (l .count, l .values) (take-padded (listed (containers .dec (take (e - a) (drop a s))))) in
+        let w : take n v ≡ listed (containers .dec (take (e - a) (drop a s))) =
+        rw (l .count, l .values) (take-padded (listed (containers .dec (take (e - a) (drop a s))))) in
         record {
           reads = rw w (first-there t containers s at p q);
           rest = rw w (l .values);

@@ -1,4 +1,4 @@
--- The list of containers, read and written in a loop. Assumes nothing.
+-- The list of containers, read and written in a loop.
 use mathlib.Core.Path.{_≡_, refl, sym, ap, subst, _∙_}
 use mathlib.Core.Bool.{Bool, true, false, _&&_}
 use mathlib.Core.Option.{Option, none, some}
@@ -26,7 +26,7 @@ use Rattle.ber.specs.Private.Wrote.{Put}
 use Rattle.container.specs.declared.Container.{Container}
 use Rattle.container.specs.Container.{containerTag, formed, container, noContainer}
 use Rattle.container.specs.List.{allFormed, containers, noContainers, listed, Listed}
-use Rattle.container.proofs.Goods.{container-law, container-good, container-most, containers-law, containers-most, each-good}
+use Rattle.container.proofs.Formats.{container-law, container-good, container-most, containers-law, containers-most, each-good}
 use Rattle.container.proofs.Fields.{Filled}
 
 -- ---- reading

@@ -21,8 +21,8 @@ use Rattle.container.specs.List.{changes, listOk, noContainers, padded, 
 use Rattle.container.specs.Open.{used, opened, noOpen, reported, running, endedAll, changed, volumeOf, openOk, volumeMet, changesMet}
 use Rattle.container.specs.Open.{unusedOk, countOk, containersOk, volumeOk, soundOpen, blankOpen}
 use Rattle.container.specs.Private.Held.{heldOk}
-use Rattle.container.proofs.Goods.{same-qos}
-use Rattle.container.proofs.Turns.{blanks-are}
+use Rattle.container.proofs.Formats.{same-qos}
+use Rattle.container.proofs.Stepwise.{blanks-are}
 use Rattle.container.proofs.Padded.{take-padded, padded-length}
 use Rattle.container.proofs.Opens.{below-left, volume-more, open-none, open-later, open-more, open-closes, open-since, padded-rest, padded-more}
 
@@ -219,7 +219,8 @@ running-ok o k t z h q u d l w =
     rw (q, lt-ltb (o .uplink) (2 ^ 40) u, lt-ltb (o .downlink) (2 ^ 40) d, le-leb k 2 h, lt-ltb t 3155760000 (omega arith), le-leb z 1560 w)
 
 -- the next record, with nothing counted
-pub opened-sound : (most limit z t : ℕ) (q : Qos) → qosOk q ≡ true → 1 ≤ most → 1 ≤ limit → SoundOpen most limit z t (opened (record { seconds = t; zone = z }) q)
+pub opened-sound : (most limit z t : ℕ) (q : Qos) → qosOk q ≡ true → 1 ≤ most → 1 ≤ limit
+    → SoundOpen most limit z t (opened (record { seconds = t; zone = z }) q)
 unfolding volumeOf
 opened-sound most limit z t q range some any = record {
   qos = range;

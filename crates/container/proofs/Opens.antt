@@ -18,8 +18,8 @@ use Rattle.container.specs.Container.{containerOk}
 use Rattle.container.specs.List.{eachOk, lastAlone, oneOffset, inOrder, changes, qosRule, listOk, noContainers, padded, blanks, isBlank}
 use Rattle.container.specs.Open.{midway, timesTo, qosRun, openOk, volumeOf}
 use Rattle.container.specs.Private.Held.{heldOk}
-use Rattle.container.specs.Private.Turns.{precedes, turned}
-use Rattle.container.proofs.Turns.{blanks-are, are-blanks}
+use Rattle.container.specs.Private.Stepwise.{precedes, looked}
+use Rattle.container.proofs.Stepwise.{blanks-are, are-blanks}
 
 -- ---- tests that pass together
 
@@ -38,11 +38,13 @@ paired a b c d e p q r s t =
 
 module _ (c : Container) where
   -- a rule of each container by itself
-  each-more : (p : Container → Bool) (rule : List Container → Bool) → rule [] ≡ true → ((x : Container) (xs : List Container) → rule (x ∷ xs) ≡ (p x && rule xs))
+  each-more : (p : Container → Bool) (rule : List Container → Bool) → rule [] ≡ true
+      → ((x : Container) (xs : List Container) → rule (x ∷ xs) ≡ (p x && rule xs))
       → (cs : List Container) → rule (cs ++ (c ∷ [])) ≡ (rule cs && p c)
   each-more p rule e f [] = f c [] ∙ rw (e, and-true (p c))
   each-more p rule e f (x ∷ cs) =
-      f x (cs ++ (c ∷ [])) ∙ ap (λ (b : Bool). p x && b) (each-more p rule e f cs) ∙ sym (and-assoc (p x) (rule cs) (p c)) ∙ ap (λ (b : Bool). b && p c) (sym (f x cs))
+      f x (cs ++ (c ∷ [])) ∙ ap (λ (b : Bool). p x && b) (each-more p rule e f cs) ∙ sym (and-assoc (p x) (rule cs) (p c))
+      ∙ ap (λ (b : Bool). b && p c) (sym (f x cs))
 
   values-more : (cs : List Container) → eachOk (cs ++ (c ∷ [])) ≡ (eachOk cs && containerOk c)
   unfolding eachOk
@@ -237,11 +239,21 @@ blanks-more c cs = each-more c isBlank blanks refl (λ x xs. refl) cs
 
 -- one place more of the array, at the end: one that is used, and one that is not
 module _ (z o : ℕ) (q : Qos) (t left n : ℕ) (w : List Container) (c : Container) where
-  held-used : length w < n → heldOk z o q t left n (w ++ (c ∷ [])) ≡ (heldOk z o (c .qos) (c .time .seconds) (left - c .uplink - c .downlink) n w && precedes z q t c)
+  held-used : length w < n → heldOk z o q t left n (w ++ (c ∷ [])) ≡
+      (heldOk z o (c .qos) (c .time .seconds) (left - c .uplink - c .downlink) n w && precedes z q t c)
   unfolding heldOk blanks
   held-used h =
       let m : length (w ++ (c ∷ [])) ≤ n = omega (arith, length-append w (c ∷ [])) in
-      rw (take-all n (w ++ (c ∷ [])) m, drop-of-length-le (w ++ (c ∷ [])) m, take-all n w (omega arith), drop-of-length-le w {i = n} (omega arith), open-snoc c z o q t w, volume-more c w, below-left (volumeOf w) (c .uplink) (c .downlink) left)
+      rw (
+        take-all n (w ++ (c ∷ [])) m,
+        drop-of-length-le (w ++ (c ∷ [])) m,
+        take-all n w (omega arith),
+        drop-of-length-le w {i = n} (omega arith),
+        open-snoc
+            c z o q t w,
+        volume-more c w,
+        below-left (volumeOf w) (c .uplink) (c .downlink) left,
+      )
       (last-first (openOk z o (c .qos) (c .time .seconds) w) (precedes z q t c) (ltb (volumeOf w) (left - c .uplink - c .downlink)))
 
   held-unused : n ≤ length w → heldOk z o q t left n (w ++ (c ∷ [])) ≡ (heldOk z o q t left n w && isBlank c)
@@ -264,9 +276,9 @@ pub held-all : {v : List Container} {z o : ℕ} {s : Run} {n i : ℕ} → length
 held-all {v} {z} {o} {s} {n} {i} e = record { most = omega arith; same = ap (heldOk z o (s .after) (s .until) (s .left) n) (take-all i v (omega arith)) }
 
 module _ {v : List Container} {z o : ℕ} {s₀ : Run} {n : ℕ} {s : Run} {i : ℕ} (k : Held v z o s₀ n s i) where
-  module _ (d : Container) (h : 0 < i) {r : Run} (e : r ≡ turned z (leb i n) (getD v (i - 1) d) s) where
+  module _ (d : Container) (h : 0 < i) {r : Run} (e : r ≡ looked z (leb i n) (getD v (i - 1) d) s) where
     here : heldOk z o (s .after) (s .until) (s .left) n (take i v) ≡ (heldOk z o (r .after) (r .until) (r .left) n (take (i - 1) v) && r .ok)
-    unfolding turned
+    unfolding looked
     here = ap (heldOk z o (s .after) (s .until) (s .left) n) w ∙ rw e (by (leb i n) refl)
       where
         x : Container
@@ -281,7 +293,8 @@ module _ {v : List Container} {z o : ℕ} {s₀ : Run} {n : ℕ} {s : Run} {i : 
         m = length-take-le (i - 1) v (omega (arith, k .most))
 
         by : (b : Bool) → leb i n ≡ b
-            → heldOk z o (s .after) (s .until) (s .left) n (take (i - 1) v ++ (x ∷ [])) ≡ (heldOk z o (turned z b x s .after) (turned z b x s .until) (turned z b x s .left) n (take (i - 1) v) && turned z b x s .ok)
+            → heldOk z o (s .after) (s .until) (s .left) n (take (i - 1) v ++ (x ∷ [])) ≡
+            (heldOk z o (looked z b x s .after) (looked z b x s .until) (looked z b x s .left) n (take (i - 1) v) && looked z b x s .ok)
         by true f = held-used z o (s .after) (s .until) (s .left) n (take (i - 1) v) x (omega (arith, m, leb-true i n f))
         by false f = held-unused z o (s .after) (s .until) (s .left) n (take (i - 1) v) x (omega (arith, m, leb-false i n f))
 

@@ -1,7 +1,7 @@
 // The list of containers under a tag.
 use crate::Container;
 use crate::list;
-use crate::single;
+use crate::one;
 use ber::NOWHERE;
 use ber::tlv;
 use ber::tlv::Part;
@@ -37,7 +37,7 @@ fn no_list() -> ListAt
 {
     ListAt {
         n: 0,
-        v: [single::no_container(); 15],
+        v: [one::no_container(); 15],
         next: NOWHERE,
     }
 }

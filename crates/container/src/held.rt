@@ -2,18 +2,18 @@
 // what they leave of a limit.
 use crate::Container;
 use crate::Qos;
+use crate::one;
 use crate::rules;
-use crate::single;
 use crate::unused;
 ghost use mathlib.Core.Path.{_≡_};
 ghost use Prim.Native.Nat.{_-_};
 ghost use lib.ListN.{take};
 ghost use Rattle.container.specs.Open.{volumeOf};
 ghost use Rattle.container.specs.Private.Held.{heldOk};
-ghost use Rattle.container.specs.Private.Turns.{precedes, turned};
+ghost use Rattle.container.specs.Private.Stepwise.{precedes, looked};
 
 // Are the first n containers of v those of a record that opened at a time in a zone, with q in force now, with less counted in them than
-// a limit, and is every place after them zero? From the last place to the first, in one turn: an array is copied for each function that
+// a limit, and is every place after them zero? From the last place to the first, in one pass: an array is copied for each function that
 // takes it.
 pub fn held_ok(
     v: [Container; 15],
@@ -35,7 +35,7 @@ pub fn held_ok(
     let mut i: usize = 15;
     while 0 < i {
         let c = v[i - 1];
-        s = turn(c, i <= n, zone, s);
+        s = look(c, i <= n, zone, s);
         if !s.ok {
             return false;
         }
@@ -54,13 +54,13 @@ struct Run {
 }
 
 // One place more: a container that is used must fit what follows it, one that is not must be zero.
-fn turn(c: Container, used: bool, zone: u16, s: Run) -> Run
-    ensures { λ r. ⌜ r ≡ turned zone used c s ⌝ }
+fn look(c: Container, used: bool, zone: u16, s: Run) -> Run
+    ensures { λ r. ⌜ r ≡ looked zone used c s ⌝ }
 {
     let q = s.after;
     if used {
         let ok = precedes(c, zone, q, s.until);
-        let left = spend(spend(s.left, c.uplink), c.downlink);
+        let left = rest_of(rest_of(s.left, c.uplink), c.downlink);
         let p = c.qos;
         return Run {
             ok,
@@ -83,7 +83,7 @@ fn precedes(c: Container, zone: u16, q: Qos, until: u32) -> bool
     ensures { λ r. ⌜ r ≡ precedes zone q until c ⌝ }
 {
     let t = c.time;
-    let ok = single::container_ok(c);
+    let ok = one::container_ok(c);
     let right = rules::changes(c, q);
     ok & (c.condition < 2) & (t.zone == zone) & (t.seconds <= until) & right
 }
@@ -99,14 +99,14 @@ pub fn left_after(v: [Container; 15], n: usize, limit: u64) -> u64
             return left;
         }
         let c = v[i];
-        left = spend(spend(left, c.uplink), c.downlink);
+        left = rest_of(rest_of(left, c.uplink), c.downlink);
         i += 1;
     }
     left
 }
 
 // What is left once x is spent: 0 where it does not suffice.
-pub fn spend(left: u64, x: u64) -> u64
+pub fn rest_of(left: u64, x: u64) -> u64
     ensures { λ r. ⌜ r ≡ left - x ⌝ }
 {
     if x < left { left - x } else { 0 }

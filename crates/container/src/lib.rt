@@ -9,10 +9,10 @@
 pub mod field;
 mod held;
 pub mod list;
+pub mod one;
 pub mod open;
-pub mod profile;
+pub mod qos_profile;
 pub mod rules;
-pub mod single;
 pub mod stamp;
 mod tags;
 pub mod unused;

@@ -1,6 +1,6 @@
 // The list of containers, read and written. The first stands after none, which is as after one that ended with a QoS change.
 use crate::Container;
-use crate::single;
+use crate::one;
 use ber::tlv;
 ghost use mathlib.Core.Path.{_≡_};
 ghost use mathlib.Core.Bool.{false, _&&_};
@@ -23,7 +23,7 @@ pub struct ListOf {
 pub fn list_of(s: &[u8]) -> ListOf
     ensures { λ r. ⌜ Listed (containers .dec (now (s .entry))) (r .ok) (r .n) (r .v) ⌝ }
 {
-    let blank = single::no_container();
+    let blank = one::no_container();
     let mut v = [blank; 15];
     let mut n: usize = 0;
     let mut at: usize = 0;
@@ -32,7 +32,7 @@ pub fn list_of(s: &[u8]) -> ListOf
         if 15 <= n {
             return no_list();
         }
-        let c = single::container_at(s, at, last);
+        let c = one::container_at(s, at, last);
         last = c.v;
         v[n] = last;
         n += 1;
@@ -51,7 +51,7 @@ pub fn list_of(s: &[u8]) -> ListOf
 fn no_list() -> ListOf
     ensures { λ r. ⌜ (r .ok ≡ false) × (r .n ≡ 0) × (r .v ≡ noContainers 15) ⌝ }
 {
-    let blank = single::no_container();
+    let blank = one::no_container();
     let v = [blank; 15];
     ListOf { ok: false, n: 0, v }
 }
@@ -70,10 +70,10 @@ pub fn put_list(out: &mut [u8], at: usize, tag: u8, v: [Container; 15], n: usize
     let mut list = [0u8; 825];
     let mut i: usize = 0;
     let mut end: usize = 0;
-    let mut last = single::no_container();
+    let mut last = one::no_container();
     while i < n {
         let c = v[i];
-        let k = single::put_container(&mut list[end..], c, last);
+        let k = one::put_container(&mut list[end..], c, last);
         if k == ber::NOWHERE {
             return ber::NOWHERE;
         }

@@ -6,8 +6,8 @@ use crate::Container;
 use crate::OpenRecord;
 use crate::Qos;
 use crate::held;
-use crate::profile;
-use crate::single;
+use crate::one;
+use crate::qos_profile;
 use crate::unused;
 use calendar::Stamp;
 ghost use mathlib.Core.Path.{_≡_};
@@ -20,7 +20,7 @@ ghost use Rattle.container.specs.Open.{volumeMet, timeMet, changesMet, s
 pub fn opened(now: Stamp, q: Qos) -> OpenRecord
     ensures { λ r. ⌜ r ≡ opened now q ⌝ }
 {
-    let blank = single::no_container();
+    let blank = one::no_container();
     let containers = [blank; 15];
     OpenRecord {
         opening: now,
@@ -41,7 +41,7 @@ pub fn no_open() -> OpenRecord
         seconds: 0,
         zone: 0,
     };
-    let none = profile::no_qos();
+    let none = qos_profile::no_qos();
     opened(never, none)
 }
 
@@ -123,7 +123,7 @@ pub fn volume_met(o: OpenRecord, limit: u64) -> bool
     ensures { λ r. ⌜ r ≡ volumeMet limit o ⌝ }
 {
     let v = o.containers;
-    let left = held::spend(held::left_after(v, o.count, limit), o.uplink);
+    let left = held::rest_of(held::left_after(v, o.count, limit), o.uplink);
     left <= o.downlink
 }
 
@@ -132,7 +132,7 @@ pub fn time_met(o: OpenRecord, limit: u32, t: u32) -> bool
     ensures { λ r. ⌜ r ≡ timeMet limit t o ⌝ }
 {
     let opening = o.opening;
-    limit as u64 <= held::spend(t as u64, opening.seconds as u64)
+    limit as u64 <= held::rest_of(t as u64, opening.seconds as u64)
 }
 
 // Does one change more reach the limit?
@@ -149,8 +149,8 @@ pub fn is_sound(o: OpenRecord, volume: u64, changes: u8, zone: u16, clock: u32) 
     let q = o.qos;
     let v = o.containers;
     let t = o.opening;
-    let range = profile::qos_ok(q);
-    let left = held::spend(held::spend(volume, o.uplink), o.downlink);
+    let range = qos_profile::qos_ok(q);
+    let left = held::rest_of(held::rest_of(volume, o.uplink), o.downlink);
     let kept = held::held_ok(v, o.count, zone, t.seconds, q, clock, left);
     range & (o.count == o.changes as usize) & (o.changes < changes) & (t.zone == zone) & kept
 }
@@ -161,8 +161,8 @@ pub fn is_blank(o: OpenRecord) -> bool
 {
     let q = o.qos;
     let v = o.containers;
-    let none = profile::no_qos();
-    let same = profile::same_qos(q, none);
+    let none = qos_profile::no_qos();
+    let same = qos_profile::same_qos(q, none);
     let unused = unused::unused_blank(v, 0);
     (o.opening.seconds == 0)
         & (o.opening.zone == 0)

@@ -1,15 +1,15 @@
 // The rules between the containers of a record.
 use crate::Container;
 use crate::Qos;
-use crate::profile;
-use crate::single;
+use crate::one;
+use crate::qos_profile;
 use calendar::Stamp;
 ghost use mathlib.Core.Path.{_≡_};
 ghost use mathlib.Core.Bool.{_&&_, Bool·beq};
 ghost use lib.Dec.{leb};
 ghost use lib.ListN.{take};
 ghost use Rattle.container.specs.List.{listOk, changes};
-ghost use Rattle.container.specs.Private.Turns.{stands, follows};
+ghost use Rattle.container.specs.Private.Stepwise.{stands, follows};
 
 // Do the first n containers of v keep the rules of a record that opened at a time?
 pub fn list_ok(v: [Container; 15], n: usize, opening: Stamp) -> bool
@@ -27,7 +27,7 @@ pub fn list_ok(v: [Container; 15], n: usize, opening: Stamp) -> bool
     while i + 1 < n {
         let c = v[i];
         let d = v[i + 1];
-        if !turns(c, d, zone, from) {
+        if !pair_ok(c, d, zone, from) {
             return false;
         }
         from = c.time.seconds;
@@ -39,7 +39,7 @@ pub fn list_ok(v: [Container; 15], n: usize, opening: Stamp) -> bool
 }
 
 // Is c as it must be, in the zone, and not before a time, and may d follow it?
-fn turns(c: Container, d: Container, zone: u16, from: u32) -> bool
+fn pair_ok(c: Container, d: Container, zone: u16, from: u32) -> bool
     ensures { λ r. ⌜ r ≡ (stands zone from c && follows c d) ⌝ }
 {
     let stand = stands(c, zone, from);
@@ -52,7 +52,7 @@ fn stands(c: Container, zone: u16, from: u32) -> bool
     ensures { λ r. ⌜ r ≡ stands zone from c ⌝ }
 {
     let t = c.time;
-    let ok = single::container_ok(c);
+    let ok = one::container_ok(c);
     ok & (t.zone == zone) & (from <= t.seconds)
 }
 
@@ -70,7 +70,7 @@ pub fn changes(c: Container, q: Qos) -> bool
     ensures { λ r. ⌜ r ≡ changes c q ⌝ }
 {
     let p = c.qos;
-    let same = profile::same_qos(p, q);
+    let same = qos_profile::same_qos(p, q);
     alike(!same, c.condition == 0)
 }
 

@@ -1,6 +1,6 @@
 // The places of an array of containers that no container uses.
 use crate::Container;
-use crate::profile;
+use crate::qos_profile;
 ghost use mathlib.Core.Path.{_≡_};
 ghost use lib.ListN.{drop};
 ghost use Rattle.container.specs.List.{isBlank, blanks};
@@ -26,8 +26,8 @@ pub fn is_blank(c: Container) -> bool
 {
     let q = c.qos;
     let t = c.time;
-    let none = profile::no_qos();
-    let same = profile::same_qos(q, none);
+    let none = qos_profile::no_qos();
+    let same = qos_profile::same_qos(q, none);
     same
         & (c.uplink == 0)
         & (c.downlink == 0)

@@ -4,7 +4,7 @@ use crate::Name;
 use crate::number;
 use ber::imsi;
 use container::Qos;
-use container::profile;
+use container::qos_profile;
 use octets::chars;
 use octets::chars::Class;
 ghost use mathlib.Core.Path.{_≡_};
@@ -78,7 +78,7 @@ pub fn activate_ok(s: &[u8]) -> bool
     let flags = octets::octet(s, 15);
     let digits = imsi::imsi_size(&s[16..24]);
     let q = qos_at(s, 30);
-    let qos = profile::qos_ok(q);
+    let qos = qos_profile::qos_ok(q);
     let n = octets::octet(s, 35);
     let apn = chars::all_chars(Class::Apn, &s[36..]);
     (flags <= 3) & !(digits == 0) & qos & (1 <= n) & (n <= 63) & apn

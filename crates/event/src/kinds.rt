@@ -2,7 +2,7 @@
 use crate::Event;
 use crate::fields;
 use crate::number;
-use container::profile;
+use container::qos_profile;
 ghost use mathlib.Core.Path.{_≡_};
 ghost use mathlib.Core.Bool.{true, false};
 ghost use Rattle.event.specs.Kinds.{activateKind, trafficKind, qosKind, tariffKind, releaseKind, tickKind, managementKind, noKind};
@@ -54,7 +54,7 @@ fn qos(s: &[u8]) -> Entry
     Entry {
         known: true,
         whole: 20,
-        right: profile::qos_ok(q),
+        right: qos_profile::qos_ok(q),
         event: Event::Qos(name, q),
     }
 }

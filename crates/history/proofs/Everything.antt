@@ -1,7 +1,7 @@
 -- Demand 3 read over a whole run: under a name, the containers written and then those stored are the finished stretches of all
 -- its histories, once each, in order; with what runs they make up all that was reported.
 -- `entries` is what a finished stretch becomes in a record: one container, or nothing where a kind does not list it.
--- Assumes nothing.
+--
 use Prim.Native.Nat.{ℕ, _+_}
 use mathlib.Core.Path.{_≡_, refl, sym, ap, _∙_}
 use mathlib.Core.Bool.{Bool, true, false, cond}
@@ -44,7 +44,8 @@ module _ {N S E C B A : Type 0} (R : Rules S E) (F : Forms N S E C B) (n : N) (e
   read-all (h ∷ []) p = rw (append-nil (made h), append-nil (leaving (ended R h) h), append-nil (each entries (stretches R h))) (read-one h (ended R h) refl)
   read-all (h ∷ (x ∷ hs)) p =
       let q : each ofRecord (made h) ≡ each entries (stretches R h) = sym (append-nil _) ∙ read-one h true (p .0) in
-      let i : each ofRecord (each made (x ∷ hs)) ++ each ofStored (each (λ h. leaving (ended R h) h) (x ∷ hs)) ≡ each (λ h. each entries (stretches R h)) (x ∷ hs) = read-all (x ∷ hs) (p .1) in
+      let i : each ofRecord (each made (x ∷ hs)) ++ each ofStored (each (λ h. leaving (ended R h) h) (x ∷ hs)) ≡ each (λ h. each entries (stretches R h))
+      (x ∷ hs) = read-all (x ∷ hs) (p .1) in
       rw (p .0, each-append ofRecord (made h) (each made (x ∷ hs)), append-assoc, q) (ap (λ (y : List A). each entries (stretches R h) ++ y) i)
 
   -- Whatever is counted: `octets` reads it from a container, `runs` the running count from what is stored.
@@ -81,7 +82,8 @@ module _ {N S E C B A : Type 0} (R : Rules S E) (F : Forms N S E C B) (n : N) (e
     abbrev pub storedUnder : List C
     storedUnder = under (D .same) (L .name) n (held (L .slots (run X fresh calls)))
 
-    pub containers-once : each ofRecord writtenUnder ++ each ofStored storedUnder ≡ each (λ h. each entries (stretches R h)) (historiesOf R D F L X fresh settings calls n)
+    pub containers-once : each ofRecord writtenUnder ++ each ofStored storedUnder ≡ each (λ h. each entries (stretches R h))
+        (historiesOf R D F L X fresh settings calls n)
     containers-once = rw (d .closed, d .open-now) (read-all (historiesOf R D F L X fresh settings calls n) (d .released))
 
     pub octets-once : (counts : E → ℕ) → ((v : W) (e : E) → D .says v ≡ tellsAll e → counts e ≡ 0) → (octets : A → ℕ) (runs : C → ℕ)

@@ -2,7 +2,7 @@ pub mod Lists
 pub mod Scans
 pub mod Ranges
 pub mod Slots
-pub mod Heards
+pub mod Hearing
 pub mod Records
 pub mod Whole
 pub mod Tables

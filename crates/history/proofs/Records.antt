@@ -1,5 +1,5 @@
 -- Laws of one history, for every kind of subject: its stretches, read through its records, are charged once each.
--- Assumes nothing.
+--
 use Prim.Native.Nat.{ℕ, zero, suc, _+_}
 use mathlib.Core.Path.{_≡_, refl, sym, ap, _∙_}
 use mathlib.Core.Logic.{_↔_}
@@ -41,7 +41,8 @@ module _ {S E : Type 0} (R : Rules S E) where
   open-open (h ▸ t ∶ e) = open-step (closes R h t e) (sinceOpening R h) t e (inForce R (h ▸ t ∶ e)) (open-open h) refl
 
   running-step : (o : Option ℕ) (h : History S E) (t : ℕ) (e : E) → closes R h t e ≡ o → running R (sinceOpening R h) ≡ running R h
-      → running R (orAnew o (sinceOpening R h) t e (inForce R (h ▸ t ∶ e))) ≡ orAnew (condition R o (R .change (inForce R h) e)) (running R h) t e (inForce R (h ▸ t ∶ e))
+      → running R (orAnew o (sinceOpening R h) t e (inForce R (h ▸ t ∶ e))) ≡ orAnew (condition R o (R .change (inForce R h) e)) (running R h) t e
+      (inForce R (h ▸ t ∶ e))
   running-step none h t e p i = rw (open-open h, p, inForce-open h, i)
   running-step (some c) h t e p i = refl
 
@@ -56,7 +57,8 @@ module _ {S E : Type 0} (R : Rules S E) where
   -- ---- the stretches, read through the closed records and then the open one
 
   read-at : (o : Option ℕ) (k : Option ℕ) (r : History S E) (t : ℕ) (e : E) (s : S)
-      → each (λ (x : Record S E). x .stretches) (ifAny o (λ c. record { number = k; cause = c; past = r; time = t; event = e; stretches = stretches R (r ▸ t ∶ e) }))
+      → each (λ (x : Record S E). x .stretches) (ifAny o
+      (λ c. record { number = k; cause = c; past = r; time = t; event = e; stretches = stretches R (r ▸ t ∶ e) }))
       ++ stretches R (orAnew o r t e s) ≡ stretches R (r ▸ t ∶ e)
   read-at none k r t e s = refl
   read-at (some c) k r t e s = simp append-nil
@@ -75,7 +77,8 @@ module _ {S E : Type 0} (R : Rules S E) where
   -- ---- the stretches make up the history
 
   all-at : (o : Option ℕ) (p : History S E) (t : ℕ) (e : E) (s : S)
-      → each (λ x. events (whole x)) (ifAny o (λ k. record { ran = p; time = t; event = e; condition = k })) ++ events (orAnew o p t e s) ≡ events p ++ ((t, e) ∷ [])
+      → each (λ x. events (whole x)) (ifAny o (λ k. record { ran = p; time = t; event = e; condition = k })) ++ events (orAnew o p t e s) ≡ events p ++
+      ((t, e) ∷ [])
   all-at none p t e s = refl
   all-at (some k) p t e s = simp append-nil
 
@@ -85,7 +88,8 @@ module _ {S E : Type 0} (R : Rules S E) where
 
   module _ (counts : E → ℕ) where
     every-at : (o : Option ℕ) (p : History S E) (t : ℕ) (e : E) (s : S)
-        → sumOf (λ x. total counts (whole x)) (ifAny o (λ k. record { ran = p; time = t; event = e; condition = k })) + total counts (orAnew o p t e s) ≡ total counts p + counts e
+        → sumOf (λ x. total counts (whole x)) (ifAny o (λ k. record { ran = p; time = t; event = e; condition = k })) + total counts (orAnew o p t e s) ≡
+        total counts p + counts e
     every-at none p t e s = omega arith
     every-at (some k) p t e s = omega arith
 
@@ -152,7 +156,8 @@ module _ {S E : Type 0} (R : Rules S E) where
   pub opened-with : (h : History S E)
       → map (λ r. beganWith (r .past)) (records R h) ++ (beganWith (sinceOpening R h) ∷ []) ≡ beganWith h ∷ map (λ r. inForce R (entire r)) (records R h)
   opened-with (start t s) = refl
-  opened-with (h ▸ t ∶ e) = chained beganWith (λ r. inForce R (entire r)) t e h (closes R h t e) (number (closings R h) (isSome (R .release e))) (records R h) (sinceOpening R h)
+  opened-with (h ▸ t ∶ e) =
+      chained beganWith (λ r. inForce R (entire r)) t e h (closes R h t e) (number (closings R h) (isSome (R .release e))) (records R h) (sinceOpening R h)
       (stretches R (sinceOpening R h ▸ t ∶ e)) (inForce R (h ▸ t ∶ e)) refl (λ c. rw (inForce-open h)) (opened-with h)
 
   -- ---- the open record has a finished stretch for each of its changes
@@ -182,7 +187,8 @@ module _ {S E : Type 0} (R : Rules S E) where
 
   pub exactly : (h : History S E) (t : ℕ) (e : E) (cause : ℕ) → ClosesNow R h t e cause ↔ (closes R h t e ≡ some cause)
   exactly h t e cause = (
-    (λ c. exactly-at (closes R h t e) (number (closings R h) (isSome (R .release e))) (sinceOpening R h) t e (stretches R (sinceOpening R h ▸ t ∶ e)) cause (c .closed)
+    (λ c. exactly-at (closes R h t e) (number (closings R h) (isSome (R .release e))) (sinceOpening R h) t e (stretches R (sinceOpening R h ▸ t ∶ e)) cause
+        (c .closed)
         (append-cancel (records R h) (recordsAt R h t e) (c .closed ∷ []) (c .added)) (c .for)),
     (λ p. record {
       closed = recordAt R h t e cause;

@@ -65,12 +65,15 @@ module _ {G N S E W C B M I O : Type 0} (K : Handling G N S E W C B) (L : Sight 
         wrote = rw (each-append, output-append, Y .wrote a i, ← Y .settings-after a i, ← Y .slots-after a i, r .wrote);
         admitted = admitted-append (applied X a i) (log X (X .after a i) is) (settings a) (L .slots a) (Y .admitted a i)
             (rw (← Y .settings-after a i, ← Y .slots-after a i) (r .admitted));
-        timely = ordered-append (clock a) (clock (X .after a i)) (clock (run X (X .after a i) is)) (applied X a i) (log X (X .after a i) is) (Y .timely a i) (r .timely);
+        timely =
+            ordered-append (clock a) (clock (X .after a i)) (clock (run X (X .after a i) is)) (applied X a i) (log X (X .after a i) is) (Y .timely a i)
+            (r .timely);
       }
 
 -- ---- A node whose calls do what some other calls do one by one: a batch, and its pairs.
 
-module _ {G N S E W C B M I J O : Type 0} (K : Handling G N S E W C B) (L : Sight N C B M O) (settings : M → G) (clock : M → ℕ) (X : Machine M I W O) (Z : Machine M J W O) where
+module _ {G N S E W C B M I J O : Type 0} (K : Handling G N S E W C B) (L : Sight N C B M O) (settings : M → G) (clock : M → ℕ) (X : Machine M I W O)
+    (Z : Machine M J W O) where
   pub record OneByOne (a : M) (i : I) : Type 0 where
     pub calls : List J
     pub events : applied X a i ≡ log Z a calls

@@ -1,5 +1,5 @@
 -- A table of slots seen under one name: what it holds and writes after an event is what the subjects of that name do.
--- Assumes nothing.
+--
 use Prim.Native.Nat.{ℕ, suc}
 use mathlib.Core.Path.{_≡_, refl, sym, ap, _∙_}
 use mathlib.Core.Logic.{_↔_}
@@ -204,7 +204,8 @@ module _ {N S E C B : Type 0} (R : Rules S E) (F : Forms N S E C B) (n : N) (h :
 
 -- ---- A kind that a node handles as its histories say: `known` is the settings as what is in force knows them.
 
-pub record Sound {G N S E W C B : Type 0} (R : Rules S E) (D : Meaning G N S E W) (F : Forms N S E C B) (K : Handling G N S E W C B) (nameOf : B → N) (known : S → G) : Type 0 where
+pub record Sound {G N S E W C B : Type 0} (R : Rules S E) (D : Meaning G N S E W) (F : Forms N S E C B) (K : Handling G N S E W C B) (nameOf : B → N)
+    (known : S → G) : Type 0 where
   -- names are told apart, and the node takes names and events as they are meant
   pub same-exactly : (m n : N) → (D .same m n ≡ true) ↔ (m ≡ n)
   pub same-meant : (m n : N) → K .same m n ≡ D .same m n

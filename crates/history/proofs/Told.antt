@@ -1,6 +1,6 @@
 -- Over any accepted events, a table of a sound kind holds under a name what the histories of that name leave, and has written
 -- what they make.
--- Assumes nothing.
+--
 use Prim.Native.Nat.{ℕ, _+_}
 use mathlib.Core.Path.{_≡_, refl, sym, _∙_}
 use mathlib.Core.Bool.{Bool, true, false, not, cond, false≢true}
@@ -15,7 +15,23 @@ use Rattle.history.specs.Log.{Accepted, Said, activates, tells, tellsAll
 use Rattle.history.specs.Table.{Handling, fill, free, active, hears, listen, slotsHear, slotsWrite, slotsAfter, writes, table, output}
 use Rattle.history.specs.Demand.{Forms, held}
 use Rattle.history.proofs.Lists.{each-append, map-append, map-map, map-id, sumOf-append, cond-same, both, not-true}
-use Rattle.history.proofs.Tables.{content, content-cond, under-append, named, ofName, named-hear, ofName-hear, unheard-slots, unheard-out, inactive, named-active, named-fill-other, named-fill, admits, Sound}
+use Rattle.history.proofs.Tables.{
+  content,
+  content-cond,
+  under-append,
+  named,
+  ofName,
+  named-hear,
+  ofName-hear,
+  unheard-slots,
+  unheard-out,
+  inactive,
+  named-active,
+  named-fill-other,
+  named-fill,
+  admits,
+  Sound,
+}
 
 -- Each event of these is admitted where it comes.
 abbrev pub Admitted : {G N S E W C B : Type 0} → Handling G N S E W C B → G → List (Option C) → List (Accepted W) → Type 0

@@ -1,5 +1,5 @@
 -- Demand 3: every octet once.
--- Assumes nothing.
+--
 use Prim.Native.Nat.{ℕ, zero, suc, _+_}
 use mathlib.Core.Path.{_≡_}
 use mathlib.Core.Logic.{_↔_}
@@ -9,7 +9,23 @@ use mathlib.Core.Option.{Option, none, some}
 use lib.ListN.{length}
 use Rattle.history.specs.Lists.{each, sumOf, All, Earlier, NotFalling}
 use Rattle.history.specs.History.{History, _▸_∶_, events, began, beganWith, latest, total, InOrder}
-use Rattle.history.specs.Records.{Rules, Record, Open, whole, entire, inForce, changes, sinceOpening, closes, running, stretches, closings, records, ended, leaves}
+use Rattle.history.specs.Records.{
+  Rules,
+  Record,
+  Open,
+  whole,
+  entire,
+  inForce,
+  changes,
+  sinceOpening,
+  closes,
+  running,
+  stretches,
+  closings,
+  records,
+  ended,
+  leaves,
+}
 use Rattle.history.specs.Log.{tellsAll, Meaning, histories, reported}
 use Rattle.history.specs.Run.{Machine, run, allWritten, log}
 

@@ -1,5 +1,5 @@
 -- Short words for lists and for what may be missing.
--- Assumes nothing.
+--
 use Prim.Native.Nat.{ℕ, suc, _+_, _≤_}
 use mathlib.Core.Bool.{Bool, true, false}
 use mathlib.Core.List.{List, [], _∷_, _++_}

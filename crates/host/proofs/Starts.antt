@@ -1,4 +1,4 @@
--- A node made of a text that reads, and of one that does not. Assumes nothing.
+-- A node made of a text that reads, and of one that does not.
 use mathlib.Core.Path.{_≡_, ap, _∙_}
 use mathlib.Core.List.{List}
 use Prim.Native.Nat.{ℕ}

@@ -1,4 +1,4 @@
--- A node made where it lies, from its profile's text. Assumes nothing.
+-- A node made where it lies, from its profile's text.
 use mathlib.Core.Path.{_≡_}
 use mathlib.Core.Bool.{cond}
 use mathlib.Core.List.{List}

@@ -1,4 +1,4 @@
--- What an accepted event brings is in range, and the context that an activate opens is as it must be. Assumes nothing.
+-- What an accepted event brings is in range, and the context that an activate opens is as it must be.
 use mathlib.Core.Path.{_≡_, refl, sym, ap, _∙_}
 use mathlib.Core.Bool.{true, false}
 use mathlib.Core.List.{List, [], _∷_}
@@ -34,8 +34,8 @@ use Rattle.history.specs.Log.{Said, activates, tells, tellsAll, nothing}
 use Rattle.node.specs.declared.Message.{Message}
 use Rattle.node.specs.Step.{Brought, broughtBy, takes, activated}
 use Rattle.node.specs.Meaning.{tariffChange, tick, meaningOf}
-use Rattle.node.specs.Private.Told.{Fair, Small}
-use Rattle.node.specs.Private.Task.{FairMeaning}
+use Rattle.node.specs.Private.Premises.{InRange, ReportFits}
+use Rattle.node.specs.Private.Task.{MeaningInRange}
 use Rattle.node.specs.Held.{Octets, HeldContext}
 use Rattle.node.proofs.Fits.{fit}
 
@@ -67,17 +67,17 @@ pub record Brings (m : Name) (b : Brought) : Type 0 where
   pub address : b .address < 2 ^ 32
 
 -- Of any event; none says nothing.
-abbrev pub Fairly : Said (Unit {0}) Name Brought Message → Type 0
-Fairly (activates m b) = Brings m (b tt)
-Fairly (tells m h) = Fair h × Small h
-Fairly (tellsAll h) = Fair h × Small h
-Fairly nothing = ⊥
+abbrev pub AllInRange : Said (Unit {0}) Name Brought Message → Type 0
+AllInRange (activates m b) = Brings m (b tt)
+AllInRange (tells m h) = InRange h × ReportFits h
+AllInRange (tellsAll h) = InRange h × ReportFits h
+AllInRange nothing = ⊥
 
 -- what each kind of event in range is to a context
 differ : true ≡ false → ⊥
 differ e = let z : _≡_ {A = ℕ} 0 1 = cc in omega arith
 
-plain : (m : Message) → m .counts ≡ false → m .up ≡ 0 → m .down ≡ 0 → m .brings ≡ false → m .closes ≡ false → m .releases ≡ false → Fair m
+plain : (m : Message) → m .counts ≡ false → m .up ≡ 0 → m .down ≡ 0 → m .brings ≡ false → m .closes ≡ false → m .releases ≡ false → InRange m
 plain m c u d b k r = record {
   uncounted = λ e. (u, d);
   qos = λ e. absurd (differ (sym e ∙ b));
@@ -86,10 +86,16 @@ plain m c u d b k r = record {
 }
 
 -- octets that no row refuses say what is in range
-pub fair-meaning : (s : List ℕ) (e : Event) {t : ℕ} → decoded s ≡ D.Said t e → FairMeaning (meaningOf e)
+pub fair-meaning : (s : List ℕ) (e : Event) {t : ℕ} → decoded s ≡ D.Said t e → MeaningInRange (meaningOf e)
 fair-meaning s (E.Activate a) d = tt
 fair-meaning s (E.Traffic n up down) d =
-    record { uncounted = λ e. absurd (differ e); qos = λ e. absurd (differ (sym e)); released = λ e. absurd (differ (sym e)); managed = λ e. absurd (differ (sym e)) }
+    record {
+      uncounted = λ e. absurd (differ e);
+      qos = λ e. absurd (differ (sym e));
+      released = λ e. absurd (differ (sym e));
+      managed = λ e. absurd
+          (differ (sym e));
+    }
 fair-meaning s (E.Qos n q) d =
     record { uncounted = λ e. (refl, refl); qos = λ e. qos-changed s d; released = λ e. absurd (differ (sym e)); managed = λ e. absurd (differ (sym e)) }
 fair-meaning s E.Tariff d = plain tariffChange refl refl refl refl refl refl
@@ -99,7 +105,7 @@ fair-meaning s E.Tick d = plain tick refl refl refl refl refl refl
 fair-meaning s (E.Management n) d =
     record { uncounted = λ e. (refl, refl); qos = λ e. absurd (differ (sym e)); released = λ e. absurd (differ (sym e)); managed = λ k e. refl }
 
-pub fair-said : (s : List ℕ) (e : Event) {t : ℕ} → Octets s → decoded s ≡ D.Said t e → Fairly (takes e s)
+pub fair-said : (s : List ℕ) (e : Event) {t : ℕ} → Octets s → decoded s ≡ D.Said t e → AllInRange (takes e s)
 fair-said s (E.Activate a) o d =
     let x = activate-in s d in
     let n = x .size in

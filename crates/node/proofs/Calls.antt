@@ -1,4 +1,4 @@
--- The whole call: the rows of the refusal table in their order. Assumes nothing.
+-- The whole call: the rows of the refusal table in their order.
 use mathlib.Core.Path.{_≡_, refl, sym, ap, _∙_}
 use mathlib.Core.Bool.{Bool, true, false, not, cond, _&&_, _||_}
 use mathlib.Core.List.{List, [], _∷_, _++_, map}
@@ -25,7 +25,7 @@ use Rattle.node.specs.declared.Node.{Node}
 use Rattle.node.specs.declared.Message.{Message}
 use Rattle.node.specs.Sound.{sound, latest, mostAccepted}
 use Rattle.node.specs.Step.{Brought, takes, saidOf, refusals, outcome, stepOf, Steps}
-use Rattle.node.proofs.Rowed.{tableRows, laterRows, parted, numbered-rows, fit-more, fit-first}
+use Rattle.node.proofs.RefusalRows.{tableRows, laterRows, parted, numbered-rows, fit-more, fit-first}
 use Rattle.node.proofs.Served.{Outs, outs-refused}
 
 -- ---- what was decoded
@@ -99,12 +99,14 @@ module _ (n : Node) (s b : List ℕ) where
     steps-said {t} {e} d o =
         let h = heard s d in
         let z = said-by (firstFit (rows s)) s d in
-        let f : firstFit (refusals n s b) ≡ firstFit (laterRows n (timeOf s) (saidOf s) b) = past-13 ∙ fit-more (rows s) (laterRows n (timeOf s) (saidOf s) b) (numbered-rows s) z in
+        let f : firstFit (refusals n s b) ≡ firstFit (laterRows n (timeOf s) (saidOf s) b) =
+        past-13 ∙ fit-more (rows s) (laterRows n (timeOf s) (saidOf s) b) (numbered-rows s) z in
         record { is = rw f (rw (h .time, h .event) at (o .is)) }
 
 -- the node's rules are those that the code tested
 pub is-sound : (n : Node) {names : List Slot} {r : Bool} → names ≡ map slotOf (n .contexts)
-    → r ≡ (profileOk (n .profile) && leb (n .clock) latest && leb (n .accepted) mostAccepted && distinct names && slotsOk (n .profile .limits) (n .profile .zone) (n .clock) (n .accepted) (n .contexts))
+    → r ≡ (profileOk (n .profile) && leb (n .clock) latest && leb (n .accepted) mostAccepted && distinct names && slotsOk (n .profile .limits)
+    (n .profile .zone) (n .clock) (n .accepted) (n .contexts))
     → sound n ≡ r
 unfolding sound
 is-sound n e k = rw (k, e)

@@ -11,7 +11,7 @@ use Rattle.node.specs.declared.Message.{Message}
 use Rattle.node.specs.declared.closing.Perhaps.{Perhaps}
 use Rattle.node.specs.declared.closing.Perhaps.the-variants.{Is, Nothing}
 use Rattle.node.specs.Hear.{reported, changeOf, limitMet, closing}
-use Rattle.node.specs.Private.Told.{perhaps}
+use Rattle.node.specs.Private.Premises.{perhaps}
 
 module _ (l : Limits) (o : OpenRecord) (t : ℕ) (m : Message) where
   pub closing-once : m .closes ≡ true → closing l o t m ≡ some (m .cause)

@@ -1,4 +1,4 @@
--- The octets of an activate, copied. Assumes nothing.
+-- The octets of an activate, copied.
 use mathlib.Core.Path.{_≡_, refl, sym, ap, _∙_}
 use mathlib.Core.List.{List, [], _∷_, _++_, append-nil}
 use Prim.Native.Nat.{ℕ, zero, suc, _+_, _-_, _≤_}

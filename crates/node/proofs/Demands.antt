@@ -1,5 +1,5 @@
 -- Demands 1 and 2 of a call: over any node, any event octets and any lent buffer. `node::step::step` answers `stepOf` (its promise); these
--- theorems say what that is. Assumes nothing.
+-- theorems say what that is.
 use mathlib.Core.Path.{_≡_, refl, sym, ap}
 use mathlib.Core.Bool.{Bool, true, false}
 use mathlib.Core.List.{List, [], _∷_, _++_, map}
@@ -102,6 +102,16 @@ module _ (n : Node) (s b : List ℕ) where
   -- an accepted one: the node after the event, its output from the buffer's start, all later octets as before
   pub accepted : firstFit (refusals n s b) ≡ 0
       → stepOf n s b
-      ≡ (0, (nodeAfter n (timeOf s) (saidOf s), (length (output n (timeOf s) (saidOf s)), output n (timeOf s) (saidOf s) ++ drop (length (output n (timeOf s) (saidOf s))) b)))
+      ≡ (
+        0,
+        (
+          nodeAfter n (timeOf s) (saidOf s),
+          (
+            length (output n (timeOf s) (saidOf s)),
+            output n (timeOf s) (saidOf s) ++ drop
+                (length (output n (timeOf s) (saidOf s))) b,
+          ),
+        ),
+      )
   unfolding stepOf outcome
   accepted e = rw e

@@ -23,8 +23,8 @@ use Rattle.history.specs.Table.{Step}
 use Rattle.node.specs.declared.Message.{Message}
 use Rattle.node.specs.Hear.{closing, changeOf, going, goesOn, closedBy, afterClosing, hearWith, hear}
 use Rattle.node.specs.Step.{stood, markedOctets, octetsOf}
-use Rattle.node.specs.Private.Told.{Apt, Slotted}
-use Rattle.node.specs.Private.Range.{slotNext, slotOut, Counts, Turns}
+use Rattle.node.specs.Private.Premises.{SoundContext, SoundSlot}
+use Rattle.node.specs.Private.Range.{slotNext, slotOut, Counts, StandsWritten}
 
 -- ---- a record after its mark
 
@@ -78,7 +78,8 @@ module _ (p : Profile) (c : Context) (t : ℕ) (m : Message) where
   unfolding hear hearWith
   hear-closes e = rw e
 
-  hear-on : closing (p .limits) (c .current) t m ≡ none → hear p c t m ≡ record { next = some (going c (goesOn p (c .current) t m (changeOf (c .current) m)) (c .closed)); out = [] }
+  hear-on : closing (p .limits) (c .current) t m ≡ none
+      → hear p c t m ≡ record { next = some (going c (goesOn p (c .current) t m (changeOf (c .current) m)) (c .closed)); out = [] }
   unfolding hear hearWith
   hear-on e = rw e
 
@@ -90,7 +91,8 @@ module _ (p : Profile) (c : Context) (t : ℕ) (m : Message) where
   unfolding octetsOf
   octets-on e = rw (hear-on e)
 
-  pub counts-closes : {cause : ℕ} {r : Record} {n : ℕ} → closing (p .limits) (c .current) t m ≡ some cause → r ≡ closedBy p c t m cause → within (closedBy p c t m cause) ≡ true
+  pub counts-closes : {cause : ℕ} {r : Record} {n : ℕ} → closing (p .limits) (c .current) t m ≡ some cause → r ≡ closedBy p c t m cause
+      → within (closedBy p c t m cause) ≡ true
       → Sizes r n → Counts (octetsOf (hear p c t m .out)) (2 + n)
   unfolding markedOctets sizeOf
   counts-closes {cause} {r} {n} e i w s =
@@ -105,13 +107,15 @@ module _ (p : Profile) (c : Context) (t : ℕ) (m : Message) where
       → at + length (octetsOf (hear p c t m .out)) ≤ n → at + length (markedOctets r) ≤ n
   room-closes at e i k = rw i (rw (octets-closes e) at k)
 
-  pub turns-closes : {cause : ℕ} {r : Record} {d : Context} {b b′ : List ℕ} {at next : ℕ} → closing (p .limits) (c .current) t m ≡ some cause → r ≡ closedBy p c t m cause
+  pub turns-closes : {cause : ℕ} {r : Record} {d : Context} {b b′ : List ℕ} {at next : ℕ} → closing (p .limits) (c .current) t m ≡ some cause
+      → r ≡ closedBy p c t m cause
       → d ≡ stood (afterClosing p c t m) → Put (markedOctets r) b b′ at next
-      → Turns (stood (hear p c t m .next)) (octetsOf (hear p c t m .out)) b b′ at d next
+      → StandsWritten (stood (hear p c t m .next)) (octetsOf (hear p c t m .out)) b b′ at d next
   turns-closes e i j q = record { value = rw (hear-closes e) j; written = put-is (ap markedOctets i ∙ sym (octets-closes e)) q }
 
-  pub turns-on : {d : Context} {b : List ℕ} {at : ℕ} → closing (p .limits) (c .current) t m ≡ none → d ≡ going c (goesOn p (c .current) t m (changeOf (c .current) m)) (c .closed) → at ≤ length b
-      → Turns (stood (hear p c t m .next)) (octetsOf (hear p c t m .out)) b b at d at
+  pub turns-on : {d : Context} {b : List ℕ} {at : ℕ} → closing (p .limits) (c .current) t m ≡ none
+      → d ≡ going c (goesOn p (c .current) t m (changeOf (c .current) m)) (c .closed) → at ≤ length b
+      → StandsWritten (stood (hear p c t m .next)) (octetsOf (hear p c t m .out)) b b at d at
   turns-on {b = b} e j k = record { value = rw (hear-on e) j; written = put-is (sym (octets-on e)) (put-none k) }
     where
       put-none : {b : List ℕ} {at : ℕ} → at ≤ length b → Put [] b b at at
@@ -128,7 +132,7 @@ module _ (p : Profile) (t : ℕ) (m : Message) (c : Context) where
   unfolding slotNext slotOut
   slot-free e = let f = ne-eqb (c .active) 1 e in (rw f, rw f)
 
-  pub slot-apt : c .active ≡ 1 → Slotted p t c → Apt p t c
+  pub slot-apt : c .active ≡ 1 → SoundSlot p t c → SoundContext p t c
   unfolding slotOk
   slot-apt e s = record { due = s .due; sound = rw (eq-eqb (c .active) 1 e) at (s .sound) }
 
@@ -139,10 +143,12 @@ module _ (p : Profile) (t : ℕ) (m : Message) (c : Context) where
   free-counts e = record { is = rw (slot-free e .1); most = omega arith }
 
   pub slot-turns : {d : Context} {b b′ : List ℕ} {at next : ℕ} → c .active ≡ 1
-      → Turns (stood (hear p c t m .next)) (octetsOf (hear p c t m .out)) b b′ at d next → Turns (slotNext p t m c) (slotOut p t m c) b b′ at d next
+      → StandsWritten (stood (hear p c t m .next)) (octetsOf (hear p c t m .out)) b b′ at d next
+      → StandsWritten (slotNext p t m c) (slotOut p t m c) b b′ at d next
   slot-turns e k = record { value = k .value ∙ sym (slot-active e .0); written = put-is (sym (slot-active e .1)) (k .written) }
 
-  pub free-turns : {b : List ℕ} {at : ℕ} → (c .active ≡ 1 → ⊥) → at + length (slotOut p t m c) ≤ length b → Turns (slotNext p t m c) (slotOut p t m c) b b at c at
+  pub free-turns : {b : List ℕ} {at : ℕ} → (c .active ≡ 1 → ⊥) → at + length (slotOut p t m c) ≤ length b
+      → StandsWritten (slotNext p t m c) (slotOut p t m c) b b at c at
   free-turns {b} {at} e k =
       record {
         value = sym (slot-free e .0);

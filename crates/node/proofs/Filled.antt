@@ -16,7 +16,7 @@ use Rattle.history.proofs.Lists.{all-map}
 use Rattle.history.proofs.Scans.{asks-all, all-ask}
 use Rattle.history.proofs.Slots.{Filled, filled-all}
 use Rattle.node.specs.Step.{taken}
-use Rattle.node.proofs.Kept.{later-context}
+use Rattle.node.proofs.ContextKept.{later-context}
 
 module _ (l : Limits) (z clock accepted t m : ℕ) (since : clock ≤ t) (few : accepted ≤ m) where
   slot-later : (c : Context) → slotOk l z clock accepted c ≡ true → slotOk l z t m c ≡ true

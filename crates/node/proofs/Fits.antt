@@ -12,7 +12,7 @@ use Rattle.profile.specs.declared.Profile.{Profile}
 use Rattle.profile.specs.Profile.{limitsOk, profileOk}
 use Rattle.context.specs.declared.Context.{Context}
 use Rattle.context.proofs.Sounds.{Good, good}
-use Rattle.node.specs.Private.Told.{Grows, Apt}
+use Rattle.node.specs.Private.Premises.{CanGrow, SoundContext}
 
 -- ---- a profile in range
 
@@ -54,16 +54,21 @@ fit p h =
 
 -- ---- a context of a sound node
 
-module _ (p : Profile) (t : ℕ) (c : Context) (a : Apt p t c) where
+module _ (p : Profile) (t : ℕ) (c : Context) (a : SoundContext p t c) where
   pub apt-good : Good (p .limits) (p .zone) (a .due .clock) (a .due .accepted) c
   apt-good = good (p .limits) (p .zone) (a .due .clock) (a .due .accepted) c (a .sound)
 
-  pub apt-grows : Grows c
+  pub apt-grows : CanGrow c
   apt-grows =
       let g = apt-good .current in
       let f = fit p (a .due .profile) in
       record {
-        counters = rw (lt-ltb (c .current .uplink) (2 ^ 63) (omega (arith, g .volume, f .volume)), lt-ltb (c .current .downlink) (2 ^ 63) (omega (arith, g .volume, f .volume)));
+        counters =
+            rw (
+              lt-ltb (c .current .uplink) (2 ^ 63) (omega (arith, g .volume, f .volume)),
+              lt-ltb (c .current .downlink) (2 ^ 63)
+                  (omega (arith, g .volume, f .volume)),
+            );
         place = rw (lt-ltb (c .current .count) 15 (omega (arith, g .count, g .changes, f .changes)), g .unused);
         changes = omega (arith, g .changes, f .changes);
         closed = omega (arith, apt-good .closed, a .due .few);

@@ -7,7 +7,7 @@ use native.Mathlib.Omega.{arith}
 use Rattle.history.specs.Lists.{test, orElse}
 use Rattle.node.specs.declared.closing.Perhaps.{Perhaps}
 use Rattle.node.specs.declared.closing.Perhaps.the-variants.{Is, Nothing}
-use Rattle.node.specs.Private.Told.{perhaps}
+use Rattle.node.specs.Private.Premises.{perhaps}
 
 pub perhaps-is : (o : Option ℕ) {r : Perhaps} {k : ℕ} → r ≡ perhaps o → r ≡ Is k → o ≡ some k
 perhaps-is none {r} {k} p q = absurd (let z : _≡_ {A = ℕ} 0 1 = cc in omega arith)

@@ -28,7 +28,20 @@ use Rattle.context.specs.Slots.{sameName, isActive, isFree, bears}
 use Rattle.history.specs.Slots.{noneBears, distinct}
 use Rattle.node.specs.Hear.{reported, qosAfter, changeOf, limitMet, closing, numberFor, recordOf, goesOn, closedBy, afterClosing, hearWith, hear}
 use Rattle.node.specs.Sound.{sound}
-use Rattle.node.specs.Step.{activated, markedOctets, octetsOf, nodeAfter, recordsOf, output, notActive, isActive as wasActive, allTaken, refusals, outcome, stepOf}
+use Rattle.node.specs.Step.{
+  activated,
+  markedOctets,
+  octetsOf,
+  nodeAfter,
+  recordsOf,
+  output,
+  notActive,
+  isActive as wasActive,
+  allTaken,
+  refusals,
+  outcome,
+  stepOf,
+}
 use Rattle.node.specs.Sample.{at, named, answers, session, first, second, third}
 
 -- time 0: activate; time 5: 400 up, 599 down; time 6: release 0. The last writes the mark and the record that 01 prints.
@@ -43,7 +56,8 @@ unfolding intEnc lowest lenEnc tlvEnc halves leading allF imsiOk imsiEnc monthLe
 one-session = refl
 
 -- Instead at 6: 0 up, 1 down. Tariff at 10; tick at 65 does nothing; tick at 66; release at 66.
-pub other-session : session (activate ∷ traffic ∷ at 2 6 (named (0 ∷ 0 ∷ 0 ∷ 0 ∷ 0 ∷ 0 ∷ 0 ∷ 1 ∷ [])) ∷ at 4 10 [] ∷ at 6 65 [] ∷ at 6 66 [] ∷ at 5 66 (named (0 ∷ [])) ∷ [])
+pub other-session : session (activate ∷ traffic ∷ at 2 6 (named (0 ∷ 0 ∷ 0 ∷ 0 ∷ 0 ∷ 0 ∷ 0 ∷ 1 ∷ [])) ∷ at 4 10 [] ∷ at 6 65 [] ∷ at 6 66 [] ∷ at 5 66
+    (named (0 ∷ [])) ∷ [])
     ≡ (0, []) ∷ (0, []) ∷ (0, first) ∷ (0, []) ∷ (0, []) ∷ (0, second) ∷ (0, third) ∷ []
 unfolding first second third intEnc lowest lenEnc tlvEnc halves leading allF imsiOk imsiEnc monthLen seek monthDay stampOk stampEnc qosOk
     sameQos containerOk isNew told eachOk oneOffset noContainers isBlank blanks midway timesTo qosRun openOk volumeOf allOf apnChar nodeChar

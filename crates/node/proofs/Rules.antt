@@ -1,4 +1,4 @@
--- The rules of a sound node one by one. Assumes nothing.
+-- The rules of a sound node one by one.
 use mathlib.Core.Path.{_≡_}
 use mathlib.Core.Bool.{true, _&&_}
 use mathlib.Core.List.{map}

@@ -22,11 +22,11 @@ use Rattle.node.specs.Sound.{sound, freshNode, noNode}
 use Rattle.node.specs.Step.{recordsOf, saidOf, refusals, outcome, stepOf}
 use Rattle.node.specs.Held.{Octets, HeldContext, HeldProfile, Held, Whole}
 use Rattle.node.specs.Run.{Call, after}
-use Rattle.node.proofs.Rowed.{tableRows, laterRows}
+use Rattle.node.proofs.RefusalRows.{tableRows, laterRows}
 use Rattle.node.proofs.Demands.{answered}
-use Rattle.node.proofs.Kept.{Fine}
-use Rattle.node.proofs.Tabled.{nothing-ok, nothing-held}
-use Rattle.node.proofs.Sounded.{sound-kept, records-good}
+use Rattle.node.proofs.ContextKept.{Fine}
+use Rattle.node.proofs.TableKept.{nothing-ok, nothing-held}
+use Rattle.node.proofs.NodeKept.{sound-kept, records-good}
 
 -- ---- a fresh node
 

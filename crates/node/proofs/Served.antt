@@ -18,20 +18,20 @@ use Rattle.history.specs.Log.{Said, activates, tells, tellsAll}
 use Rattle.history.specs.Table.{free, slotsAfter}
 use Rattle.history.proofs.Scans.{First}
 use Rattle.history.proofs.Slots.{found-free, none-free, filled}
-use Rattle.history.proofs.Heards.{found-active, none-active}
+use Rattle.history.proofs.Hearing.{found-active, none-active}
 use Rattle.node.specs.declared.Node.{Node}
 use Rattle.node.specs.declared.Message.{Message}
 use Rattle.node.specs.Sound.{sound, latest, mostAccepted}
 use Rattle.node.specs.Step.{Brought, handling, taken, stood, slots, octetsOf, activated, nodeAfter, recordsOf, output}
 use Rattle.node.specs.Step.{notActive, isActive, allTaken, outcome}
 use Rattle.node.specs.Held.{Shaped}
-use Rattle.node.specs.Private.Told.{Ready}
-use Rattle.node.specs.Private.Range.{slotNext, slotOut, Turns, advanced, servedOf, Serves}
-use Rattle.node.proofs.Rowed.{tableRows}
+use Rattle.node.specs.Private.Premises.{SoundTable}
+use Rattle.node.specs.Private.Range.{slotNext, slotOut, StandsWritten, advanced, servedOf, Serves}
+use Rattle.node.proofs.RefusalRows.{tableRows}
 use Rattle.node.proofs.Rules.{rules}
 use Rattle.node.proofs.Found.{contexts, named, idle}
 use Rattle.node.proofs.Found as found
-use Rattle.node.proofs.Heards.{Settled, all-settled, all-after, all-outs, tells-after, tells-outs}
+use Rattle.node.proofs.Hearing.{Settled, all-settled, all-after, all-outs, tells-after, tells-outs}
 
 -- ---- a sound node
 
@@ -43,7 +43,7 @@ pub record Sounding (n : Node) (t : ℕ) : Type 0 where
   pub few : n .accepted < mostAccepted
 
 module _ (n : Node) (t : ℕ) (s : Sounding n t) where
-  pub ready : Ready (n .profile) t (n .contexts)
+  pub ready : SoundTable (n .profile) t (n .contexts)
   ready = record {
     due = record { clock = n .clock; accepted = n .accepted; profile = rules n (s .sound) .profile; since = s .since; until = s .until; few = s .few };
     sound = rules n (s .sound) .slots;
@@ -66,7 +66,7 @@ module _ (n : Node) (from to t : ℕ) (h : Message) (b : List ℕ) where
   serves-full e l p q r = record { is = rw (lt-leb (length x) (length b) (omega arith)) (λ i. (p i, (q i, (r i, b)))) }
 
   pub serves-done : {b′ : List ℕ} {a at k : ℕ} {cs : List Context} {m : Node} → length x ≤ length b
-      → Turns (across from to (slotNext (n .profile) t h) (n .contexts)) x b b′ 0 cs at
+      → StandsWritten (across from to (slotNext (n .profile) t h) (n .contexts)) x b b′ 0 cs at
       → a ≡ 0 → m ≡ advanced n t cs → k ≡ at → Serves n from to t h b b′ a m k
   unfolding servedOf
   serves-done {b′} {a} {at} {k} {cs} {m} l w p q r =

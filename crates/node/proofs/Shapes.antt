@@ -1,4 +1,4 @@
--- What the types say of every context of a table. Assumes nothing.
+-- What the types say of every context of a table.
 use mathlib.Core.Path.{_≡_}
 use mathlib.Core.List.{List, [], _∷_, map}
 use Prim.Native.Nat.{ℕ}
@@ -23,7 +23,13 @@ each-is F (x ∷ xs) [] p = absurd p
 each-is F (x ∷ xs) (u ∷ us) p = ((u, p .0), each-is F xs us (p .1))
 
 shaped : (c : Context) (u : Val) → Is (the-field .row) (the-field .into c) (u ∷ []) → Shaped c
-shaped c u p = record { imsi = search (needs, length-of-map); apn = search (needs, length-of-map); containers = search (needs, length-of-map, p .1 .1 .1 .1 .1 .1 .1 .1 .1 .1 .1) }
+shaped c u p =
+    record {
+      imsi = search (needs, length-of-map);
+      apn = search (needs, length-of-map);
+      containers = search
+          (needs, length-of-map, p .1 .1 .1 .1 .1 .1 .1 .1 .1 .1 .1);
+    }
 
 shaped-all : (cs : List Context) → All (λ c. (u : Val) × Is (the-field .row) (the-field .into c) (u ∷ [])) cs → All Shaped cs
 shaped-all [] p = tt

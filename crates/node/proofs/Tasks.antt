@@ -40,9 +40,9 @@ use Rattle.node.specs.declared.task.Task.the-variants as K
 use Rattle.node.specs.Sound.{sound, latest, mostAccepted}
 use Rattle.node.specs.Step.{Brought, broughtBy, saying, takes, activated, stepOf, Steps}
 use Rattle.node.specs.Held.{Shaped}
-use Rattle.node.specs.Private.Range.{slotNext, slotOut, Turns, advanced, triedOf, Tries, servedOf, Serves}
+use Rattle.node.specs.Private.Range.{slotNext, slotOut, StandsWritten, advanced, triedOf, Tries, servedOf, Serves}
 use Rattle.node.specs.Private.Task.{oneAt, namedTask, openAt, openTask, taskOf, timelyTask, taskFor, doneBy}
-use Rattle.node.proofs.Rowed.{tableRows}
+use Rattle.node.proofs.RefusalRows.{tableRows}
 use Rattle.node.proofs.Found.{named-at, none-named, free-at, all-taken}
 use Rattle.node.proofs.Served.{Sounding, Outs, outs-tell, outs-all, outs-activate, outs-8, outs-9, outs-10}
 use Rattle.node.proofs.Calls.{outs-late, outs-early, outs-many, outs-timely, is-sound, steps-13, steps-octets, steps-said}
@@ -102,7 +102,8 @@ module _ (p : Profile) (t : ℕ) (h : Message) (c : Context) (b : List ℕ) wher
   unfolding triedOf
   tries-full e l = record { is = rw (lt-leb (length (slotOut p t h c)) (length b) (omega arith)) }
 
-  pub tries-done : {b′ : List ℕ} {at : ℕ} {c′ : Context} → length (slotOut p t h c) ≤ length b → Turns (slotNext p t h c) (slotOut p t h c) b b′ 0 c′ at → Tries p t h c b b′ 0 c′ at
+  pub tries-done : {b′ : List ℕ} {at : ℕ} {c′ : Context} → length (slotOut p t h c) ≤ length b
+      → StandsWritten (slotNext p t h c) (slotOut p t h c) b b′ 0 c′ at → Tries p t h c b b′ 0 c′ at
   unfolding triedOf
   tries-done {b′} {at} {c′} l w =
       let x = slotOut p t h c in
@@ -154,7 +155,8 @@ module _ (n : Node) (s b : List ℕ) (z : All Shaped (n .contexts)) (whole : len
           let o : Outs (tableRows n t w b) n t w b (r .1 .1 .1) (r .0) (r .1 .0) (r .1 .1 .0) = rw e (outs-all n t b so z h whole v) in
           record { done = sym (conv _ _ _ _ o .is); fit = so }
 
-      open-task : (a : Activation) → w ≡ activates (a .name) (λ g. broughtBy a s) → Activated s a → (f g : Found) → firstFrom (bears (a .name)) 0 names ≡ f → firstFrom isFree 0 names ≡ g
+      open-task : (a : Activation) → w ≡ activates (a .name) (λ g. broughtBy a s) → Activated s a → (f g : Found) → firstFrom (bears (a .name)) 0 names ≡ f
+          → firstFrom isFree 0 names ≡ g
           → Tasked n s b (openAt t a f g)
       unfolding doneBy
       open-task a e x (At i) g q r =
@@ -196,8 +198,10 @@ module _ (n : Node) (s b : List ℕ) (z : All Shaped (n .contexts)) (whole : len
         either t latest
         (λ m. either (n .clock) t
         (λ l. either mostAccepted (n .accepted)
-        (λ y. rw (le-ltb latest t m, le-ltb t (n .clock) l, le-leb mostAccepted (n .accepted) y) (refused-task (steps-said n s b ok q (outs-many n t w b refl refl m l y refl))))
-        (λ y. rw (le-ltb latest t m, le-ltb t (n .clock) l, lt-leb mostAccepted (n .accepted) y) (kind-task t (record { sound = ok; since = l; until = m; few = y }) ok e q)))
+        (λ y. rw (le-ltb latest t m, le-ltb t (n .clock) l, le-leb mostAccepted (n .accepted) y)
+        (refused-task (steps-said n s b ok q (outs-many n t w b refl refl m l y refl))))
+        (λ y. rw (le-ltb latest t m, le-ltb t (n .clock) l, lt-leb mostAccepted (n .accepted) y)
+        (kind-task t (record { sound = ok; since = l; until = m; few = y }) ok e q)))
         (λ l. rw (le-ltb latest t m, lt-ltb t (n .clock) l) (refused-task (steps-said n s b ok q (outs-early n t w b refl refl m l refl)))))
         (λ m. rw (lt-ltb latest t m) (refused-task (steps-said n s b ok q (outs-late n t w b refl refl m refl))))
 
@@ -225,7 +229,8 @@ tasked-by n s b z whole {names} {good} {ok} {k} looked e q =
 module _ (n : Node) (s b : List ℕ) where
   pub steps-refused : {j a k : ℕ} {m : Node} → Tasked n s b (K.Refuse j) → a ≡ j → m ≡ n → k ≡ 0 → Steps n s b b a m k
   unfolding doneBy
-  steps-refused {j} {a} {k} {m} x p q r = let y : _≡_ {A = ℕ × (Node × (ℕ × List ℕ))} (a, (m, (k, b))) (j, (n, (0, b))) = (λ i. (p i, (q i, (r i, b)))) in record { is = y ∙ sym (x .done) }
+  steps-refused {j} {a} {k} {m} x p q r =
+      let y : _≡_ {A = ℕ × (Node × (ℕ × List ℕ))} (a, (m, (k, b))) (j, (n, (0, b))) = (λ i. (p i, (q i, (r i, b)))) in record { is = y ∙ sym (x .done) }
 
   pub steps-one : {i t : ℕ} {h : Message} (d : Context) → length (n .contexts) ≡ 16 → {b′ : List ℕ} {a k a′ k′ : ℕ} {c : Context} {m : Node}
       → Tasked n s b (K.One i t h)

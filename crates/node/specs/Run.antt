@@ -1,4 +1,4 @@
--- Calls one after another, each on the node that the last one handed back, whatever it answered. Assumes nothing.
+-- Calls one after another, each on the node that the last one handed back, whatever it answered.
 use mathlib.Core.List.{List, [], _∷_}
 use Prim.Native.Nat.{ℕ}
 use Rattle.node.specs.declared.Node.{Node}

@@ -1,4 +1,4 @@
--- The node and the calls of 01's "One session, whole". Assumes nothing.
+-- The node and the calls of 01's "One session, whole".
 use mathlib.Core.List.{List, [], _∷_, _++_}
 use Prim.Native.Nat.{ℕ}
 use lib.ListN.{length, take, replicate}

@@ -1,4 +1,4 @@
--- "A sound node" (01), and a fresh one. Assumes nothing.
+-- "A sound node" (01), and a fresh one.
 use mathlib.Core.Path.{_≡_}
 use mathlib.Core.Bool.{Bool, cond, _&&_}
 use mathlib.Core.List.{map}

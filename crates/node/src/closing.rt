@@ -3,14 +3,14 @@ use crate::Message;
 use container::OpenRecord;
 use container::Qos;
 use container::open;
-use container::profile as qos;
+use container::qos_profile as qos;
 use profile::Limits;
 ghost use mathlib.Core.Path.{_≡_};
 ghost use mathlib.Core.Bool.{true};
 ghost use Rattle.container.specs.Open.{ample};
 ghost use Rattle.history.specs.Lists.{isSome};
 ghost use Rattle.node.specs.Hear.{reported, qosAfter, changeOf, closing};
-ghost use Rattle.node.specs.Private.Told.{perhaps};
+ghost use Rattle.node.specs.Private.Premises.{perhaps};
 
 // A condition or a cause, if there is one.
 pub enum Perhaps {

@@ -2,7 +2,7 @@
 use crate::Message;
 use crate::closing;
 use crate::closing::Perhaps;
-use crate::turn;
+use crate::standing;
 use ber::tlv;
 use context::Context;
 use profile::Profile;
@@ -16,11 +16,11 @@ ghost use Rattle.ber.specs.Private.Wrote.{Put};
 ghost use Rattle.scdr.specs.Rules.{within};
 ghost use Rattle.node.specs.Hear.{hear};
 ghost use Rattle.node.specs.Step.{stood, markedOctets, octetsOf};
-ghost use Rattle.node.specs.Private.Told.{Fair, Apt, Slotted};
-ghost use Rattle.node.specs.Private.Range.{Counts, Turns, Tries, slotNext, slotOut};
+ghost use Rattle.node.specs.Private.Premises.{InRange, SoundContext, SoundSlot};
+ghost use Rattle.node.specs.Private.Range.{Counts, StandsWritten, Tries, slotNext, slotOut};
 
 // What stands in a slot, and the place after what was written.
-pub struct Turned {
+pub struct SlotAfter {
     pub context: Context,
     pub at: usize,
 }
@@ -38,47 +38,47 @@ fn put_record(r: Record, out: &mut [u8], at: usize) -> usize
 
 // How many octets an active context writes.
 fn size_of(p: Profile, c: Context, t: u32, m: Message) -> usize
-    requires { ⌜ Apt p t c ⌝ }
-    requires { ⌜ Fair m ⌝ }
+    requires { ⌜ SoundContext p t c ⌝ }
+    requires { ⌜ InRange m ⌝ }
     ensures { λ r. ⌜ Counts (octetsOf (hear p c t m .out)) r ⌝ }
 {
     let l = p.limits;
     let o = c.current;
     let k = closing::cause_of(l, o, t, m);
     match k {
-        Perhaps::Is(cause) => 2 + write::record_size(turn::closed_by(p, c, t, m, cause)),
+        Perhaps::Is(cause) => 2 + write::record_size(standing::closed_by(p, c, t, m, cause)),
         Perhaps::Nothing => 0,
     }
 }
 
 // An active context hears something, and writes at a place.
-fn hear(p: Profile, c: Context, t: u32, m: Message, out: &mut [u8], at: usize) -> Turned
-    requires { ⌜ Apt p t c ⌝ }
-    requires { ⌜ Fair m ⌝ }
+fn hear(p: Profile, c: Context, t: u32, m: Message, out: &mut [u8], at: usize) -> SlotAfter
+    requires { ⌜ SoundContext p t c ⌝ }
+    requires { ⌜ InRange m ⌝ }
     requires { ⌜ at + length (octetsOf (hear p c t m .out)) ≤ length (now out) ⌝ }
-    ensures { λ r. ⌜ Turns (stood (hear p c t m .next)) (octetsOf (hear p c t m .out)) (now (out .entry)) (now (out .exit)) at (r .context) (r .at) ⌝ }
+    ensures { λ r. ⌜ StandsWritten (stood (hear p c t m .next)) (octetsOf (hear p c t m .out)) (now (out .entry)) (now (out .exit)) at (r .context) (r .at) ⌝ }
 {
     let l = p.limits;
     let o = c.current;
     let k = closing::cause_of(l, o, t, m);
     match k {
         Perhaps::Is(cause) => {
-            let r = turn::closed_by(p, c, t, m, cause);
+            let r = standing::closed_by(p, c, t, m, cause);
             let next = put_record(r, out, at);
-            let context = turn::after_closing(p, c, t, m);
-            Turned { context, at: next }
+            let context = standing::after_closing(p, c, t, m);
+            SlotAfter { context, at: next }
         }
         Perhaps::Nothing => {
-            let context = turn::goes_on(p, c, t, m);
-            Turned { context, at }
+            let context = standing::goes_on(p, c, t, m);
+            SlotAfter { context, at }
         }
     }
 }
 
 // The same of a slot, which may be free.
 pub fn slot_size(p: Profile, c: Context, t: u32, m: Message) -> usize
-    requires { ⌜ Slotted p t c ⌝ }
-    requires { ⌜ Fair m ⌝ }
+    requires { ⌜ SoundSlot p t c ⌝ }
+    requires { ⌜ InRange m ⌝ }
     ensures { λ r. ⌜ Counts (slotOut p t m c) r ⌝ }
 {
     if c.active == 1 {
@@ -87,16 +87,16 @@ pub fn slot_size(p: Profile, c: Context, t: u32, m: Message) -> usize
     0
 }
 
-pub fn hear_slot(p: Profile, c: Context, t: u32, m: Message, out: &mut [u8], at: usize) -> Turned
-    requires { ⌜ Slotted p t c ⌝ }
-    requires { ⌜ Fair m ⌝ }
+pub fn hear_slot(p: Profile, c: Context, t: u32, m: Message, out: &mut [u8], at: usize) -> SlotAfter
+    requires { ⌜ SoundSlot p t c ⌝ }
+    requires { ⌜ InRange m ⌝ }
     requires { ⌜ at + length (slotOut p t m c) ≤ length (now out) ⌝ }
-    ensures { λ r. ⌜ Turns (slotNext p t m c) (slotOut p t m c) (now (out .entry)) (now (out .exit)) at (r .context) (r .at) ⌝ }
+    ensures { λ r. ⌜ StandsWritten (slotNext p t m c) (slotOut p t m c) (now (out .entry)) (now (out .exit)) at (r .context) (r .at) ⌝ }
 {
     if c.active == 1 {
         return hear(p, c, t, m, out, at);
     }
-    Turned { context: c, at }
+    SlotAfter { context: c, at }
 }
 
 // What comes of a slot that hears something alone: 0, what then stands in it, and how many octets it wrote; or 11 where there is no room,
@@ -109,8 +109,8 @@ pub struct Tried {
 
 // A slot hears something alone, and writes from the start of out: first the room is looked for.
 pub fn try_slot(p: Profile, c: Context, t: u32, m: Message, out: &mut [u8]) -> Tried
-    requires { ⌜ Slotted p t c ⌝ }
-    requires { ⌜ Fair m ⌝ }
+    requires { ⌜ SoundSlot p t c ⌝ }
+    requires { ⌜ InRange m ⌝ }
     ensures { λ r. ⌜ Tries p t m c (now (out .entry)) (now (out .exit)) (r .answer) (r .context) (r .written) ⌝ }
 {
     let n = slot_size(p, c, t, m);

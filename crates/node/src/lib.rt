@@ -9,10 +9,10 @@ mod closing;
 mod emit;
 mod meaning;
 pub mod sound;
+mod standing;
 pub mod step;
 mod table;
 mod task;
-mod turn;
 
 use container::Qos;
 use context::Context;

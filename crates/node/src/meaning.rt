@@ -1,7 +1,7 @@
 // Who hears an event, and what it is to them: a line a kind.
 use crate::Message;
 use container::Qos;
-use container::profile as qos;
+use container::qos_profile as qos;
 use event::Activation;
 use event::Event;
 use event::Name;

@@ -24,7 +24,7 @@ ghost use Rattle.event.specs.Private.Activated.{Activated};
 ghost use Rattle.octets.specs.Filled.{fillTo};
 ghost use Rattle.node.specs.Sound.{mostAccepted};
 ghost use Rattle.node.specs.Step.{Steps, broughtBy, activated};
-ghost use Rattle.node.specs.Private.Told.{Fair, Ready};
+ghost use Rattle.node.specs.Private.Premises.{InRange, SoundTable};
 ghost use Rattle.node.specs.Private.Range.{advanced, Serves};
 
 // The answer, the node, and how many octets were written.
@@ -64,8 +64,8 @@ fn accepted(node: Node, t: u32, contexts: [Context; 16], written: usize) -> Step
 
 // All slots hear m: first the room is looked for, then each writes where the last ended.
 fn serve(node: Node, t: u32, m: Message, out: &mut [u8]) -> Stepped
-    requires { ⌜ Ready (node .profile) t (node .contexts) ⌝ }
-    requires { ⌜ Fair m ⌝ }
+    requires { ⌜ SoundTable (node .profile) t (node .contexts) ⌝ }
+    requires { ⌜ InRange m ⌝ }
     requires { ⌜ node .accepted < mostAccepted ⌝ }
     ensures { λ r. ⌜ Serves node 0 16 t m (now (out .entry)) (now (out .exit)) (r .answer) (r .node) (r .written) ⌝ }
 {

@@ -6,20 +6,20 @@ use profile::Profile;
 ghost use mathlib.Core.Path.{_≡_};
 ghost use Prim.Native.Nat.{_≤_};
 ghost use lib.ListN.{length};
-ghost use Rattle.node.specs.Private.Told.{Fair, Ready};
+ghost use Rattle.node.specs.Private.Premises.{InRange, SoundTable};
 ghost use Rattle.history.specs.Slots.{across, along};
-ghost use Rattle.node.specs.Private.Range.{slotNext, slotOut, Turns};
+ghost use Rattle.node.specs.Private.Range.{slotNext, slotOut, StandsWritten};
 
 // The table after it, and the place after what was written.
-pub struct Heard16 {
+pub struct TableAfter {
     pub contexts: [Context; 16],
     pub at: usize,
 }
 
 // How many octets they write.
 pub fn size_all(p: Profile, cs: [Context; 16], t: u32, m: Message) -> usize
-    requires { ⌜ Ready p t cs ⌝ }
-    requires { ⌜ Fair m ⌝ }
+    requires { ⌜ SoundTable p t cs ⌝ }
+    requires { ⌜ InRange m ⌝ }
     ensures { λ r. ⌜ r ≡ length (along 0 16 (slotOut p t m) cs) ⌝ }
 {
     let mut i: usize = 0;
@@ -33,11 +33,11 @@ pub fn size_all(p: Profile, cs: [Context; 16], t: u32, m: Message) -> usize
 }
 
 // They hear m at t, and write from the start of out.
-pub fn hear_all(p: Profile, cs: [Context; 16], t: u32, m: Message, out: &mut [u8]) -> Heard16
-    requires { ⌜ Ready p t cs ⌝ }
-    requires { ⌜ Fair m ⌝ }
+pub fn hear_all(p: Profile, cs: [Context; 16], t: u32, m: Message, out: &mut [u8]) -> TableAfter
+    requires { ⌜ SoundTable p t cs ⌝ }
+    requires { ⌜ InRange m ⌝ }
     requires { ⌜ length (along 0 16 (slotOut p t m) cs) ≤ length (now out) ⌝ }
-    ensures { λ r. ⌜ Turns (across 0 16 (slotNext p t m) cs) (along 0 16 (slotOut p t m) cs) (now (out .entry)) (now (out .exit)) 0 (r .contexts) (r .at) ⌝ }
+    ensures { λ r. ⌜ StandsWritten (across 0 16 (slotNext p t m) cs) (along 0 16 (slotOut p t m) cs) (now (out .entry)) (now (out .exit)) 0 (r .contexts) (r .at) ⌝ }
 {
     let mut contexts = cs;
     let mut i: usize = 0;
@@ -50,5 +50,5 @@ pub fn hear_all(p: Profile, cs: [Context; 16], t: u32, m: Message, out: &mut [u8
         at = e.at;
         i += 1;
     }
-    Heard16 { contexts, at }
+    TableAfter { contexts, at }
 }

@@ -13,8 +13,8 @@ use event::Name;
 ghost use mathlib.Core.Path.{_≡_};
 ghost use Rattle.event.specs.Event.{decoded};
 ghost use Rattle.node.specs.Meaning.{meaningOf};
-ghost use Rattle.node.specs.Private.Told.{Fair};
-ghost use Rattle.node.specs.Private.Task.{namedTask, openTask, taskOf, timelyTask, taskFor, FairMeaning, FairTask};
+ghost use Rattle.node.specs.Private.Premises.{InRange};
+ghost use Rattle.node.specs.Private.Task.{namedTask, openTask, taskOf, timelyTask, taskFor, MeaningInRange, TaskInRange};
 
 pub enum Task {
     // the number of a refusal
@@ -29,8 +29,8 @@ pub enum Task {
 
 // The context of a name hears m.
 fn named(names: [Slot; 16], t: u32, name: Name, m: Message) -> Task
-    requires { ⌜ Fair m ⌝ }
-    ensures { λ r. ⌜ (r ≡ namedTask names t name m) × FairTask r ⌝ }
+    requires { ⌜ InRange m ⌝ }
+    ensures { λ r. ⌜ (r ≡ namedTask names t name m) × TaskInRange r ⌝ }
 {
     let found = slots::find(names, name);
     match found {
@@ -41,7 +41,7 @@ fn named(names: [Slot; 16], t: u32, name: Name, m: Message) -> Task
 
 // An activation takes the lowest free slot.
 fn open(names: [Slot; 16], t: u32, a: Activation) -> Task
-    ensures { λ r. ⌜ (r ≡ openTask names t a) × FairTask r ⌝ }
+    ensures { λ r. ⌜ (r ≡ openTask names t a) × TaskInRange r ⌝ }
 {
     let name = a.name;
     if let Found::At(_) = slots::find(names, name) {
@@ -56,8 +56,8 @@ fn open(names: [Slot; 16], t: u32, a: Activation) -> Task
 
 // What an event does that comes in time, by its meaning.
 fn task_of(names: [Slot; 16], t: u32, w: Meaning) -> Task
-    requires { ⌜ FairMeaning w ⌝ }
-    ensures { λ r. ⌜ (r ≡ taskOf names t w) × FairTask r ⌝ }
+    requires { ⌜ MeaningInRange w ⌝ }
+    ensures { λ r. ⌜ (r ≡ taskOf names t w) × TaskInRange r ⌝ }
 {
     match w {
         Meaning::Opens(a) => open(names, t, a),
@@ -68,8 +68,8 @@ fn task_of(names: [Slot; 16], t: u32, w: Meaning) -> Task
 
 // The time first, then whether one more event may be accepted.
 fn timely(clock: u32, accepted: u64, names: [Slot; 16], t: u32, e: Event) -> Task
-    requires { ⌜ FairMeaning (meaningOf e) ⌝ }
-    ensures { λ r. ⌜ (r ≡ timelyTask clock accepted names t e) × FairTask r ⌝ }
+    requires { ⌜ MeaningInRange (meaningOf e) ⌝ }
+    ensures { λ r. ⌜ (r ≡ timelyTask clock accepted names t e) × TaskInRange r ⌝ }
 {
     if 3155759999 < t {
         return Task::Refuse(6);
@@ -85,7 +85,7 @@ fn timely(clock: u32, accepted: u64, names: [Slot; 16], t: u32, e: Event) -> Tas
 
 // The rows of the refusal table before room is looked for: 13, then those of the event's octets, then those of the time and the name.
 pub fn task_for(sound: bool, clock: u32, accepted: u64, names: [Slot; 16], event: &[u8]) -> Task
-    ensures { λ r. ⌜ (r ≡ taskFor sound clock accepted names (decoded (now (event .entry)))) × FairTask r ⌝ }
+    ensures { λ r. ⌜ (r ≡ taskFor sound clock accepted names (decoded (now (event .entry)))) × TaskInRange r ⌝ }
 {
     if !sound {
         return Task::Refuse(13);

@@ -66,7 +66,9 @@ module _ {s : List ℕ} {all i : ℕ} (f : Gathered s all i) where
       let w : allOf isZero (drop i s) ≡ (eqb x 0 && allOf isZero (drop (suc i) s)) = ap (allOf isZero) (drop-cons s i 0 h) in
       record {
         most = omega arith;
-        same = rw (add-one i, or-zero all x) (and-assoc (eqb all 0) (eqb x 0) (allOf isZero (drop (suc i) s)) ∙ ap (λ (b : Bool). eqb all 0 && b) (sym w) ∙ f .same);
+        same =
+            rw (add-one i, or-zero all x) (and-assoc (eqb all 0) (eqb x 0) (allOf isZero (drop (suc i) s)) ∙ ap (λ (b : Bool). eqb all 0 && b) (sym w)
+            ∙ f .same);
       }
 
   pub gathered-end : length s ≤ i → eqb all 0 ≡ allOf isZero s

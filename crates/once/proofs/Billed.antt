@@ -1,6 +1,6 @@
 -- What every octet once says of all that is billed and stored under a name, whatever records it is met by: the containers in the
 -- records and then in the stored context are the finished stretches of its histories, once each, in order; with what runs they make
--- up all that was reported of it by name, up and down. And a record's duration is what the history says. Assumes nothing.
+-- up all that was reported of it by name, up and down. And a record's duration is what the history says.
 use mathlib.Core.Path.{_≡_, refl, sym, _∙_}
 use mathlib.Core.Option.{Option}
 use mathlib.Core.List.{List, [], _∷_, _++_, map}

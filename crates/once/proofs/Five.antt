@@ -1,4 +1,4 @@
--- The rules work out the five closing conditions. Assumes nothing.
+-- The rules work out the five closing conditions.
 use mathlib.Core.Path.{_≡_, refl}
 use mathlib.Core.Logic.{_↔_}
 use mathlib.Core.Bool.{Bool, true, false, _&&_}
@@ -28,7 +28,8 @@ module _ (l : Limits) (r : History Force Heard) (t : ℕ) where
 
   pub says-so : (e : Heard) (c : ℕ) → causeFor (rules l) r t e ≡ some c → Closes l r t e c
   says-so (Heard.traffic u d) c i =
-      tested (Heard.traffic u d) (leb (l .volume) (volume (r ▸ t ∶ Heard.traffic u d))) 16 c i (λ b. by-volume (leb-true (l .volume) (volume (r ▸ t ∶ Heard.traffic u d)) b))
+      tested (Heard.traffic u d) (leb (l .volume) (volume (r ▸ t ∶ Heard.traffic u d))) 16 c i
+      (λ b. by-volume (leb-true (l .volume) (volume (r ▸ t ∶ Heard.traffic u d)) b))
   says-so (Heard.qos q) c i = reached (Heard.qos q) _ refl c i
   says-so Heard.tariff c i = reached Heard.tariff _ refl c i
   says-so (Heard.release x) c i = let j : x ≡ c = cc in rw (← j) by-release
@@ -50,5 +51,6 @@ module _ (l : Limits) (r : History Force Heard) (t : ℕ) where
   holds-so e c by-management = refl
   holds-so e c by-release = refl
 
-pub five-alone : (l : Limits) (h : History Force Heard) (t : ℕ) (e : Heard) (cause : ℕ) → ClosesNow (rules l) h t e cause ↔ Closes l (sinceOpening (rules l) h) t e cause
+pub five-alone : (l : Limits) (h : History Force Heard) (t : ℕ) (e : Heard) (cause : ℕ)
+    → ClosesNow (rules l) h t e cause ↔ Closes l (sinceOpening (rules l) h) t e cause
 five-alone l = exactly-when (rules l) (Closes l) (λ r t e c. ((λ i. says-so l r t e c i), (λ z. holds-so l r t e c z)))

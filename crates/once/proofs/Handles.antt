@@ -22,7 +22,7 @@ use Rattle.history.proofs.Tables.{Bears, NextIs, Sound}
 use Rattle.node.specs.declared.Message as node
 use Rattle.node.specs.Hear.{going, recordOf, closing, closedBy, afterClosing, hearWith, hear}
 use Rattle.node.specs.Step as step
-use Rattle.node.proofs.Heards as heards
+use Rattle.node.proofs.Hearing as heards
 use Rattle.once.specs.Charging.{Force, Heard, same, says, meaning, rules, forms}
 use Rattle.once.specs.Once.{sight}
 use Rattle.once.proofs.Hears.{nodes, hears-told}

@@ -15,7 +15,7 @@ use Rattle.container.specs.declared.Container.{Container}
 use Rattle.container.specs.Qos.{sameQos}
 use Rattle.container.specs.List.{padded}
 use Rattle.container.specs.Open.{volumeOf}
-use Rattle.container.proofs.Goods.{same-qos}
+use Rattle.container.proofs.Formats.{same-qos}
 use Rattle.scdr.specs.declared.Record as scdr
 use Rattle.ber.specs.Field.{orZero}
 use Rattle.octets.specs.Filled.{fillTo}
@@ -201,7 +201,8 @@ module _ (p : Profile) (n : Name) (h : History Force Heard) (t : ℕ) where
   is-stored : forms p .asStored n (leaves R h) ≡ stands (inForce R h)
   is-stored = ap stands (inForce-running R h)
 
-  counted : (u d : ℕ) → volumeOf (take (length held) (padded held)) + (total up (running R h) + u) + (total down (running R h) + d) ≡ volume (past ▸ t ∶ Heard.traffic u d)
+  counted : (u d : ℕ) → volumeOf (take (length held) (padded held)) + (total up (running R h) + u) + (total down (running R h) + d) ≡ volume
+      (past ▸ t ∶ Heard.traffic u d)
   counted u d = rw (take-padded held) (omega (arith, volumes p (stretches R past), every-open R up h, every-open R down h))
 
   -- the closing conditions
@@ -232,7 +233,8 @@ module _ (p : Profile) (n : Name) (h : History Force Heard) (t : ℕ) where
 
     told-closed : (cause : ℕ) → closes R h t e ≡ some cause → told R (forms p) n h t e ≡ record {
       next = cond (isSome (releases e)) none (some (context p n t (after now e) 0 0 t 0 [] (suc (closings R h))));
-      out = bill p n t now (began past) (ends p n t now (total up (running R h)) (total down (running R h)) (began past) (changesOf past) held (closings R h) e 2)
+      out =
+          bill p n t now (began past) (ends p n t now (total up (running R h)) (total down (running R h)) (began past) (changesOf past) held (closings R h) e 2)
           (number (closings R h) (isSome (releases e))) cause ∷ [];
     }
     told-closed cause i = told-closing R (forms p) n h t e cause i ∙ rw (map-append, inForce-open R h, inForce-running R h)
@@ -242,7 +244,9 @@ module _ (p : Profile) (n : Name) (h : History Force Heard) (t : ℕ) where
           (ends p n t now (total up (running R h)) (total down (running R h)) (began past) (changesOf past) held (closings R h) e condition) (closings R h));
       out = [];
     }
-    told-changed condition i q = told-change R (forms p) n h t e condition i q ∙ rw (not-released (releases e) (R .closing past t e) i, map-append, inForce-open R h, inForce-running R h, q)
+    told-changed condition i q =
+        told-change R (forms p) n h t e condition i q
+        ∙ rw (not-released (releases e) (R .closing past t e) i, map-append, inForce-open R h, inForce-running R h, q)
 
     told-plainly : closes R h t e ≡ none → change now e ≡ none → told R (forms p) n h t e ≡ record {
       next = some (context p n t (after now e) (total up (running R h) + up e) (total down (running R h) + down e) (began past)

@@ -1,4 +1,4 @@
--- Every octet once, of the node (demand 3): the theorem. Assumes nothing.
+-- Every octet once, of the node (demand 3): the theorem.
 use mathlib.Core.Path.{_≡_, refl, sym}
 use mathlib.Core.Bool.{true}
 use mathlib.Core.List.{List, [], _∷_}
@@ -36,7 +36,8 @@ module _ (p : Profile) (cs : List Call) where
 
   -- of the node without its profile, and so of the node
   charged-apart : (n : Name) → Demand3 (rules (p .limits)) meaning (forms p) (view p) (calls p) fresh tt cs n
-  charged-apart n = demand3 (rules (p .limits)) meaning (forms p) (handling p) (view p) (calls p) (λ s. tt) (sound p) (λ a. tt) (λ a. a .clock) (served p) fresh refl cs n
+  charged-apart n =
+      demand3 (rules (p .limits)) meaning (forms p) (handling p) (view p) (calls p) (λ s. tt) (sound p) (λ a. tt) (λ a. a .clock) (served p) fresh refl cs n
 
   charged : (n : Name) → Demand3 (rules (p .limits)) meaning (forms p) sight (machine wrote) (freshNode p) tt cs n
   charged n =

@@ -1,4 +1,4 @@
--- The octets of all calls from a fresh node read mark by mark as the records that they are. Assumes nothing.
+-- The octets of all calls from a fresh node read mark by mark as the records that they are.
 use mathlib.Core.Path.{_≡_, refl, sym, ap, _∙_}
 use mathlib.Core.Bool.{true}
 use mathlib.Core.Option.{Option, some}
@@ -21,8 +21,8 @@ use Rattle.node.specs.Sound.{freshNode}
 use Rattle.node.specs.Step.{recordsOf, saidOf}
 use Rattle.node.specs.Run.{Call}
 use Rattle.node.specs.Held.{Octets, HeldProfile, Whole}
-use Rattle.node.proofs.Kept.{Fine}
-use Rattle.node.proofs.Sounded.{records-good}
+use Rattle.node.proofs.ContextKept.{Fine}
+use Rattle.node.proofs.NodeKept.{records-good}
 use Rattle.node.proofs.Demands.{answered}
 use Rattle.node.proofs.Runs.{fresh-whole, step-kept}
 use Rattle.once.specs.Once.{nodeNow, marked, machine, outputs}
@@ -46,7 +46,8 @@ right-append (r ∷ a) b p q = (p .0, right-append a b (p .1) q)
 wrote-right : (n : Node) (c : Call) → Whole n → Octets (c .event) → AllRight (wrote n c)
 wrote-right n c w o =
     called n c
-    (λ z. rw (wrote-some n c z) (right (recordsOf n (timeOf (c .event)) (saidOf (c .event))) (records-good n (c .event) (c .buffer) (w .held) o (sym (answered n (c .event) (c .buffer)) ∙ z .answers))))
+    (λ z. rw (wrote-some n c z) (right (recordsOf n (timeOf (c .event)) (saidOf (c .event)))
+    (records-good n (c .event) (c .buffer) (w .held) o (sym (answered n (c .event) (c .buffer)) ∙ z .answers))))
     (λ z. rw (wrote-none n c z) tt)
 
 all-right : (cs : List Call) (n : Node) → Whole n → All (λ c. Octets (c .event)) cs → AllRight (allWritten (machine wrote) n cs)

@@ -1,5 +1,5 @@
 -- The node's calls serve the table of contexts: what each does to the slots and writes is what the handling says of the event that it
--- accepted. The profile stands apart, since no call changes it. Assumes nothing.
+-- accepted. The profile stands apart, since no call changes it.
 use mathlib.Core.Path.{_≡_, refl, ap, _∙_}
 use mathlib.Core.Bool.{true, false}
 use mathlib.Core.List.{List, [], _∷_, map}

@@ -127,8 +127,10 @@ unfolding activate traffic released printed spelt octetsFrom numberIn fillTo noC
     firstFit rows.marked known measured kinds kindIn wholeOf rows.fieldsOk activateOk eventOf
     imsiOk halves leading allF qosOk allOf apnChar release fields.release nodeChar
     sound profileOk limitsOk nodeOk apnOk stampOk distinct slots.isActive isFree bears noneBears sameName
-    context.fieldsOk unusedOk closedOk countOk containersOk volumeOk soundOpen blankOpen contextOk zeroOk slotOk slotsOk openOk eachOk midway oneOffset timesTo qosRun volumeOf isBlank blanks sameQos
+    context.fieldsOk unusedOk closedOk countOk containersOk volumeOk soundOpen blankOpen contextOk zeroOk slotOk slotsOk openOk eachOk midway oneOffset
+    timesTo qosRun volumeOf isBlank blanks sameQos
     reported qosAfter changeOf limitMet closing numberFor recordOf goesOn closedBy afterClosing hearWith hear
-    layout.scdr layout.inside layout.body layout.ofRecord layout.fieldsOf duration lastTime tlvEnc lenEnc intEnc lowest imsiEnc stampEnc monthDay seek monthLen isNew told
+    layout.scdr layout.inside layout.body layout.ofRecord layout.fieldsOf duration lastTime tlvEnc lenEnc intEnc lowest imsiEnc stampEnc monthDay seek
+    monthLen isNew told
     containers container qos
 session-run = (refl, eqs-eq (outputs (freshNode session) calls) (0xC3 ∷ 0x5A ∷ printed) tt)

@@ -1,4 +1,4 @@
--- What a call does, by its answer: accepted, the table does what the histories say of its event; refused, nothing. Assumes nothing.
+-- What a call does, by its answer: accepted, the table does what the histories say of its event; refused, nothing.
 use mathlib.Core.Path.{_≡_, refl, sym, ap, ap₂, _∙_}
 use mathlib.Core.Bool.{Bool, true, false, cond, _||_}
 use mathlib.Core.Option.{Option}
@@ -128,8 +128,17 @@ module _ (n : Node) (c : Call) where
   abbrev Out : Type 0
   Out = ℕ × (Node × (ℕ × List ℕ))
 
-  accepts : eqb k 0 ≡ true → _≡_ {A = Out} (step.stepOf n s (c .buffer))
-      (0, (step.nodeAfter n t (step.saidOf s), (length (step.output n t (step.saidOf s)), step.output n t (step.saidOf s) ++ drop (length (step.output n t (step.saidOf s))) (c .buffer))))
+  accepts : eqb k 0 ≡ true → _≡_ {A = Out} (step.stepOf n s (c .buffer)) (
+    0,
+    (
+      step.nodeAfter n t (step.saidOf s),
+      (
+        length (step.output n t (step.saidOf s)),
+        step.output n t (step.saidOf s) ++ drop
+            (length (step.output n t (step.saidOf s))) (c .buffer),
+      ),
+    ),
+  )
   unfolding step.stepOf step.outcome
   accepts e = rw e
 
@@ -190,7 +199,9 @@ module _ (n : Node) (c : Call) where
       (λ z. z .buffer ∙ ap₂ {C = List ℕ} (λ rs l. marked rs ++ drop l (c .buffer)) (sym (wrote-none z)) (sym (z .lengths)))
 
   pub octets-are : octetsNow n c ≡ marked (wrote n c)
-  octets-are = ap₂ {C = List ℕ} (λ l b. take l b) lengths-are buffer-is ∙ take-at (marked (wrote n c)) (drop (lengthNow n c) (c .buffer)) (length (marked (wrote n c))) refl
+  octets-are =
+      ap₂ {C = List ℕ} (λ l b. take l b) lengths-are buffer-is
+      ∙ take-at (marked (wrote n c)) (drop (lengthNow n c) (c .buffer)) (length (marked (wrote n c))) refl
 
   -- no call changes the profile
   pub profile-kept : nodeNow n c .profile ≡ n .profile

@@ -1,6 +1,6 @@
 -- What is charged of a PDP context, as 01 says it, in 01's order: what an event's octets mean, what an event does to a context's
 -- history, and the S-CDR and the stored context that a history makes. Histories, stretches and records are those of the crate
--- `history`. Nothing here says how the node works. Assumes nothing.
+-- `history`. Nothing here says how the node works.
 use mathlib.Core.Path.{_≡_}
 use mathlib.Core.Bool.{Bool, true, cond, _&&_}
 use mathlib.Core.Option.{Option, none, some}

@@ -1,5 +1,5 @@
 -- Every octet once (demand 3), of the node: the statement. It is about what the step answers to calls, the octets that it writes
--- included, and about nothing else of the node. Assumes nothing.
+-- included, and about nothing else of the node.
 use mathlib.Core.Path.{_≡_}
 use mathlib.Core.Logic.{_↔_}
 use mathlib.Core.Option.{some}

@@ -1,4 +1,4 @@
--- What reads as a value in range is what is printed for it. Assumes nothing.
+-- What reads as a value in range is what is printed for it.
 use mathlib.Core.Path.{_≡_, refl, sym, ap, _∙_}
 use mathlib.Core.Bool.{true, false, not, _&&_}
 use mathlib.Core.List.{List, [], _∷_, _++_}

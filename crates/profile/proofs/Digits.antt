@@ -1,4 +1,4 @@
--- Decimal digits: what is printed reads, and what reads without a leading zero is what is printed. Assumes nothing.
+-- Decimal digits: what is printed reads, and what reads without a leading zero is what is printed.
 use mathlib.Core.Path.{_≡_, refl, sym, _∙_}
 use mathlib.Core.Bool.{Bool, true, false, not, _&&_}
 use mathlib.Core.List.{List, [], _∷_, _++_, append-assoc, append-nil}
@@ -177,7 +177,8 @@ back-more [] x b k f h =
     let e = numeral-one x in
     let r : x - 48 + 48 ≡ x = omega (arith, d .0) in
     rw (e, lt-ltb (x - 48) 10 (omega (arith, d .1)), r)
-back-more (y ∷ w) x b k f h = rw (numeral-snoc 0 (y ∷ w) x) (more (y ∷ w) x (omega arith) b f k (numeral 0 (y ∷ w) * 10 + (x - 48)) refl (rw (numeral-snoc 0 (y ∷ w) x) at h))
+back-more (y ∷ w) x b k f h =
+    rw (numeral-snoc 0 (y ∷ w) x) (more (y ∷ w) x (omega arith) b f k (numeral 0 (y ∷ w) * 10 + (x - 48)) refl (rw (numeral-snoc 0 (y ∷ w) x) at h))
 
 pub number-back : (v : List ℕ) → Plain v → numeral 0 v < 10 ^ 20 → numberText (numeral 0 v) ≡ v
 unfolding tenTo

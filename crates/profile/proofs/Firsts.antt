@@ -1,4 +1,4 @@
--- The first fault, of any two. Assumes nothing.
+-- The first fault, of any two.
 use mathlib.Core.Path.{_≡_, refl, ap}
 use mathlib.Core.Bool.{Bool, true, false, _&&_}
 use Prim.Native.Nat.{ℕ, _≤_}

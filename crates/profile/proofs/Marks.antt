@@ -1,4 +1,4 @@
--- A mark after octets that have none: what stands before it and after it. And the other way round. Assumes nothing.
+-- A mark after octets that have none: what stands before it and after it. And the other way round.
 use mathlib.Core.Path.{_≡_, refl, sym, ap, _∙_}
 use mathlib.Core.Bool.{Bool, true, false, cond, _||_}
 use mathlib.Core.List.{List, [], _∷_, _++_}

@@ -1,4 +1,4 @@
--- The octets of a node ID, copied over zeros. Assumes nothing.
+-- The octets of a node ID, copied over zeros.
 use mathlib.Core.Path.{_≡_, refl, ap, _∙_}
 use mathlib.Core.List.{List, [], _∷_, _++_}
 use Prim.Native.Nat.{ℕ, zero, suc, _≤_}

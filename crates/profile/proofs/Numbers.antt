@@ -1,4 +1,4 @@
--- Numbers in decimal digits, kept below a largest one, and what does not see that one. Assumes nothing.
+-- Numbers in decimal digits, kept below a largest one, and what does not see that one.
 use mathlib.Core.Path.{_≡_, refl, sym, ap, _∙_}
 use mathlib.Core.Bool.{Bool, true, false, _&&_}
 use mathlib.Core.List.{List, [], _∷_}
@@ -90,7 +90,8 @@ most-leb k m n h =
     (λ t. let l = leb-false n m t in ap (λ (x : ℕ). leb x k) (sym (most-over m n (omega arith))) ∙ lt-leb m k h ∙ sym (lt-leb n k (omega arith)))
 
 -- nor does a test of an octet, as the code makes it
-pub octet-test : (v : List ℕ) {n : ℕ} {f : Fault} {t : Bool} → t ≡ isNone f → f ≡ numberFault v → n ≡ atMost (2 ^ 64 - 1) (numeral 0 v) → (t && leb n 255) ≡ octetOk v
+pub octet-test : (v : List ℕ) {n : ℕ} {f : Fault} {t : Bool} → t ≡ isNone f → f ≡ numberFault v → n ≡ atMost (2 ^ 64 - 1) (numeral 0 v)
+    → (t && leb n 255) ≡ octetOk v
 unfolding octetOk
 octet-test v p q r = let h : 255 < 2 ^ 64 - 1 = omega arith in rw (p, q, r, most-leb 255 (2 ^ 64 - 1) (numeral 0 v) h)
 
@@ -108,4 +109,5 @@ unfolding east
 east-most m n h =
     by (leb n m)
     (λ t. ap east (sym (most-is m n (leb-true n m t))))
-    (λ t. let l = leb-false n m t in ap east (sym (most-over m n (omega arith))) ∙ sym (most-over 65535 (m + 720) (omega arith)) ∙ most-over 65535 (n + 720) (omega arith))
+    (λ t. let l = leb-false n m t in ap east (sym (most-over m n (omega arith))) ∙ sym (most-over 65535 (m + 720) (omega arith))
+    ∙ most-over 65535 (n + 720) (omega arith))

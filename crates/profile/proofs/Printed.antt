@@ -1,4 +1,4 @@
--- Texts that read and texts that do not, computed. Assumes nothing.
+-- Texts that read and texts that do not, computed.
 use mathlib.Core.Path.{_≡_, refl}
 use mathlib.Core.List.{[], _∷_, _++_}
 use Prim.Native.Nat.{ℕ, _-_, _^_}
@@ -65,13 +65,17 @@ pub record Faults : Type 0 where
   -- offset -
   pub minus-alone : readOf (line1 ++ line2 ++ line3 ++ line4 ++ (offsetName ++ 0x20 ∷ 0x2D ∷ 10 ∷ []) ++ line6) ≡ badly 5 Number
   -- sgsn 10.0.0.256
-  pub octet-256 : readOf ((sgsnName ++ 0x20 ∷ 0x31 ∷ 0x30 ∷ 0x2E ∷ 0x30 ∷ 0x2E ∷ 0x30 ∷ 0x2E ∷ 0x32 ∷ 0x35 ∷ 0x36 ∷ 10 ∷ []) ++ line2 ++ line3 ++ line4 ++ line5 ++ line6) ≡ badly 1 Address
+  pub octet-256 : readOf ((sgsnName ++ 0x20 ∷ 0x31 ∷ 0x30 ∷ 0x2E ∷ 0x30 ∷ 0x2E ∷ 0x30 ∷ 0x2E ∷ 0x32 ∷ 0x35 ∷ 0x36 ∷ 10 ∷ []) ++ line2 ++ line3 ++ line4 ++
+      line5 ++ line6) ≡ badly 1 Address
   -- sgsn 10.0.0
-  pub three-numbers : readOf ((sgsnName ++ 0x20 ∷ 0x31 ∷ 0x30 ∷ 0x2E ∷ 0x30 ∷ 0x2E ∷ 0x30 ∷ 10 ∷ []) ++ line2 ++ line3 ++ line4 ++ line5 ++ line6) ≡ badly 1 Address
+  pub three-numbers : readOf ((sgsnName ++ 0x20 ∷ 0x31 ∷ 0x30 ∷ 0x2E ∷ 0x30 ∷ 0x2E ∷ 0x30 ∷ 10 ∷ []) ++ line2 ++ line3 ++ line4 ++ line5 ++ line6) ≡ badly 1
+      Address
   -- sgsn 10.0.0.1.2
-  pub five-numbers : readOf ((sgsnName ++ 0x20 ∷ 0x31 ∷ 0x30 ∷ 0x2E ∷ 0x30 ∷ 0x2E ∷ 0x30 ∷ 0x2E ∷ 0x31 ∷ 0x2E ∷ 0x32 ∷ 10 ∷ []) ++ line2 ++ line3 ++ line4 ++ line5 ++ line6) ≡ badly 1 Address
+  pub five-numbers : readOf ((sgsnName ++ 0x20 ∷ 0x31 ∷ 0x30 ∷ 0x2E ∷ 0x30 ∷ 0x2E ∷ 0x30 ∷ 0x2E ∷ 0x31 ∷ 0x2E ∷ 0x32 ∷ 10 ∷ []) ++ line2 ++ line3 ++ line4 ++
+      line5 ++ line6) ≡ badly 1 Address
   -- sgsn 10.0.0.01
-  pub octet-leading-zero : readOf ((sgsnName ++ 0x20 ∷ 0x31 ∷ 0x30 ∷ 0x2E ∷ 0x30 ∷ 0x2E ∷ 0x30 ∷ 0x2E ∷ 0x30 ∷ 0x31 ∷ 10 ∷ []) ++ line2 ++ line3 ++ line4 ++ line5 ++ line6) ≡ badly 1 Address
+  pub octet-leading-zero : readOf ((sgsnName ++ 0x20 ∷ 0x31 ∷ 0x30 ∷ 0x2E ∷ 0x30 ∷ 0x2E ∷ 0x30 ∷ 0x2E ∷ 0x30 ∷ 0x31 ∷ 10 ∷ []) ++ line2 ++ line3 ++ line4 ++
+      line5 ++ line6) ≡ badly 1 Address
 
 pub faults : Faults
 unfolding readOf readBy firstBad orBad unless lineFault has upTo past begins numberFault allOf numeral atMost octetOk westFault offsetFault
@@ -113,6 +117,7 @@ pub changes-256 : atMost 255 (numeral 0 (0x32 ∷ 0x35 ∷ 0x36 ∷ [])) ≡ 255
 unfolding atMost numeral
 changes-256 = refl
 
-pub volume-top : atMost (2 ^ 64 - 1) (numeral 0 (0x31 ∷ 0x38 ∷ 0x34 ∷ 0x34 ∷ 0x36 ∷ 0x37 ∷ 0x34 ∷ 0x34 ∷ 0x30 ∷ 0x37 ∷ 0x33 ∷ 0x37 ∷ 0x30 ∷ 0x39 ∷ 0x35 ∷ 0x35 ∷ 0x31 ∷ 0x36 ∷ 0x31 ∷ 0x36 ∷ [])) ≡ 2 ^ 64 - 1
+pub volume-top : atMost (2 ^ 64 - 1) (numeral 0 (0x31 ∷ 0x38 ∷ 0x34 ∷ 0x34 ∷ 0x36 ∷ 0x37 ∷ 0x34 ∷ 0x34 ∷ 0x30 ∷ 0x37 ∷ 0x33 ∷ 0x37 ∷ 0x30 ∷ 0x39 ∷ 0x35 ∷
+    0x35 ∷ 0x31 ∷ 0x36 ∷ 0x31 ∷ 0x36 ∷ [])) ≡ 2 ^ 64 - 1
 unfolding atMost numeral
 volume-top = refl

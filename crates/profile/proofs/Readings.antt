@@ -1,4 +1,4 @@
--- The first bad line, row by row, and what the text then says. Assumes nothing.
+-- The first bad line, row by row, and what the text then says.
 use mathlib.Core.Path.{_≡_, refl, sym, ap, _∙_}
 use mathlib.Core.Bool.{true, false}
 use mathlib.Core.List.{List}

@@ -1,4 +1,4 @@
--- A profile in range has one text: that text reads as the profile, and no other does. Assumes nothing.
+-- A profile in range has one text: that text reads as the profile, and no other does.
 use mathlib.Core.Path.{_≡_, refl, sym, ap, _∙_}
 use mathlib.Core.Bool.{true, _&&_}
 use mathlib.Core.List.{List, [], _∷_}
@@ -40,7 +40,8 @@ in-range p e =
     let l = p .limits in
     let (a, n) = both (limitsOk (p .limits) && leb (p .zone) 1560) (nodeOk (p .nodeid) (p .nodelen)) e in
     let (b, z) = both (limitsOk (p .limits)) (leb (p .zone) 1560) a in
-    let (c, u) = both (leb 1 (l .volume) && leb (l .volume) (10 ^ 12) && leb 1 (l .seconds) && leb (l .seconds) 604800 && leb 1 (l .changes)) (leb (l .changes) 15) b in
+    let (c, u) =
+    both (leb 1 (l .volume) && leb (l .volume) (10 ^ 12) && leb 1 (l .seconds) && leb (l .seconds) 604800 && leb 1 (l .changes)) (leb (l .changes) 15) b in
     let (d, v) = both (leb 1 (l .volume) && leb (l .volume) (10 ^ 12) && leb 1 (l .seconds) && leb (l .seconds) 604800) (leb 1 (l .changes)) c in
     let (f, w) = both (leb 1 (l .volume) && leb (l .volume) (10 ^ 12) && leb 1 (l .seconds)) (leb (l .seconds) 604800) d in
     let (g, x) = both (leb 1 (l .volume) && leb (l .volume) (10 ^ 12)) (leb 1 (l .seconds)) f in
@@ -50,7 +51,9 @@ in-range p e =
       seconds = leb-true (l .seconds) 604800 w;
       changes = leb-true (l .changes) 15 u;
       zone = leb-true (p .zone) 1560 z;
-      few = leb-true (p .nodelen) 20 (both (leb (p .nodelen) 20) (allOf nodeChar (take (p .nodelen) (p .nodeid))) (both (leb (p .nodelen) 20 && allOf nodeChar (take (p .nodelen) (p .nodeid))) (allOf isZero (drop (p .nodelen) (p .nodeid))) n .0) .0);
+      few =
+          leb-true (p .nodelen) 20 (both (leb (p .nodelen) 20) (allOf nodeChar (take (p .nodelen) (p .nodeid)))
+          (both (leb (p .nodelen) 20 && allOf nodeChar (take (p .nodelen) (p .nodeid))) (allOf isZero (drop (p .nodelen) (p .nodeid))) n .0) .0);
       node = n;
     }
 

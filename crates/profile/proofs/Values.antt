@@ -1,4 +1,4 @@
--- The values that are printed read. Assumes nothing.
+-- The values that are printed read.
 use mathlib.Core.Path.{_≡_, refl, sym, ap, _∙_}
 use mathlib.Core.Bool.{Bool, true, false, _&&_, _||_}
 use mathlib.Core.List.{List, [], _∷_, _++_, append-assoc}

@@ -1,4 +1,4 @@
--- Addresses: four numbers from 0 to 255, with three dots between them. Assumes nothing.
+-- Addresses: four numbers from 0 to 255, with three dots between them.
 use mathlib.Core.Bool.{Bool, _&&_}
 use mathlib.Core.List.{List}
 use Prim.Native.Nat.{ℕ, _+_, _*_}

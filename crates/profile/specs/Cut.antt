@@ -1,4 +1,4 @@
--- Octets up to the first mark, and past it. Assumes nothing.
+-- Octets up to the first mark, and past it.
 use mathlib.Core.Bool.{Bool, true, false, cond, _&&_, _||_}
 use mathlib.Core.List.{List, [], _∷_}
 use Prim.Native.Nat.{ℕ}

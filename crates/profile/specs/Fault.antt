@@ -1,4 +1,4 @@
--- What is wrong, and what is wrong first. Assumes nothing.
+-- What is wrong, and what is wrong first.
 use mathlib.Core.Bool.{Bool, true, false, cond}
 use Prim.Native.Nat.{ℕ}
 use Rattle.profile.specs.declared.text.Fault.{Fault}

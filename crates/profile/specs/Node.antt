@@ -1,4 +1,4 @@
--- A node ID as a profile keeps it. Assumes nothing.
+-- A node ID as a profile keeps it.
 use mathlib.Core.List.{List, _++_}
 use Prim.Native.Nat.{ℕ}
 use lib.ListN.{take, replicate}

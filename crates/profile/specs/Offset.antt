@@ -1,4 +1,4 @@
--- Minutes from universal time: a number, or a minus sign and a number that is not zero. Assumes nothing.
+-- Minutes from universal time: a number, or a minus sign and a number that is not zero.
 use mathlib.Core.Bool.{Bool, not, cond}
 use mathlib.Core.List.{List}
 use Prim.Native.Nat.{ℕ, _+_, _-_}

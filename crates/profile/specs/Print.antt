@@ -1,4 +1,4 @@
--- The text of a profile. Assumes nothing.
+-- The text of a profile.
 use mathlib.Core.Bool.{cond}
 use mathlib.Core.List.{List, [], _∷_, _++_}
 use Prim.Native.Nat.{ℕ, zero, suc, _+_, _-_, _/_, _%_, _^_}

@@ -1,4 +1,4 @@
--- The profile in range (01, "Profile and clock"). Assumes nothing.
+-- The profile in range (01, "Profile and clock").
 use mathlib.Core.Bool.{Bool, _&&_}
 use Prim.Native.Nat.{_^_}
 use lib.Dec.{leb}

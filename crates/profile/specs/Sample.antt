@@ -1,4 +1,4 @@
--- The profile of 01's "One session, whole", as a text. Assumes nothing.
+-- The profile of 01's "One session, whole", as a text.
 use mathlib.Core.List.{List, [], _∷_, _++_}
 use Prim.Native.Nat.{ℕ}
 use lib.ListN.{replicate}

@@ -1,4 +1,4 @@
--- The text of a profile: exactly six lines, in this order. Assumes nothing.
+-- The text of a profile: exactly six lines, in this order.
 use mathlib.Core.Bool.{cond}
 use mathlib.Core.List.{List, [], _∷_}
 use Prim.Native.Nat.{ℕ, suc, _-_, _^_}

@@ -31,7 +31,7 @@ pub fn at_most(most: u64, x: u64) -> u64
 }
 
 // What a digit says.
-fn worth(x: u8) -> u64
+fn digit_value(x: u8) -> u64
     ensures { λ r. ⌜ r ≡ x - 48 ⌝ }
 {
     if x < b'0' {
@@ -57,7 +57,7 @@ pub fn number(v: &[u8]) -> u64
     let mut n: u64 = 0;
     let mut i = 0;
     while i < v.len() {
-        n = tens(n, worth(v[i]));
+        n = tens(n, digit_value(v[i]));
         i += 1;
     }
     n

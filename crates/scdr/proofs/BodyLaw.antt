@@ -16,7 +16,7 @@ use Rattle.ber.proofs.Counts.{counted-law}
 use Rattle.ber.proofs.Fields.{alone-law}
 use Rattle.ber.proofs.Tables.{Laws, layout-law}
 use Rattle.calendar.proofs.Stamps.{stamp-law}
-use Rattle.container.proofs.Goods.{containers-law, containers-most}
+use Rattle.container.proofs.Formats.{containers-law, containers-most}
 use Rattle.scdr.specs.Table.{table, recordTags, mandatory, optional}
 use Rattle.scdr.specs.Layout.{body}
 

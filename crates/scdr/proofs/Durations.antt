@@ -24,5 +24,6 @@ pub duration-none : (t : ℕ) (cs : List Container) (n : ℕ) → n ≡ 0 → 0 
 unfolding lastTime
 duration-none t cs n e = rw e (omega arith)
 
-pub duration-is : (t : ℕ) (cs : List Container) (n : ℕ) (d : Container) → 1 ≤ n → n ≤ length cs → getD cs (n - 1) d .time .seconds - t ≡ durationFrom t (take n cs)
+pub duration-is : (t : ℕ) (cs : List Container) (n : ℕ) (d : Container) → 1 ≤ n → n ≤ length cs
+    → getD cs (n - 1) d .time .seconds - t ≡ durationFrom t (take n cs)
 duration-is t cs n d h k = ap (λ (x : ℕ). x - t) (sym (last-is t cs n d h k))

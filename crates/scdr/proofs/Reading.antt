@@ -23,7 +23,25 @@ use Rattle.container.specs.declared.Container.{Container}
 use Rattle.container.specs.Container.{noStamp}
 use Rattle.container.specs.List.{ListsAt}
 use Rattle.scdr.specs.declared.Record.{Record}
-use Rattle.scdr.specs.Table.{RecordType, Network, Imsi, Sgsn, ChargingId, Ggsn, Apn, PdpType, Served, Containers, Opening, Duration, Change, Cause, Number, NodeId, table}
+use Rattle.scdr.specs.Table.{
+  RecordType,
+  Network,
+  Imsi,
+  Sgsn,
+  ChargingId,
+  Ggsn,
+  Apn,
+  PdpType,
+  Served,
+  Containers,
+  Opening,
+  Duration,
+  Change,
+  Cause,
+  Number,
+  NodeId,
+  table,
+}
 use Rattle.octets.specs.Filled.{fillTo}
 use Rattle.scdr.specs.Layout.{body, fieldsOf}
 use Rattle.scdr.specs.Private.Pieces.{Wired}

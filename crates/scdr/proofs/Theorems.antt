@@ -22,7 +22,7 @@ use Rattle.calendar.specs.Stamp.{stampOk}
 use Rattle.container.specs.declared.Container.{Container}
 use Rattle.container.specs.Qos.{qosOk}
 use Rattle.container.specs.Container.{containerOk, noContainer}
-use Rattle.container.proofs.Goods.{each-good, first-formed}
+use Rattle.container.proofs.Formats.{each-good, first-formed}
 use Rattle.container.specs.List.{eachOk, lastAlone, oneOffset, inOrder, qosRule, listOk, allFormed, containers}
 use Rattle.scdr.specs.declared.Record.{Record}
 use Rattle.scdr.specs.Rules.{shaped, within, numberOk, lastTime, duration, durationFrom}

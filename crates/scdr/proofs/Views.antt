@@ -14,7 +14,7 @@ use Rattle.ber.specs.Imsi.{imsiOk}
 use Rattle.ber.proofs.Counts.{number-back, number-kept}
 use Rattle.calendar.specs.Stamp.{stampOk}
 use Rattle.container.specs.List.{listOk, blanks, padded}
-use Rattle.container.proofs.Turns.{blanks-are}
+use Rattle.container.proofs.Stepwise.{blanks-are}
 use Rattle.scdr.specs.declared.Record.{Record}
 use Rattle.octets.specs.Chars.{allOf, isZero, apnChar, nodeChar}
 use Rattle.octets.specs.Names.{apnOk, nodeOk}

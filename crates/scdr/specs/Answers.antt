@@ -1,4 +1,4 @@
--- What the writer and the reader of a record answer, with the numbers of 01's refusal table. Assumes nothing.
+-- What the writer and the reader of a record answer, with the numbers of 01's refusal table.
 use mathlib.Core.Path.{_≡_}
 use mathlib.Core.Bool.{cond, false}
 use mathlib.Core.Option.{Option, none, some}

@@ -1,4 +1,4 @@
--- A record list: records one after another, "each record follows the mark C3 5A" (01, "The record's octets"). Assumes nothing.
+-- A record list: records one after another, "each record follows the mark C3 5A" (01, "The record's octets").
 use mathlib.Core.Bool.{Bool, cond, _&&_}
 use mathlib.Core.Option.{Option, none, some}
 use mathlib.Core.List.{List, [], _∷_, _++_}

@@ -1,4 +1,4 @@
--- The record that 01 prints ("One session, whole"), and its 111 octets. Assumes nothing.
+-- The record that 01 prints ("One session, whole"), and its 111 octets.
 use mathlib.Core.Bool.{false}
 use mathlib.Core.List.{List, [], _∷_}
 use Prim.Native.Nat.{ℕ}

@@ -51,7 +51,7 @@ pub fn put_pdp(
 {
     let apn_at = address::put_address(out, at, tags::GGSN, ggsn);
     let type_at = text::put_text(out, apn_at, tags::APN, &apn, apnlen);
-    let served_at = fixed::put_pair(out, type_at, tags::PDP_TYPE, pdptype);
+    let served_at = fixed::put_two_octets(out, type_at, tags::PDP_TYPE, pdptype);
     address::put_address_in(out, served_at, tags::SERVED, served)
 }
 

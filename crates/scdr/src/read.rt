@@ -103,7 +103,7 @@ fn no_record() -> Whole
             apnlen: 0,
             pdptype: 0,
             address: 0,
-            containers: [container::single::no_container(); 15],
+            containers: [container::one::no_container(); 15],
             count: 0,
             opening: calendar::Stamp {
                 seconds: 0,

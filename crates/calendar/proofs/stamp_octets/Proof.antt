@@ -1,5 +1,5 @@
 -- `calendar::stamp_octets` meets its contract: past the first test the time is in range, so its date is one of the calendar's, and the
--- octets are the definition's. Assumes nothing.
+-- octets are the definition's.
 use mathlib.Core.Path.{_≡_, refl, sym, _∙_}
 use mathlib.Core.Bool.{true}
 use native.Mathlib.Omega.{arith}

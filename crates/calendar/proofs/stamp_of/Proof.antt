@@ -1,5 +1,5 @@
 -- `calendar::stamp_of` meets its contract: what it puts together of the octets' parts is what they say by the definition, and each way
--- out is a law of proofs/Stamps.antt. Assumes nothing.
+-- out is a law of proofs/Stamps.antt.
 use mathlib.Core.Path.{_≡_, sym, ap, _∙_, subst}
 use mathlib.Core.Bool.{true, false}
 use mathlib.Core.List.{List}

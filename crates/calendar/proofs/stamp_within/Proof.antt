@@ -1,4 +1,4 @@
--- `calendar::stamp_within` meets its contract: it is the definition. Assumes nothing.
+-- `calendar::stamp_within` meets its contract: it is the definition.
 use mathlib.Core.Path.{refl}
 use Rattle.calendar.specs.Stamp.{stampOk}
 use Rattle.calendar.proofs.stamp_within.Statement.{statement}

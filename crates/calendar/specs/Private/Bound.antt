@@ -1,4 +1,4 @@
--- What a function that computes a number promises. Assumes nothing.
+-- What a function that computes a number promises.
 use mathlib.Core.Path.{_≡_}
 use Prim.Native.Nat.{ℕ, _≤_}
 

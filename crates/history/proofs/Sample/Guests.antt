@@ -59,7 +59,13 @@ module _ (n : Badge) (h : History Stay Heard) (t : ℕ) where
 
   hear-leave : (k : ℕ) → hear g guest t (Heard.turn (Turn.leave k)) ≡ told rules forms n h t (Heard.turn (Turn.leave k))
   hear-leave k =
-      rw (told-closing rules forms n h t (Heard.turn (Turn.leave k)) k refl, each-append, append-nil (each stop (stretches rules past)), sole (closings rules h))
+      rw (
+        told-closing rules forms n h t (Heard.turn (Turn.leave k)) k refl,
+        each-append,
+        append-nil (each stop (stretches rules past)),
+        sole
+            (closings rules h),
+      )
 
   hear-offset : (o : ℕ) → hear g guest t (Heard.offset o) ≡ told rules forms n h t (Heard.offset o)
   hear-offset o = rw (told-plain rules forms n h t (Heard.offset o) refl refl)

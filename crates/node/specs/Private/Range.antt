@@ -28,7 +28,7 @@ pub record Counts (x : List ℕ) (n : ℕ) : Type 0 where
   pub most : n ≤ 1026
 
 -- what stands, and what was written at a place
-pub record Turns {A : Type 0} (want : A) (x b b′ : List ℕ) (at : ℕ) (got : A) (next : ℕ) : Type 0 where
+pub record StandsWritten {A : Type 0} (want : A) (x b b′ : List ℕ) (at : ℕ) (got : A) (next : ℕ) : Type 0 where
   pub value : got ≡ want
   pub written : Put x b b′ at next
 

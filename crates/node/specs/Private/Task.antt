@@ -1,4 +1,4 @@
--- What a call is to do, by the names of the slots and the event; and what is answered then. Assumes nothing.
+-- What a call is to do, by the names of the slots and the event; and what is answered then.
 use mathlib.Core.Path.{_≡_}
 use mathlib.Core.Bool.{Bool, true, false, cond, _||_}
 use mathlib.Core.List.{List}
@@ -23,7 +23,7 @@ use Rattle.node.specs.declared.task.Task.{Task}
 use Rattle.node.specs.declared.task.Task.the-variants.{Refuse, One, All, Open}
 use Rattle.node.specs.Sound.{latest, mostAccepted}
 use Rattle.node.specs.Step.{broughtBy, activated}
-use Rattle.node.specs.Private.Told.{Fair}
+use Rattle.node.specs.Private.Premises.{InRange}
 use Rattle.node.specs.Private.Range.{advanced, servedOf}
 
 -- ---- what is to be done
@@ -73,13 +73,13 @@ doneBy n s b (Open i t a) = (0, (advanced n t (set (n .contexts) i (activated (n
 
 -- ---- what is told is in range
 
-abbrev pub FairMeaning : Meaning → Type 0
-FairMeaning (W.Opens a) = Unit {0}
-FairMeaning (W.Tells n m) = Fair m
-FairMeaning (W.TellsAll m) = Fair m
+abbrev pub MeaningInRange : Meaning → Type 0
+MeaningInRange (W.Opens a) = Unit {0}
+MeaningInRange (W.Tells n m) = InRange m
+MeaningInRange (W.TellsAll m) = InRange m
 
-abbrev pub FairTask : Task → Type 0
-FairTask (Refuse k) = Unit {0}
-FairTask (One i t h) = Fair h
-FairTask (All t h) = Fair h
-FairTask (Open i t a) = Unit {0}
+abbrev pub TaskInRange : Task → Type 0
+TaskInRange (Refuse k) = Unit {0}
+TaskInRange (One i t h) = InRange h
+TaskInRange (All t h) = InRange h
+TaskInRange (Open i t a) = Unit {0}

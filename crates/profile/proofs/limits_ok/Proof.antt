@@ -1,4 +1,4 @@
--- `profile::limits_ok` meets its contract. Assumes nothing.
+-- `profile::limits_ok` meets its contract.
 use mathlib.Core.Path.{refl}
 use Rattle.profile.specs.Profile.{limitsOk}
 use Rattle.profile.proofs.limits_ok.Statement.{statement}

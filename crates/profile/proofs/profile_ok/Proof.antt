@@ -1,4 +1,4 @@
--- `profile::profile_ok` meets its contract. Assumes nothing.
+-- `profile::profile_ok` meets its contract.
 use borrow.Author.Needs.{needs}
 use Rattle.profile.specs.Profile.{profileOk}
 use Rattle.profile.proofs.profile_ok.Statement.{statement}

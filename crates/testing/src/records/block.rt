@@ -66,7 +66,7 @@ fn container_of(b: &[u8]) -> Container {
 }
 
 fn containers_of(b: &[u8]) -> [Container; 15] {
-    let mut v = [container::single::no_container(); 15];
+    let mut v = [container::one::no_container(); 15];
     let mut i: usize = 0;
     while i < 15 {
         v[i] = container_of(window::part(b, 129 + 28 * i, 157 + 28 * i));

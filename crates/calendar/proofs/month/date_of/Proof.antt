@@ -1,4 +1,4 @@
--- `calendar::month::date_of` meets its contract: what is left of a day in its month is its place there. Assumes nothing.
+-- `calendar::month::date_of` meets its contract: what is left of a day in its month is its place there.
 use mathlib.Core.Path.{_≡_, ap, _∙_}
 use Prim.Native.Nat.{_+_, _*_, _/_}
 use native.Mathlib.Omega.{arith}
@@ -24,7 +24,8 @@ day-in-requires : tie.Need-day-in-requires
 day-in-requires c κs = search needs
 
 -- what the row has at the place is where the month begins
-begins : (c : tie.After-day-in) → c .day-in .result ≡ firstDay (c .before .before .before .before .before .args .day / 1461 * 48 + c .before .before .place-of .result)
+begins : (c : tie.After-day-in) → c .day-in .result ≡ firstDay
+    (c .before .before .before .before .before .args .day / 1461 * 48 + c .before .before .place-of .result)
 begins c = c .day-in .ensures ∙ c .before .before .before .before .years .ensures .begins _ (c .before .before .place-of .ensures .known)
 
 sub-t11 : tie.Need-sub-t11

@@ -1,5 +1,5 @@
 -- `calendar::month::place_of` meets its contract: at each turn the day does not lie before the month that the walk has come to, so
--- where it lies before the next, or the row has no next, it lies in this one. Assumes nothing.
+-- where it lies before the next, or the row has no next, it lies in this one.
 use mathlib.Core.Path.{_≡_, ap}
 use Prim.Native.Nat.{ℕ, _+_, _-_, _*_, _/_, _≤_}
 use native.Mathlib.Omega.{arith}

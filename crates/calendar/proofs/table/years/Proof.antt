@@ -1,4 +1,4 @@
--- `calendar::table::years` meets its contract: each arm's row is the table's, so it is the calendar's. Assumes nothing.
+-- `calendar::table::years` meets its contract: each arm's row is the table's, so it is the calendar's.
 use lib.Dec.{ltb→lt}
 use borrow.Author.Needs.{needs}
 use Rattle.calendar.proofs.Entries.{row-is, Past, last}

@@ -1,4 +1,4 @@
--- `calendar::zone::away_of` meets its contract: its test is the definition's. Assumes nothing.
+-- `calendar::zone::away_of` meets its contract: its test is the definition's.
 use native.Mathlib.Omega.{arith}
 use borrow.Author.Tests.{lt-ltb, le-ltb}
 use borrow.Author.Needs.{needs}

@@ -1,4 +1,4 @@
--- `calendar::zone::sign_of` meets its contract: its test is the definition's. Assumes nothing.
+-- `calendar::zone::sign_of` meets its contract: its test is the definition's.
 use native.Mathlib.Omega.{arith}
 use borrow.Author.Tests.{lt-ltb, le-ltb}
 use Rattle.calendar.proofs.zone.sign_of.Statement.{statement}

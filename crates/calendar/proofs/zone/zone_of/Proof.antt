@@ -1,4 +1,4 @@
--- `calendar::zone::zone_of` meets its contract: its tests are the definition's. Assumes nothing.
+-- `calendar::zone::zone_of` meets its contract: its tests are the definition's.
 use native.Mathlib.Omega.{arith}
 use borrow.Author.Tests.{eq-eqb, ne-eqb}
 use borrow.Author.Needs.{needs}

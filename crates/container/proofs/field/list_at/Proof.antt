@@ -24,10 +24,13 @@ no-list-requires c κs = search needs
 returns : tie.Need-returns
 returns c =
     let a = c .before .before .before .before .before .args in
-    lists-none (c .no-list .ensures) (first-absent (a .tag) containers (a .s .now) (a .at) (part-none (a .s .now) (a .at) (a .tag) (sym (c .before .enum-told .given .1) ∙ c .before .before .before .part-at .ensures)))
+    lists-none (c .no-list .ensures) (first-absent (a .tag) containers (a .s .now) (a .at)
+    (part-none (a .s .now) (a .at) (a .tag) (sym (c .before .enum-told .given .1) ∙ c .before .before .before .part-at .ensures)))
 
 sub-list-of : tie.Need-sub-list-of
-sub-list-of c = let a = c .before .before .before .before .before .args in part-some (a .s .now) (a .at) (a .tag) (sym (c .before .a .given .1) ∙ c .before .before .before .part-at .ensures) .order
+sub-list-of c =
+    let a = c .before .before .before .before .before .args in part-some (a .s .now) (a .at) (a .tag)
+    (sym (c .before .a .given .1) ∙ c .before .before .before .part-at .ensures) .order
 
 part-list-of-start : tie.Need-part-list-of-start
 part-list-of-start c =
@@ -47,7 +50,9 @@ list-of-requires c κs = search needs
 returns-2 : tie.Need-returns-2
 returns-2 c =
     let a = c .before .before .before .before .before .before .before .before .before .args in
-    let p = part-some (a .s .now) (a .at) (a .tag) (sym (c .before .before .before .before .before .a .given .1) ∙ c .before .before .before .before .before .before .before .part-at .ensures) in
+    let p =
+    part-some (a .s .now) (a .at) (a .tag) (sym (c .before .before .before .before .before .a .given .1)
+    ∙ c .before .before .before .before .before .before .before .part-at .ensures) in
     lists-there p (c .before .before .list-of .ensures) (c .if1 .taken)
 
 no-list-requires-2 : tie.Need-no-list-requires-2
@@ -56,7 +61,9 @@ no-list-requires-2 c κs = search needs
 returns-3 : tie.Need-returns-3
 returns-3 c =
     let a = c .before .before .before .before .before .before .before .before .before .before .args in
-    let p = part-some (a .s .now) (a .at) (a .tag) (sym (c .before .before .before .before .before .before .a .given .1) ∙ c .before .before .before .before .before .before .before .before .part-at .ensures) in
+    let p =
+    part-some (a .s .now) (a .at) (a .tag) (sym (c .before .before .before .before .before .before .a .given .1)
+    ∙ c .before .before .before .before .before .before .before .before .part-at .ensures) in
     lists-none (c .no-list2 .ensures) (lists-bad p (c .before .before .before .list-of .ensures) (c .before .if1 .left))
 
 pub list-at-spec : {M : Type 1} → statement M

@@ -31,13 +31,13 @@ array-copy-out-c c =
     let l = long (c .before .before) in
     omega (arith, c .before .loop .inv .most)
 
-turn-requires : tie.Need-turn-requires Inv-loop μ-loop
-turn-requires c κs = search needs
+look-requires : tie.Need-look-requires Inv-loop μ-loop
+look-requires c κs = search needs
 
 returns : tie.Need-returns Inv-loop μ-loop
 returns c =
     let t = c .before .before in
-    held-no (t .before .before .before .loop .inv) _ (t .before .before .loop-test .taken) (t .turn .ensures) (c .if1 .taken)
+    held-no (t .before .before .before .loop .inv) _ (t .before .before .loop-test .taken) (t .look .ensures) (c .if1 .taken)
 
 sub-i : tie.Need-sub-i Inv-loop μ-loop
 sub-i c = search needs
@@ -48,7 +48,7 @@ loop-less c = search needs
 loop-again : tie.Need-loop-again Inv-loop μ-loop
 loop-again c =
     let t = c .before .before in
-    held-next (t .before .before .before .loop .inv) _ (t .before .before .loop-test .taken) (t .turn .ensures) (c .if1 .left)
+    held-next (t .before .before .before .loop .inv) _ (t .before .before .loop-test .taken) (t .look .ensures) (c .if1 .left)
 
 returns-2 : tie.Need-returns-2 Inv-loop μ-loop
 returns-2 c = held-end (c .before .before .before .loop .inv) (c .before .before .loop-test .left)
@@ -63,7 +63,7 @@ held-ok-spec =
     sub-c
     mul-c
     array-copy-out-c
-    turn-requires
+    look-requires
     returns
     sub-i
     loop-less

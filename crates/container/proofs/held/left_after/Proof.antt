@@ -1,4 +1,4 @@
--- `container::held::left_after` meets its contract. The loop's invariant: what is left to spend comes off what is left.
+-- `container::held::left_after` meets its contract. The loop's invariant: what is left to rest_of comes off what is left.
 use mathlib.Core.Path.{_≡_}
 use Prim.Native.Nat.{_-_}
 use native.Mathlib.Omega.{arith}
@@ -32,11 +32,11 @@ mul-c c = search needs
 array-copy-out-c : tie.Need-array-copy-out-c Inv-loop μ-loop
 array-copy-out-c c = search needs
 
-spend-requires : tie.Need-spend-requires Inv-loop μ-loop
-spend-requires c κs = search needs
+rest-of-requires : tie.Need-rest-of-requires Inv-loop μ-loop
+rest-of-requires c κs = search needs
 
-spend-requires-2 : tie.Need-spend-requires-2 Inv-loop μ-loop
-spend-requires-2 c κs = search needs
+rest-of-requires-2 : tie.Need-rest-of-requires-2 Inv-loop μ-loop
+rest-of-requires-2 c κs = search needs
 
 add-i : tie.Need-add-i Inv-loop μ-loop
 add-i c = search needs
@@ -48,7 +48,8 @@ loop-again : tie.Need-loop-again Inv-loop μ-loop
 loop-again c =
     let t = c .before .before .before .before in
     let l = long (t .before .before) in
-    left-next (t .before .loop .inv) _ (t .loop-test .taken) (omega (arith, c .before .before .before .if1 .left)) (c .before .spend .ensures) (c .spend2 .ensures)
+    left-next (t .before .loop .inv) _ (t .loop-test .taken) (omega (arith, c .before .before .before .if1 .left)) (c .before .rest-of .ensures)
+    (c .rest-of2 .ensures)
 
 returns-2 : tie.Need-returns-2 Inv-loop μ-loop
 returns-2 c =
@@ -66,8 +67,8 @@ left-after-spec =
     returns
     mul-c
     array-copy-out-c
-    spend-requires
-    spend-requires-2
+    rest-of-requires
+    rest-of-requires-2
     add-i
     loop-less
     loop-again

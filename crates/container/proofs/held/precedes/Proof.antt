@@ -3,7 +3,7 @@ use mathlib.Core.Path.{ap₂}
 use mathlib.Core.Bool.{Bool, _&&_}
 use lib.Dec.{leb, ltb, eqb}
 use borrow.Author.Needs.{needs}
-use Rattle.container.specs.Private.Turns.{precedes}
+use Rattle.container.specs.Private.Stepwise.{precedes}
 use Rattle.container.proofs.held.precedes.Statement.{statement}
 use Rattle.container.proofs.held.precedes.Tie as tie
 

@@ -1,5 +1,5 @@
 -- `container::list::list_of` meets its contract: a law for each answer. The loop's invariant: what was read so far and what is left
--- are the whole. Assumes nothing.
+-- are the whole.
 use mathlib.Core.Path.{refl}
 use Prim.Native.Nat.{_-_}
 use native.Mathlib.Omega.{arith}

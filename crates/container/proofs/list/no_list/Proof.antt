@@ -1,4 +1,4 @@
--- `container::list::no_list` meets its contract. Assumes nothing.
+-- `container::list::no_list` meets its contract.
 use mathlib.Core.Path.{refl}
 use borrow.Author.Needs.{needs}
 use Rattle.container.specs.List.{noContainers}

@@ -1,5 +1,5 @@
 -- `container::list::put_list` meets its contract. The loop's invariant: the first i containers have their forms, which stand at the front
--- of the array; each is written into the part after them. Assumes nothing.
+-- of the array; each is written into the part after them.
 use mathlib.Core.Path.{_≡_, refl, _∙_}
 use mathlib.Core.Bool.{_&&_}
 use Prim.Native.Nat.{_-_, _≤_}
@@ -29,7 +29,8 @@ returns c =
 returns-2 : tie.Need-returns-2 Inv-loop μ-loop
 returns-2 c =
     let a = c .before .before .before .args in
-    puts-not (leb 1 (a .n) && leb (a .n) 15 && allFormed noContainer (take (a .n) (a .t4))) _ (many (a .n) _ (omega (arith, c .before .if1 .left)) (c .if2 .taken))
+    puts-not (leb 1 (a .n) && leb (a .n) 15 && allFormed noContainer (take (a .n) (a .t4))) _
+    (many (a .n) _ (omega (arith, c .before .if1 .left)) (c .if2 .taken))
 
 no-container-requires : tie.Need-no-container-requires Inv-loop μ-loop
 no-container-requires c κs = search needs
@@ -61,15 +62,39 @@ returns-3 c =
     let l = c .before .before .before .before .before .before .loop in
     let z : length (a .t4) ≡ 15 = search needs in
     puts-not (leb 1 (a .n) && leb (a .n) 15 && allFormed noContainer (take (a .n) (a .t4))) _
-    (right (a .n) _ (omega (arith, c .before .before .before .before .before .before .before .before .before .if1 .left)) (omega (arith, c .before .before .before .before .before .before .before .before .if2 .left))
-    ∙ filling-bad (l .inv .1) _ (omega (arith, c .before .before .before .before .before .loop-test .taken, c .before .before .before .before .before .before .before .before .if2 .left)) (omega (arith, c .before .before .before .before .before .loop-test .taken, c .before .before .before .before .before .before .before .before .if2 .left)) (c .before .before .put-container .ensures) (a .n) (c .before .before .before .before .before .loop-test .taken) (omega (arith, c .before .before .before .before .before .before .before .before .if2 .left)) (c .if3 .taken))
+    (right (a .n) _ (omega (arith, c .before .before .before .before .before .before .before .before .before .if1 .left))
+    (omega (arith, c .before .before .before .before .before .before .before .before .if2 .left))
+    ∙ filling-bad (l .inv .1) _ (omega (
+      arith,
+      c .before .before .before .before .before .loop-test .taken,
+      c .before .before .before .before .before .before .before .before .if2 .left,
+    ))
+    (omega (
+      arith,
+      c .before .before .before .before .before .loop-test .taken,
+      c .before .before .before .before .before .before .before .before .if2 .left,
+    )) (c .before .before .put-container .ensures) (a .n)
+    (c .before .before .before .before .before .loop-test .taken)
+    (omega (arith, c .before .before .before .before .before .before .before .before .if2 .left)) (c .if3 .taken))
 
 add-end : tie.Need-add-end Inv-loop μ-loop
 add-end c =
     let a = c .before .before .before .before .before .before .before .before .before .before .before .args in
     let l = c .before .before .before .before .before .before .loop in
     let z : length (a .t4) ≡ 15 = search needs in
-    omega (arith, filling-room (l .inv .1) _ (omega (arith, c .before .before .before .before .before .loop-test .taken, c .before .before .before .before .before .before .before .before .if2 .left)) (omega (arith, c .before .before .before .before .before .loop-test .taken, c .before .before .before .before .before .before .before .before .if2 .left)) (c .before .before .put-container .ensures) (c .if3 .left))
+    omega (
+      arith,
+      filling-room (l .inv .1) _ (omega (
+        arith,
+        c .before .before .before .before .before .loop-test .taken,
+        c .before .before .before .before .before .before .before .before .if2 .left,
+      ))
+          (omega (
+            arith,
+            c .before .before .before .before .before .loop-test .taken,
+            c .before .before .before .before .before .before .before .before .if2 .left,
+          )) (c .before .before .put-container .ensures) (c .if3 .left),
+    )
 
 add-i : tie.Need-add-i Inv-loop μ-loop
 add-i c = search needs
@@ -81,8 +106,19 @@ loop-again : tie.Need-loop-again Inv-loop μ-loop
 loop-again c =
     let a = c .before .before .before .before .before .before .before .before .before .before .before .args in
     let l = c .before .before .before .before .before .before .loop in
-    let z : length (a .t4) ≡ 15 = search needs in
-    (omega arith, filling-more (l .inv .1) _ (omega (arith, c .before .before .before .before .before .loop-test .taken, c .before .before .before .before .before .before .before .before .if2 .left)) (omega (arith, c .before .before .before .before .before .loop-test .taken, c .before .before .before .before .before .before .before .before .if2 .left)) (c .before .before .put-container .ensures) (c .if3 .left))
+    let z : length (a .t4) ≡ 15 = search needs in (
+      omega arith,
+      filling-more (l .inv .1) _ (omega (
+        arith,
+        c .before .before .before .before .before .loop-test .taken,
+        c .before .before .before .before .before .before .before .before .if2 .left,
+      ))
+          (omega (
+            arith,
+            c .before .before .before .before .before .loop-test .taken,
+            c .before .before .before .before .before .before .before .before .if2 .left,
+          )) (c .before .before .put-container .ensures) (c .if3 .left),
+    )
 
 array-share-prefix-list : tie.Need-array-share-prefix-list Inv-loop μ-loop
 array-share-prefix-list c = omega (arith, c .before .before .loop .inv .1 .short, c .before .before .loop .inv .1 .room)
@@ -110,7 +146,8 @@ returns-4 c =
     let h : a .n ≤ 15 = omega (arith, c .before .before .before .before .before .before .before .before .if2 .left) in
     let f = filling-all (l .inv .1) (a .n) (omega arith) g h (omega arith) in
     puts-is
-    (ready (leb 1 (a .n) && leb (a .n) 15 && allFormed noContainer (take (a .n) (a .t4))) (a .tag) (right (a .n) _ g h ∙ filling-ok (l .inv .1) (a .n) (omega arith)) (f .front) (omega (arith, f .most)))
+    (ready (leb 1 (a .n) && leb (a .n) 15 && allFormed noContainer (take (a .n) (a .t4))) (a .tag)
+    (right (a .n) _ g h ∙ filling-ok (l .inv .1) (a .n) (omega arith)) (f .front) (omega (arith, f .most)))
     (c .before .before .put-tlv .ensures)
 
 pub put-list-spec : {M : Type 1} → statement M

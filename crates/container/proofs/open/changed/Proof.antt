@@ -10,14 +10,23 @@ use Rattle.container.proofs.open.changed.Statement.{statement}
 use Rattle.container.proofs.open.changed.Tie as tie
 
 returns : tie.Need-returns
-returns c = let o = c .before .before .args .o in rw (le-ltb (o .changes) 255 (c .if1 .taken), and-false (ltb (o .count) 15 && blanks (drop (o .count) (o .containers))))
+returns c =
+    let o = c .before .before .args .o in rw (
+      le-ltb (o .changes) 255 (c .if1 .taken),
+      and-false
+          (ltb (o .count) 15 && blanks (drop (o .count) (o .containers))),
+    )
 
 returns-2 : tie.Need-returns-2
 returns-2 c = rw (le-ltb (c .before .before .before .args .o .count) 15 (c .if2 .taken))
 
 returns-3 : tie.Need-returns-3
 returns-3 c =
-    rw (lt-ltb (c .before .before .before .before .before .args .o .count) 15 (c .before .before .if2 .left), sym (c .before .unused-blank .ensures) ∙ not-true _ (c .if3 .taken))
+    rw (
+      lt-ltb (c .before .before .before .before .before .args .o .count) 15 (c .before .before .if2 .left),
+      sym (c .before .unused-blank .ensures)
+          ∙ not-true _ (c .if3 .taken),
+    )
 
 returns-4 : tie.Need-returns-4
 returns-4 c =

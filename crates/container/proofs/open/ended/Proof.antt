@@ -17,7 +17,11 @@ returns c = rw (le-ltb (c .before .before .args .o .count) 15 (c .if1 .taken))
 
 returns-2 : tie.Need-returns-2
 returns-2 c =
-    rw (lt-ltb (c .before .before .before .before .args .o .count) 15 (c .before .before .if1 .left), sym (c .before .unused-blank .ensures) ∙ not-true _ (c .if2 .taken))
+    rw (
+      lt-ltb (c .before .before .before .before .args .o .count) 15 (c .before .before .if1 .left),
+      sym (c .before .unused-blank .ensures)
+          ∙ not-true _ (c .if2 .taken),
+    )
 
 returns-3 : tie.Need-returns-3
 returns-3 c =
@@ -26,7 +30,13 @@ returns-3 c =
     let few = c .before .before .before .if1 .left in
     let unused = sym (c .before .before .unused-blank .ensures) ∙ not-false _ (c .before .if2 .left) in
     let l = placed s in
-    rw (lt-ltb (a .o .count) 15 few, unused, places (a .o) few unused l (a .condition) (a .now) (c .running .ensures), more (a .o) few unused l (a .condition) (a .now))
+    rw (
+      lt-ltb (a .o .count) 15 few,
+      unused,
+      places (a .o) few unused l (a .condition) (a .now) (c .running .ensures),
+      more (a .o) few unused l
+          (a .condition) (a .now),
+    )
 
 pub ended-spec : {M : Type 1} → statement M
 ended-spec =

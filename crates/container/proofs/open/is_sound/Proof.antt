@@ -8,8 +8,8 @@ returns : tie.Need-returns
 returns c =
     let t = c .before .before .before .before in
     let a = c .before .before .before .before .before .before .before .before .before .before .before .args in
-    rules-found (a .volume) (a .changes) (a .zone) (a .clock) (a .o) (t .before .before .before .qos-ok .ensures) (t .before .before .spend .ensures)
-    (t .before .spend2 .ensures) (t .held-ok .ensures)
+    rules-found (a .volume) (a .changes) (a .zone) (a .clock) (a .o) (t .before .before .before .qos-ok .ensures) (t .before .before .rest-of .ensures)
+    (t .before .rest-of2 .ensures) (t .held-ok .ensures)
 
 pub is-sound-spec : {M : Type 1} → statement M
 is-sound-spec = tie.close (tie.spec (λ c κs. search needs) (λ c κs. search needs) (λ c κs. search needs) (λ c κs. search needs) (λ c. search needs) returns)

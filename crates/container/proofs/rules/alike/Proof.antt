@@ -1,5 +1,5 @@
--- `container::rules::alike` meets its contract. Assumes nothing.
-use Rattle.container.proofs.Turns.{alike-true, alike-false}
+-- `container::rules::alike` meets its contract.
+use Rattle.container.proofs.Stepwise.{alike-true, alike-false}
 use Rattle.container.proofs.rules.alike.Statement.{statement}
 use Rattle.container.proofs.rules.alike.Tie as tie
 

@@ -1,4 +1,4 @@
--- `container::rules::changes` meets its contract: the code is the test. Assumes nothing.
+-- `container::rules::changes` meets its contract: the code is the test.
 use mathlib.Core.Path.{ap, _∙_}
 use mathlib.Core.Bool.{Bool, not, Bool·beq}
 use lib.Dec.{eqb}

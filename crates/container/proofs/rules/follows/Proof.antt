@@ -1,9 +1,9 @@
--- `container::rules::follows` meets its contract: the code is the test. Assumes nothing.
+-- `container::rules::follows` meets its contract: the code is the test.
 use mathlib.Core.Path.{ap}
 use mathlib.Core.Bool.{Bool, _&&_}
 use lib.Dec.{ltb}
 use borrow.Author.Needs.{needs}
-use Rattle.container.specs.Private.Turns.{follows}
+use Rattle.container.specs.Private.Stepwise.{follows}
 use Rattle.container.proofs.rules.follows.Statement.{statement}
 use Rattle.container.proofs.rules.follows.Tie as tie
 

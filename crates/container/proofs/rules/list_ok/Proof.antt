@@ -6,7 +6,7 @@ use native.Mathlib.Omega.{arith}
 use lib.ListN.{length}
 use borrow.Author.Tests.{not-true, not-false}
 use borrow.Author.Needs.{needs}
-use Rattle.container.proofs.Turns.{ok-few, ok-many, Turning, turning-none, turning-more, turning-no, turning-end}
+use Rattle.container.proofs.Stepwise.{ok-few, ok-many, Turning, turning-none, turning-more, turning-no, turning-end}
 use Rattle.container.proofs.rules.list_ok.Statement.{statement}
 use Rattle.container.proofs.rules.list_ok.Tie as tie
 
@@ -43,8 +43,8 @@ mul-d c = search needs
 array-copy-out-d : tie.Need-array-copy-out-d Inv-loop μ-loop
 array-copy-out-d c = search needs
 
-turns-requires : tie.Need-turns-requires Inv-loop μ-loop
-turns-requires c κs = search needs
+pair-ok-requires : tie.Need-pair-ok-requires Inv-loop μ-loop
+pair-ok-requires c κs = search needs
 
 returns-3 : tie.Need-returns-3 Inv-loop μ-loop
 returns-3 c =
@@ -52,7 +52,8 @@ returns-3 c =
     let l = c .before .before .before .before .before .loop in
     let z : length (a .t1) ≡ 15 = search needs in
     let h = c .before .before .before .before .before .before .if2 .left in
-    turning-no (a .t1) (a .n) (a .opening) (omega (arith, h)) (omega (arith, h)) (l .inv) _ _ (c .before .before .before .before .loop-test .taken) (sym (c .before .turns .ensures) ∙ not-true _ (c .if3 .taken))
+    turning-no (a .t1) (a .n) (a .opening) (omega (arith, h)) (omega (arith, h)) (l .inv) _ _ (c .before .before .before .before .loop-test .taken)
+    (sym (c .before .pair-ok .ensures) ∙ not-true _ (c .if3 .taken))
 
 add-i : tie.Need-add-i Inv-loop μ-loop
 add-i c = search needs
@@ -65,7 +66,8 @@ loop-again c =
     let a = c .before .before .before .before .before .before .before .before .args in
     let l = c .before .before .before .before .before .loop in
     let z : length (a .t1) ≡ 15 = search needs in
-    turning-more (a .t1) (a .n) (omega (arith, c .before .before .before .before .before .before .if2 .left)) (l .inv) _ _ (c .before .before .before .before .loop-test .taken) (sym (c .before .turns .ensures) ∙ not-false _ (c .if3 .left))
+    turning-more (a .t1) (a .n) (omega (arith, c .before .before .before .before .before .before .if2 .left)) (l .inv) _ _
+    (c .before .before .before .before .loop-test .taken) (sym (c .before .pair-ok .ensures) ∙ not-false _ (c .if3 .left))
 
 mul-last : tie.Need-mul-last Inv-loop μ-loop
 mul-last c = search needs
@@ -82,7 +84,8 @@ returns-4 c =
     let l = c .before .before .before .before .loop in
     let z : length (a .t1) ≡ 15 = search needs in
     let h = c .before .before .before .before .before .if2 .left in
-    turning-end (a .t1) (a .n) (a .opening) (omega (arith, h)) (omega (arith, h)) (l .inv) _ (omega (arith, c .before .before .before .loop-test .left)) (c .before .stands .ensures)
+    turning-end (a .t1) (a .n) (a .opening) (omega (arith, h)) (omega (arith, h)) (l .inv) _ (omega (arith, c .before .before .before .loop-test .left))
+    (c .before .stands .ensures)
 
 pub list-ok-spec : {M : Type 1} → statement M
 list-ok-spec =
@@ -99,7 +102,7 @@ list-ok-spec =
     add-d
     mul-d
     array-copy-out-d
-    turns-requires
+    pair-ok-requires
     returns-3
     add-i
     loop-less

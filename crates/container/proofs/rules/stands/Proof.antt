@@ -1,9 +1,9 @@
--- `container::rules::stands` meets its contract: the code is the test. Assumes nothing.
+-- `container::rules::stands` meets its contract: the code is the test.
 use mathlib.Core.Path.{ap}
 use mathlib.Core.Bool.{Bool, _&&_}
 use lib.Dec.{leb, eqb}
 use borrow.Author.Needs.{needs}
-use Rattle.container.specs.Private.Turns.{stands}
+use Rattle.container.specs.Private.Stepwise.{stands}
 use Rattle.container.proofs.rules.stands.Statement.{statement}
 use Rattle.container.proofs.rules.stands.Tie as tie
 

@@ -1,4 +1,4 @@
--- `container::stamp::put_stamp` meets its contract: the time's octets under the tag. Assumes nothing.
+-- `container::stamp::put_stamp` meets its contract: the time's octets under the tag.
 use mathlib.Core.Path.{_∙_, sym}
 use native.Mathlib.Omega.{arith}
 use borrow.Author.Needs.{needs}
@@ -14,7 +14,8 @@ stamp-octets-requires : tie.Need-stamp-octets-requires
 stamp-octets-requires c κs = search needs
 
 returns : tie.Need-returns
-returns c = puts-not (stampOk (c .before .before .before .before .args .t)) _ (sym (c .before .before .stamp-octets .ensures .within) ∙ not-true _ (c .if1 .taken))
+returns c =
+    puts-not (stampOk (c .before .before .before .before .args .t)) _ (sym (c .before .before .stamp-octets .ensures .within) ∙ not-true _ (c .if1 .taken))
 
 slice-aggregate-put-tlv : tie.Need-slice-aggregate-put-tlv
 slice-aggregate-put-tlv c = search needs
@@ -28,8 +29,11 @@ same-length c = search needs
 returns-2 : tie.Need-returns-2
 returns-2 c =
     let a = c .before .before .before .before .before .before .before .before .before .before .args in
-    let h = sym (c .before .before .before .before .before .before .before .before .stamp-octets .ensures .within) ∙ not-false _ (c .before .before .before .before .before .before .if1 .left) in
-    puts-is (ready (stampOk (a .t)) (a .tag) h (stamped-form (c .before .before .before .before .before .before .before .before .stamp-octets .ensures) h) (omega (arith, length-stamp (a .t)))) (c .before .before .put-tlv .ensures)
+    let h =
+    sym (c .before .before .before .before .before .before .before .before .stamp-octets .ensures .within)
+    ∙ not-false _ (c .before .before .before .before .before .before .if1 .left) in
+    puts-is (ready (stampOk (a .t)) (a .tag) h (stamped-form (c .before .before .before .before .before .before .before .before .stamp-octets .ensures) h)
+    (omega (arith, length-stamp (a .t)))) (c .before .before .put-tlv .ensures)
 
 pub put-stamp-spec : {M : Type 1} → statement M
 put-stamp-spec =

@@ -1,4 +1,4 @@
--- `container::stamp::stamp_at` meets its contract: a law for each answer. Assumes nothing.
+-- `container::stamp::stamp_at` meets its contract: a law for each answer.
 use mathlib.Core.Path.{_∙_, sym}
 use native.Mathlib.Omega.{arith}
 use borrow.Author.Needs.{needs}
@@ -21,10 +21,13 @@ enum-told c = search needs
 returns : tie.Need-returns
 returns c =
     let a = c .before .before .before .before .args in
-    first-absent (a .tag) stamp (a .s .now) (a .at) (part-none (a .s .now) (a .at) (a .tag) (sym (c .enum-told .given .1) ∙ c .before .before .part-at .ensures))
+    first-absent (a .tag) stamp (a .s .now) (a .at) (part-none (a .s .now) (a .at) (a .tag)
+    (sym (c .enum-told .given .1) ∙ c .before .before .part-at .ensures))
 
 sub-stamp-of : tie.Need-sub-stamp-of
-sub-stamp-of c = let a = c .before .before .before .before .before .args in part-some (a .s .now) (a .at) (a .tag) (sym (c .before .a .given .1) ∙ c .before .before .before .part-at .ensures) .order
+sub-stamp-of c =
+    let a = c .before .before .before .before .before .args in part-some (a .s .now) (a .at) (a .tag)
+    (sym (c .before .a .given .1) ∙ c .before .before .before .part-at .ensures) .order
 
 part-stamp-of-start : tie.Need-part-stamp-of-start
 part-stamp-of-start c =
@@ -50,13 +53,17 @@ enum-told-2 c = search needs
 returns-2 : tie.Need-returns-2
 returns-2 c =
     let a = c .before .before .before .before .before .before .before .before .before .args in
-    let p = part-some (a .s .now) (a .at) (a .tag) (sym (c .before .before .before .before .before .a .given .1) ∙ c .before .before .before .before .before .before .before .part-at .ensures) in
+    let p =
+    part-some (a .s .now) (a .at) (a .tag) (sym (c .before .before .before .before .before .a .given .1)
+    ∙ c .before .before .before .before .before .before .before .part-at .ensures) in
     first-bad (a .tag) stamp (a .s .now) (a .at) p (time-none _ (sym (c .enum-told2 .given .1) ∙ c .before .before .stamp-of .ensures))
 
 returns-3 : tie.Need-returns-3
 returns-3 c =
     let a = c .before .before .before .before .before .before .before .before .before .before .args in
-    let p = part-some (a .s .now) (a .at) (a .tag) (sym (c .before .before .before .before .before .before .a .given .1) ∙ c .before .before .before .before .before .before .before .before .part-at .ensures) in
+    let p =
+    part-some (a .s .now) (a .at) (a .tag) (sym (c .before .before .before .before .before .before .a .given .1)
+    ∙ c .before .before .before .before .before .before .before .before .part-at .ensures) in
     first-there (a .tag) stamp (a .s .now) (a .at) p (time-some _ _ (sym (c .before .v .given .1) ∙ c .before .before .before .stamp-of .ensures))
 
 pub stamp-at-spec : {M : Type 1} → statement M

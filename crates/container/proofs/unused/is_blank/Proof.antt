@@ -1,4 +1,4 @@
--- `container::unused::is_blank` meets its contract: the code is the test. Assumes nothing.
+-- `container::unused::is_blank` meets its contract: the code is the test.
 use mathlib.Core.Path.{ap, _∙_}
 use mathlib.Core.Bool.{Bool, _&&_}
 use lib.Dec.{eqb}
@@ -20,7 +20,8 @@ unfolding isBlank
 returns c =
     let a = c .before .before .before .before .before .before .before .before .before .args .c in
     ap (λ (x : Bool). x && eqb (a .uplink) 0 && eqb (a .downlink) 0 && eqb (a .condition) 0 && eqb (a .time .seconds) 0 && eqb (a .time .zone) 0)
-    (c .before .before .before .before .before .same-qos .ensures ∙ ap (λ (q : Qos). sameQos (a .qos) q) (c .before .before .before .before .before .before .no-qos .ensures))
+    (c .before .before .before .before .before .same-qos .ensures
+    ∙ ap (λ (q : Qos). sameQos (a .qos) q) (c .before .before .before .before .before .before .no-qos .ensures))
 
 pub is-blank-spec : {M : Type 1} → statement M
 is-blank-spec = tie.close (tie.spec no-qos-requires same-qos-requires returns)

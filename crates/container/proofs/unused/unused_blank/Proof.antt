@@ -1,4 +1,4 @@
--- `container::unused::unused_blank` meets its contract. The loop's invariant: what is left to look at decides. Assumes nothing.
+-- `container::unused::unused_blank` meets its contract. The loop's invariant: what is left to look at decides.
 use mathlib.Core.Path.{_≡_, refl, sym, _∙_}
 use Prim.Native.Nat.{_-_}
 use native.Mathlib.Omega.{arith}
@@ -6,7 +6,7 @@ use lib.ListN.{length, drop}
 use borrow.Author.Needs.{needs}
 use borrow.Author.Tests.{not-true, not-false}
 use Rattle.container.specs.List.{blanks}
-use Rattle.container.proofs.Turns.{blank-no, blank-more, blank-end}
+use Rattle.container.proofs.Stepwise.{blank-no, blank-more, blank-end}
 use Rattle.container.proofs.unused.unused_blank.Statement.{statement}
 use Rattle.container.proofs.unused.unused_blank.Tie as tie
 
@@ -33,7 +33,8 @@ returns c =
     let a = c .before .before .before .before .before .args in
     let l = c .before .before .before .before .loop in
     let z : length (a .t1) ≡ 15 = search needs in
-    blank-no (a .t1) (l .i) _ (omega (arith, c .before .before .before .loop-test .taken)) (sym (c .before .is-blank .ensures) ∙ not-true _ (c .if1 .taken)) ∙ l .inv
+    blank-no (a .t1) (l .i) _ (omega (arith, c .before .before .before .loop-test .taken)) (sym (c .before .is-blank .ensures) ∙ not-true _ (c .if1 .taken))
+    ∙ l .inv
 
 add-i : tie.Need-add-i Inv-loop μ-loop
 add-i c = search needs
@@ -46,7 +47,8 @@ loop-again c =
     let a = c .before .before .before .before .before .args in
     let l = c .before .before .before .before .loop in
     let z : length (a .t1) ≡ 15 = search needs in
-    blank-more (a .t1) (l .i) _ (omega (arith, c .before .before .before .loop-test .taken)) (sym (c .before .is-blank .ensures) ∙ not-false _ (c .if1 .left)) ∙ l .inv
+    blank-more (a .t1) (l .i) _ (omega (arith, c .before .before .before .loop-test .taken))
+    (sym (c .before .is-blank .ensures) ∙ not-false _ (c .if1 .left)) ∙ l .inv
 
 returns-2 : tie.Need-returns-2 Inv-loop μ-loop
 returns-2 c =

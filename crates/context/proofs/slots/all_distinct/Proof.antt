@@ -57,7 +57,8 @@ returns c =
     let s = t .before .before .before in
     let l = long (s .before) in
     rest-no distinct-asks (s .loop .inv) _ (omega (arith, t .before .before .loop-test .taken)) refl
-    (sym (rest-no (alone-asks _) (t .loop2 .inv) _ (omega (arith, c .before .before .before .loop2-test .taken)) (ap not (c .before .clash .ensures)) (ap not (c .if1 .taken))))
+    (sym (rest-no (alone-asks _) (t .loop2 .inv) _ (omega (arith, c .before .before .before .loop2-test .taken)) (ap not (c .before .clash .ensures))
+    (ap not (c .if1 .taken))))
 
 add-j-2 : tie.Need-add-j-2 Inv-loop2 μ-loop2 Inv-loop μ-loop
 add-j-2 c = search needs
@@ -69,7 +70,8 @@ loop2-again : tie.Need-loop2-again Inv-loop2 μ-loop2 Inv-loop μ-loop
 loop2-again c =
     let t = c .before .before .before .before in
     let l = long (t .before .before .before .before) in
-    rest-next (alone-asks _) (t .loop2 .inv) _ (omega (arith, c .before .before .before .loop2-test .taken)) (ap not (c .before .clash .ensures)) (ap not (c .if1 .left))
+    rest-next (alone-asks _) (t .loop2 .inv) _ (omega (arith, c .before .before .before .loop2-test .taken)) (ap not (c .before .clash .ensures))
+    (ap not (c .if1 .left))
 
 add-i : tie.Need-add-i Inv-loop2 μ-loop2 Inv-loop μ-loop
 add-i c = search needs

@@ -1,4 +1,4 @@
--- `context::slots::bears` meets its contract: the code is the test. Assumes nothing.
+-- `context::slots::bears` meets its contract: the code is the test.
 use borrow.Author.Needs.{needs}
 use Rattle.context.specs.Slots.{isActive, bears}
 use Rattle.context.proofs.slots.bears.Statement.{statement}

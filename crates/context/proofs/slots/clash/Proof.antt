@@ -1,4 +1,4 @@
--- `context::slots::clash` meets its contract: the code is the test. Assumes nothing.
+-- `context::slots::clash` meets its contract: the code is the test.
 use borrow.Author.Needs.{needs}
 use Rattle.context.specs.Slots.{isActive}
 use Rattle.context.specs.Private.Clash.{clash}

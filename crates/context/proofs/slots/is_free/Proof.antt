@@ -1,4 +1,4 @@
--- `context::slots::is_free` meets its contract: the code is the test. Assumes nothing.
+-- `context::slots::is_free` meets its contract: the code is the test.
 use mathlib.Core.Path.{refl}
 use Rattle.context.specs.Slots.{isActive, isFree}
 use Rattle.context.proofs.slots.is_free.Statement.{statement}

@@ -1,4 +1,4 @@
--- `context::slots::same_name` meets its contract: the code is the test. Assumes nothing.
+-- `context::slots::same_name` meets its contract: the code is the test.
 use mathlib.Core.Path.{refl}
 use Rattle.context.specs.Slots.{sameName}
 use Rattle.context.proofs.slots.same_name.Statement.{statement}

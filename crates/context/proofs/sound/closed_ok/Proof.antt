@@ -1,4 +1,4 @@
--- `context::sound::closed_ok` meets its contract: the code is the test. Assumes nothing.
+-- `context::sound::closed_ok` meets its contract: the code is the test.
 use mathlib.Core.Path.{refl}
 use Rattle.context.specs.Sound.{closedOk}
 use Rattle.context.proofs.sound.closed_ok.Statement.{statement}

@@ -1,4 +1,4 @@
--- `context::sound::slot_ok` meets its contract. Assumes nothing.
+-- `context::sound::slot_ok` meets its contract.
 use borrow.Author.Needs.{needs}
 use Rattle.context.proofs.Sounds.{slot-active, slot-free}
 use Rattle.context.proofs.sound.slot_ok.Statement.{statement}

@@ -37,7 +37,8 @@ returns : tie.Need-returns Inv-loop μ-loop
 returns c =
     let s = c .before .before .before .before in
     let l = long (s .before) in
-    rest-no (slots-ask (s .before .args .limits) (s .before .args .zone) (s .before .args .clock) (s .before .args .accepted)) (s .loop .inv) _ (omega arith) (c .before .slot-ok .ensures) (not-true _ (c .if1 .taken))
+    rest-no (slots-ask (s .before .args .limits) (s .before .args .zone) (s .before .args .clock) (s .before .args .accepted)) (s .loop .inv) _ (omega arith)
+    (c .before .slot-ok .ensures) (not-true _ (c .if1 .taken))
 
 add-i : tie.Need-add-i Inv-loop μ-loop
 add-i c = search needs
@@ -49,12 +50,14 @@ loop-again : tie.Need-loop-again Inv-loop μ-loop
 loop-again c =
     let s = c .before .before .before .before in
     let l = long (s .before) in
-    rest-next (slots-ask (s .before .args .limits) (s .before .args .zone) (s .before .args .clock) (s .before .args .accepted)) (s .loop .inv) _ (omega arith) (c .before .slot-ok .ensures) (not-false _ (c .if1 .left))
+    rest-next (slots-ask (s .before .args .limits) (s .before .args .zone) (s .before .args .clock) (s .before .args .accepted)) (s .loop .inv) _
+    (omega arith) (c .before .slot-ok .ensures) (not-false _ (c .if1 .left))
 
 returns-2 : tie.Need-returns-2 Inv-loop μ-loop
 returns-2 c =
     let l = long (c .before .before) in
-    rest-end (slots-ask (c .before .before .args .limits) (c .before .before .args .zone) (c .before .before .args .clock) (c .before .before .args .accepted)) (c .before .loop .inv) (omega arith)
+    rest-end (slots-ask (c .before .before .args .limits) (c .before .before .args .zone) (c .before .before .args .clock)
+    (c .before .before .args .accepted)) (c .before .loop .inv) (omega arith)
 
 pub slots-ok-spec : {M : Type 1} → statement M
 slots-ok-spec =

@@ -21,7 +21,9 @@ is-blank-requires c κs = search needs
 
 returns : tie.Need-returns
 unfolding zeroOk
-returns c = let t = c .before .before .before .before .before .before .before .before in rw (t .is-blank .ensures, t .before .zeros2 .ensures, t .before .before .before .zeros .ensures)
+returns c =
+    let t = c .before .before .before .before .before .before .before .before in rw
+    (t .is-blank .ensures, t .before .zeros2 .ensures, t .before .before .before .zeros .ensures)
 
 pub zero-ok-spec : {M : Type 1} → statement M
 zero-ok-spec =

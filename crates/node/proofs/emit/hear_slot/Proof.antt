@@ -6,8 +6,10 @@ use Rattle.node.proofs.emit.hear_slot.Tie as tie
 
 hear-requires : tie.Need-hear-requires
 hear-requires c κs =
-    let s = c .before .before .before .before in
-    (slot-apt (s .args .p) (s .args .t) (s .args .m) (s .args .c) (c .before .if1 .taken) (s .pre .0), (s .pre .1 .0, rw (← slot-active (s .args .p) (s .args .t) (s .args .m) (s .args .c) (c .before .if1 .taken) .1) (s .pre .1 .1)))
+    let s = c .before .before .before .before in (
+      slot-apt (s .args .p) (s .args .t) (s .args .m) (s .args .c) (c .before .if1 .taken) (s .pre .0),
+      (s .pre .1 .0, rw (← slot-active (s .args .p) (s .args .t) (s .args .m) (s .args .c) (c .before .if1 .taken) .1) (s .pre .1 .1)),
+    )
 
 same-length : tie.Need-same-length
 same-length c = search needs

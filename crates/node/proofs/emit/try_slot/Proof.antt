@@ -12,13 +12,23 @@ returns : tie.Need-returns
 returns c = let a = c .before .before .before .args in tries-full (a .p) (a .t) (a .m) (a .c) (a .out .now) (c .before .slot-size .ensures .is) (c .if1 .taken)
 
 hear-slot-requires : tie.Need-hear-slot-requires
-hear-slot-requires c κs = (c .before .before .before .before .pre .0, (c .before .before .before .before .pre .1, omega (arith, c .before .before .slot-size .ensures .is, c .before .if1 .left)))
+hear-slot-requires c κs = (
+  c .before .before .before .before .pre .0,
+  (
+    c .before .before .before .before .pre .1,
+    omega
+        (arith, c .before .before .slot-size .ensures .is, c .before .if1 .left),
+  ),
+)
 
 same-length : tie.Need-same-length
 same-length c = search needs
 
 returns-2 : tie.Need-returns-2
-returns-2 c = let a = c .before .before .before .before .before .before .before .before .args in tries-done (a .p) (a .t) (a .m) (a .c) (a .out .now) (omega (arith, c .before .before .before .before .before .before .slot-size .ensures .is, c .before .before .before .before .before .if1 .left)) (c .before .before .before .hear-slot .ensures)
+returns-2 c =
+    let a = c .before .before .before .before .before .before .before .before .args in tries-done (a .p) (a .t) (a .m) (a .c) (a .out .now)
+    (omega (arith, c .before .before .before .before .before .before .slot-size .ensures .is, c .before .before .before .before .before .if1 .left))
+    (c .before .before .before .hear-slot .ensures)
 
 pub try-slot-spec : {M : Type 1} → statement M
 try-slot-spec =

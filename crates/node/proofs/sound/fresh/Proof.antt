@@ -1,4 +1,4 @@
--- `node::sound::fresh` meets its contract. Assumes nothing.
+-- `node::sound::fresh` meets its contract.
 use mathlib.Core.Path.{sym, _∙_}
 use Rattle.node.specs.Sound.{freshOf}
 use borrow.Author.Needs.{needs}

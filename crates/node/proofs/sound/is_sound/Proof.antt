@@ -1,4 +1,4 @@
--- `node::sound::is_sound` meets its contract. Assumes nothing.
+-- `node::sound::is_sound` meets its contract.
 use Rattle.node.specs.Sound.{sound}
 use borrow.Author.Needs.{needs}
 use Rattle.node.proofs.sound.is_sound.Statement.{statement}

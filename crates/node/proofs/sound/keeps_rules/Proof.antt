@@ -1,4 +1,4 @@
--- `node::sound::keeps_rules` meets its contract. Assumes nothing.
+-- `node::sound::keeps_rules` meets its contract.
 use borrow.Author.Needs.{needs}
 use Rattle.node.proofs.sound.keeps_rules.Statement.{statement}
 use Rattle.node.proofs.sound.keeps_rules.Tie as tie

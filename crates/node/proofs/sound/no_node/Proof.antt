@@ -1,4 +1,4 @@
--- `node::sound::no_node` meets its contract. Assumes nothing.
+-- `node::sound::no_node` meets its contract.
 use borrow.Author.Needs.{needs}
 use Rattle.node.proofs.sound.no_node.Statement.{statement}
 use Rattle.node.proofs.sound.no_node.Tie as tie

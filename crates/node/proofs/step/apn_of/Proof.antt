@@ -1,4 +1,4 @@
--- `node::step::apn_of` meets its contract. Assumes nothing.
+-- `node::step::apn_of` meets its contract.
 use mathlib.Core.Path.{refl}
 use Rattle.node.proofs.Copied.{copied-apn}
 use borrow.Author.Needs.{needs}

@@ -1,4 +1,4 @@
--- `node::step::imsi_of` meets its contract. Assumes nothing.
+-- `node::step::imsi_of` meets its contract.
 use mathlib.Core.Path.{refl}
 use native.Mathlib.Omega.{arith}
 use Rattle.node.proofs.Copied.{copied-imsi}
@@ -22,7 +22,9 @@ copy-requires : tie.Need-copy-requires
 copy-requires c κs = search needs
 
 returns : tie.Need-returns
-returns c = copied-imsi (c .before .before .before .before .before .args .event .now) _ _ (omega (arith, c .before .before .before .before .before .pre)) refl (c .before .copy .ensures .1)
+returns c =
+    copied-imsi (c .before .before .before .before .before .args .event .now) _ _ (omega (arith, c .before .before .before .before .before .pre)) refl
+    (c .before .copy .ensures .1)
 
 pub imsi-of-spec : {M : Type 1} → statement M
 imsi-of-spec =

@@ -20,7 +20,14 @@ opened-requires c κs = search needs
 
 returns : tie.Need-returns
 unfolding activated
-returns c = rw (c .before .before .before .before .imsi-of .ensures, c .before .before .before .apn-of .ensures, c .opened .ensures, sym (c .before .before .before .before .before .before .before .pre .size))
+returns c =
+    rw (
+      c .before .before .before .before .imsi-of .ensures,
+      c .before .before .before .apn-of .ensures,
+      c .opened .ensures,
+      sym
+          (c .before .before .before .before .before .before .before .pre .size),
+    )
 
 pub opening-spec : {M : Type 1} → statement M
 opening-spec =

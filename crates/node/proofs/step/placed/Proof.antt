@@ -1,4 +1,4 @@
--- `node::step::placed` meets its contract. Assumes nothing.
+-- `node::step::placed` meets its contract.
 use mathlib.Core.Path.{refl, sym}
 use borrow.Author.Tests.{ne-eqb}
 use borrow.Author.Needs.{needs}

@@ -36,7 +36,8 @@ whole c = search (needs, length-of-map)
 abbrev start : tie.After-task-for Inv-loop μ-loop → tie.Start Inv-loop μ-loop
 start c = c .before .before .before .before .before .before .before .before
 
-the-task : (c : tie.After-task-for Inv-loop μ-loop) (k : Task) → c .task-for .result ≡ k → Tasked (start c .args .t1) (start c .args .event .now) (start c .args .out .now) k
+the-task : (c : tie.After-task-for Inv-loop μ-loop) (k : Task) → c .task-for .result ≡ k
+    → Tasked (start c .args .t1) (start c .args .event .now) (start c .args .out .now) k
 the-task c k e =
     let s = start c in
     let w = whole s in
@@ -93,7 +94,9 @@ mul-c-2 : tie.Need-mul-c-2 Inv-loop μ-loop
 mul-c-2 c = let t = the-task (c .before .before .before) _ (c .before .k2 .given .1) in omega (arith, t .fit .0)
 
 element-copy-out-c-2 : tie.Need-element-copy-out-c-2 Inv-loop μ-loop
-element-copy-out-c-2 c = let t = the-task (c .before .before .before) _ (c .before .k2 .given .1) in omega (arith, t .fit .0, whole (c .before .before .before .before .before .before .before .before .before .before .before))
+element-copy-out-c-2 c =
+    let t = the-task (c .before .before .before) _ (c .before .k2 .given .1) in omega
+    (arith, t .fit .0, whole (c .before .before .before .before .before .before .before .before .before .before .before))
 
 try-slot-requires : tie.Need-try-slot-requires Inv-loop μ-loop
 try-slot-requires c κs =
@@ -104,13 +107,18 @@ try-slot-requires c κs =
     )
 
 placed-requires : tie.Need-placed-requires Inv-loop μ-loop
-placed-requires c κs = let t = the-task (c .before .before .before .before .before .before .before .before) _ (c .before .before .before .before .before .before .k2 .given .1) in (t .fit .0, t .fit .1 .few)
+placed-requires c κs =
+    let t = the-task (c .before .before .before .before .before .before .before .before) _ (c .before .before .before .before .before .before .k2 .given .1)
+    in (t .fit .0, t .fit .1 .few)
 
 enum-known-k-3 : tie.Need-enum-known-k-3 Inv-loop μ-loop
 enum-known-k-3 c = search needs
 
 serve-requires : tie.Need-serve-requires Inv-loop μ-loop
-serve-requires c κs = let s = c .before .before .before .before .before .before .before .before .before .before .before .before in let t = the-task (c .before .before .before .before) _ (c .before .before .k3 .given .1) in (ready (s .args .t1) _ (t .fit), (rw (c .before .before .k3 .given .1) at (c .before .before .before .before .task-for .ensures .1), t .fit .few))
+serve-requires c κs =
+    let s = c .before .before .before .before .before .before .before .before .before .before .before .before in let t = the-task
+    (c .before .before .before .before) _ (c .before .before .k3 .given .1) in
+    (ready (s .args .t1) _ (t .fit), (rw (c .before .before .k3 .given .1) at (c .before .before .before .before .task-for .ensures .1), t .fit .few))
 
 enum-known-k-4 : tie.Need-enum-known-k-4 Inv-loop μ-loop
 enum-known-k-4 c = search needs
@@ -122,22 +130,44 @@ placed-requires-2 : tie.Need-placed-requires-2 Inv-loop μ-loop
 placed-requires-2 c κs = let t = the-task (c .before .before .before .before) _ (c .before .before .k4 .given .1) in (t .fit .0, t .fit .1 .0 .few)
 
 returns : tie.Need-returns Inv-loop μ-loop
-returns c = steps-refused (c .before .before .before .before .before .before .before .before .before .before .before .before .args .t1) (c .before .before .before .before .before .before .before .before .before .before .before .before .args .event .now) (c .before .before .before .before .before .before .before .before .before .before .before .before .args .out .now) (the-task (c .before .before .before .before) _ (c .before .before .k .given .1)) (c .refused .ensures .0) (c .refused .ensures .1 .0) (c .refused .ensures .1 .1)
+returns c =
+    steps-refused (c .before .before .before .before .before .before .before .before .before .before .before .before .args .t1)
+    (c .before .before .before .before .before .before .before .before .before .before .before .before .args .event .now)
+    (c .before .before .before .before .before .before .before .before .before .before .before .before .args .out .now)
+    (the-task (c .before .before .before .before) _ (c .before .before .k .given .1)) (c .refused .ensures .0) (c .refused .ensures .1 .0)
+    (c .refused .ensures .1 .1)
 
 same-length : tie.Need-same-length Inv-loop μ-loop
 same-length c = search needs
 
 returns-2 : tie.Need-returns-2 Inv-loop μ-loop
-returns-2 c = steps-one (c .before .before .before .before .before .before .before .before .before .before .before .before .before .before .before .before .before .args .t1) (c .before .before .before .before .before .before .before .before .before .before .before .before .before .before .before .before .before .args .event .now) (c .before .before .before .before .before .before .before .before .before .before .before .before .before .before .before .before .before .args .out .now) _ (whole (c .before .before .before .before .before .before .before .before .before .before .before .before .before .before .before .before .before)) (the-task (c .before .before .before .before .before .before .before .before .before) _ (c .before .before .before .before .before .before .before .k2 .given .1)) (c .before .before .before .try-slot .ensures) (c .placed .ensures)
+returns-2 c =
+    steps-one
+    (c .before .before .before .before .before .before .before .before .before .before .before .before .before .before .before .before .before .args .t1)
+    (c .before .before .before .before .before .before .before .before .before .before .before .before .before .before .before .before .before .args .event
+    .now) (c .before .before .before .before .before .before .before .before .before .before .before .before .before .before .before .before .before .args
+    .out .now) _ (whole
+    (c .before .before .before .before .before .before .before .before .before .before .before .before .before .before .before .before .before))
+    (the-task (c .before .before .before .before .before .before .before .before .before) _
+    (c .before .before .before .before .before .before .before .k2 .given .1)) (c .before .before .before .try-slot .ensures) (c .placed .ensures)
 
 same-length-2 : tie.Need-same-length-2 Inv-loop μ-loop
 same-length-2 c = search needs
 
 returns-3 : tie.Need-returns-3 Inv-loop μ-loop
-returns-3 c = steps-all (c .before .before .before .before .before .before .before .before .before .before .before .before .before .before .before .args .t1) (c .before .before .before .before .before .before .before .before .before .before .before .before .before .before .before .args .event .now) (c .before .before .before .before .before .before .before .before .before .before .before .before .before .before .before .args .out .now) (the-task (c .before .before .before .before .before .before .before) _ (c .before .before .before .before .before .k3 .given .1)) (c .before .before .serve .ensures)
+returns-3 c =
+    steps-all (c .before .before .before .before .before .before .before .before .before .before .before .before .before .before .before .args .t1)
+    (c .before .before .before .before .before .before .before .before .before .before .before .before .before .before .before .args .event .now)
+    (c .before .before .before .before .before .before .before .before .before .before .before .before .before .before .before .args .out .now)
+    (the-task (c .before .before .before .before .before .before .before) _ (c .before .before .before .before .before .k3 .given .1))
+    (c .before .before .serve .ensures)
 
 returns-4 : tie.Need-returns-4 Inv-loop μ-loop
-returns-4 c = steps-open (c .before .before .before .before .before .before .before .before .before .before .before .before .before .args .t1) (c .before .before .before .before .before .before .before .before .before .before .before .before .before .args .event .now) (c .before .before .before .before .before .before .before .before .before .before .before .before .before .args .out .now) (the-task (c .before .before .before .before .before) _ (c .before .before .before .k4 .given .1)) (c .before .opened .ensures) (c .placed2 .ensures)
+returns-4 c =
+    steps-open (c .before .before .before .before .before .before .before .before .before .before .before .before .before .args .t1)
+    (c .before .before .before .before .before .before .before .before .before .before .before .before .before .args .event .now)
+    (c .before .before .before .before .before .before .before .before .before .before .before .before .before .args .out .now)
+    (the-task (c .before .before .before .before .before) _ (c .before .before .before .k4 .given .1)) (c .before .opened .ensures) (c .placed2 .ensures)
 
 pub step-spec : {M : Type 1} → statement M
 step-spec =

@@ -1,4 +1,4 @@
--- `node::task::open` meets its contract. Assumes nothing.
+-- `node::task::open` meets its contract.
 use mathlib.Core.Path.{sym, _∙_}
 use Rattle.node.specs.Private.Task.{openTask}
 use borrow.Author.Needs.{needs}
@@ -29,11 +29,25 @@ enum-told-3 c = search needs
 
 returns-2 : tie.Need-returns-2
 unfolding openTask
-returns-2 c = (rw (sym (c .before .before .before .before .before .before .find .ensures) ∙ c .before .before .before .before .enum-told2 .given .1, sym (c .before .before .before .lowest-free .ensures) ∙ c .before .free .given .1), tt)
+returns-2 c = (
+  rw (
+    sym (c .before .before .before .before .before .before .find .ensures)
+        ∙ c .before .before .before .before .enum-told2 .given .1,
+    sym (c .before .before .before .lowest-free .ensures) ∙ c .before .free .given .1,
+  ),
+  tt,
+)
 
 returns-3 : tie.Need-returns-3
 unfolding openTask
-returns-3 c = (rw (sym (c .before .before .before .before .before .find .ensures) ∙ c .before .before .before .enum-told2 .given .1, sym (c .before .before .lowest-free .ensures) ∙ c .enum-told3 .given .1), tt)
+returns-3 c = (
+  rw (
+    sym (c .before .before .before .before .before .find .ensures)
+        ∙ c .before .before .before .enum-told2 .given .1,
+    sym (c .before .before .lowest-free .ensures) ∙ c .enum-told3 .given .1,
+  ),
+  tt,
+)
 
 pub open-spec : {M : Type 1} → statement M
 open-spec =

@@ -12,11 +12,26 @@ returns c = (rw (lt-ltb latest (c .before .args .t) (c .if1 .taken)), tt)
 
 returns-2 : tie.Need-returns-2
 unfolding timelyTask
-returns-2 c = (rw (le-ltb latest (c .before .before .args .t) (c .before .if1 .left), lt-ltb (c .before .before .args .t) (c .before .before .args .clock) (c .if2 .taken)), tt)
+returns-2 c = (
+  rw (
+    le-ltb latest (c .before .before .args .t) (c .before .if1 .left),
+    lt-ltb (c .before .before .args .t) (c .before .before .args .clock)
+        (c .if2 .taken),
+  ),
+  tt,
+)
 
 returns-3 : tie.Need-returns-3
 unfolding timelyTask
-returns-3 c = (rw (le-ltb latest (c .before .before .before .args .t) (c .before .before .if1 .left), le-ltb (c .before .before .before .args .t) (c .before .before .before .args .clock) (c .before .if2 .left), le-leb mostAccepted (c .before .before .before .args .accepted) (c .if3 .taken)), tt)
+returns-3 c = (
+  rw (
+    le-ltb latest (c .before .before .before .args .t) (c .before .before .if1 .left),
+    le-ltb (c .before .before .before .args .t)
+        (c .before .before .before .args .clock) (c .before .if2 .left),
+    le-leb mostAccepted (c .before .before .before .args .accepted) (c .if3 .taken),
+  ),
+  tt,
+)
 
 task-of-requires : tie.Need-task-of-requires
 task-of-requires c κs = rw (c .meaning-of .ensures) (c .before .before .before .before .pre)

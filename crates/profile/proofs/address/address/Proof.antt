@@ -1,4 +1,4 @@
--- `profile::address::address` meets its contract. Assumes nothing.
+-- `profile::address::address` meets its contract.
 use borrow.Author.Needs.{needs}
 use Rattle.profile.proofs.address.address.Statement.{statement}
 use Rattle.profile.proofs.address.address.Tie as tie

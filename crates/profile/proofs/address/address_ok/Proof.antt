@@ -1,4 +1,4 @@
--- `profile::address::address_ok` meets its contract. Assumes nothing.
+-- `profile::address::address_ok` meets its contract.
 use borrow.Author.Needs.{needs}
 use Rattle.profile.proofs.address.address_ok.Statement.{statement}
 use Rattle.profile.proofs.address.address_ok.Tie as tie

@@ -1,4 +1,4 @@
--- `profile::address::octet_of` meets its contract. Assumes nothing.
+-- `profile::address::octet_of` meets its contract.
 use native.Mathlib.Omega.{arith}
 use Rattle.profile.specs.Address.{octetOf}
 use Prim.Native.Nat.{_-_, _^_}

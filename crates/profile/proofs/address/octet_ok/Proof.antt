@@ -1,4 +1,4 @@
--- `profile::address::octet_ok` meets its contract. Assumes nothing.
+-- `profile::address::octet_ok` meets its contract.
 use Rattle.profile.proofs.Numbers.{octet-test}
 use borrow.Author.Needs.{needs}
 use Rattle.profile.proofs.address.octet_ok.Statement.{statement}

@@ -1,4 +1,4 @@
--- `profile::cut::rest` meets its contract. Assumes nothing.
+-- `profile::cut::rest` meets its contract.
 use Rattle.profile.proofs.Marks.{rest-some, rest-none}
 use borrow.Author.Needs.{needs}
 use Rattle.profile.proofs.cut.rest.Statement.{statement}

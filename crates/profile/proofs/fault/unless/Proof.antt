@@ -1,4 +1,4 @@
--- `profile::fault::unless` meets its contract. Assumes nothing.
+-- `profile::fault::unless` meets its contract.
 use Rattle.profile.specs.Fault.{unless}
 use Rattle.profile.proofs.fault.unless.Statement.{statement}
 use Rattle.profile.proofs.fault.unless.Tie as tie

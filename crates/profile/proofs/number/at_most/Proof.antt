@@ -1,4 +1,4 @@
--- `profile::number::at_most` meets its contract. Assumes nothing.
+-- `profile::number::at_most` meets its contract.
 use Rattle.profile.proofs.Numbers.{most-is, most-over}
 use native.Mathlib.Omega.{arith}
 use Rattle.profile.proofs.number.at_most.Statement.{statement}

@@ -1,4 +1,4 @@
--- `profile::number::number` meets its contract. Assumes nothing.
+-- `profile::number::number` meets its contract.
 use Prim.Native.Nat.{_-_, _^_}
 use lib.ListN.{length}
 use Rattle.profile.proofs.Numbers.{Spelt, spelt-none, spelt-more, spelt-end}
@@ -15,7 +15,7 @@ abbrev μ-loop : tie.MeasureT-loop
 loop-again : tie.Need-loop-again Inv-loop μ-loop
 loop-again c =
     spelt-more _ _ _ _ (c .before .before .before .before .loop .inv) (c .before .before .before .loop-test .taken)
-    (c .before .worth .result) (c .tens .result) (c .before .worth .ensures) (c .tens .ensures)
+    (c .before .digit-value .result) (c .tens .result) (c .before .digit-value .ensures) (c .tens .ensures)
 
 pub number-spec : {M : Type 1} → statement M
 number-spec =

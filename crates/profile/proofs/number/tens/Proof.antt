@@ -1,4 +1,4 @@
--- `profile::number::tens` meets its contract. Assumes nothing.
+-- `profile::number::tens` meets its contract.
 use native.Mathlib.Omega.{arith}
 use Prim.Native.Nat.{_+_, _-_, _*_, _^_}
 use Rattle.profile.proofs.Numbers.{most-is, most-over}

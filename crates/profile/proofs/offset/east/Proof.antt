@@ -1,4 +1,4 @@
--- `profile::offset::east` meets its contract. Assumes nothing.
+-- `profile::offset::east` meets its contract.
 use Rattle.profile.proofs.Numbers.{most-is, most-over}
 use Prim.Native.Nat.{_+_}
 use native.Mathlib.Omega.{arith}

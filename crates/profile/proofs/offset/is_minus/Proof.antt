@@ -1,4 +1,4 @@
--- `profile::offset::is_minus` meets its contract. Assumes nothing.
+-- `profile::offset::is_minus` meets its contract.
 use borrow.Author.Needs.{needs}
 use Rattle.profile.proofs.offset.is_minus.Statement.{statement}
 use Rattle.profile.proofs.offset.is_minus.Tie as tie

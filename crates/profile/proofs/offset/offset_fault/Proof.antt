@@ -1,4 +1,4 @@
--- `profile::offset::offset_fault` meets its contract. Assumes nothing.
+-- `profile::offset::offset_fault` meets its contract.
 use mathlib.Core.Path.{_∙_, sym}
 use Rattle.profile.specs.Offset.{offsetFault}
 use borrow.Author.Needs.{needs}

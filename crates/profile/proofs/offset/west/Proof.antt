@@ -1,4 +1,4 @@
--- `profile::offset::west` meets its contract. Assumes nothing.
+-- `profile::offset::west` meets its contract.
 use borrow.Author.Tests.{le-leb, lt-leb}
 use Rattle.profile.specs.Offset.{west}
 use borrow.Author.Needs.{needs}

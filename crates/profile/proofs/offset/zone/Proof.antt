@@ -1,4 +1,4 @@
--- `profile::offset::zone` meets its contract. Assumes nothing.
+-- `profile::offset::zone` meets its contract.
 use mathlib.Core.Path.{_∙_, sym}
 use Prim.Native.Nat.{_-_, _^_}
 use native.Mathlib.Omega.{arith}

@@ -1,4 +1,4 @@
--- `profile::text::read_profile` meets its contract. Assumes nothing.
+-- `profile::text::read_profile` meets its contract.
 use borrow.Author.Needs.{needs}
 use Rattle.profile.proofs.Readings.{read-good, read-bad}
 use Rattle.profile.proofs.text.read_profile.Statement.{statement}

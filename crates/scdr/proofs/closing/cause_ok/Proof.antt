@@ -1,4 +1,4 @@
--- `scdr::closing::cause_ok` meets its contract. Assumes nothing.
+-- `scdr::closing::cause_ok` meets its contract.
 use borrow.Author.Needs.{needs}
 use Rattle.scdr.specs.Rules.{causeOk}
 use Rattle.scdr.proofs.closing.cause_ok.Statement.{statement}

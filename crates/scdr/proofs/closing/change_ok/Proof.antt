@@ -1,4 +1,4 @@
--- `scdr::closing::change_ok` meets its contract. Assumes nothing.
+-- `scdr::closing::change_ok` meets its contract.
 use mathlib.Core.Path.{refl}
 use Rattle.scdr.specs.Rules.{changeOk}
 use Rattle.scdr.proofs.closing.change_ok.Statement.{statement}

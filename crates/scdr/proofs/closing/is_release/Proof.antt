@@ -1,4 +1,4 @@
--- `scdr::closing::is_release` meets its contract. Assumes nothing.
+-- `scdr::closing::is_release` meets its contract.
 use mathlib.Core.Path.{refl}
 use Rattle.scdr.specs.Rules.{release}
 use Rattle.scdr.proofs.closing.is_release.Statement.{statement}

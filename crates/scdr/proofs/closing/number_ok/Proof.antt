@@ -1,4 +1,4 @@
--- `scdr::closing::number_ok` meets its contract. Assumes nothing.
+-- `scdr::closing::number_ok` meets its contract.
 use mathlib.Core.Path.{sym, _∙_}
 use borrow.Author.Needs.{needs}
 use Rattle.scdr.specs.Rules.{numberOk}

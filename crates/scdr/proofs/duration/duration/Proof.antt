@@ -1,4 +1,4 @@
--- `scdr::duration::duration` meets its contract. Assumes nothing.
+-- `scdr::duration::duration` meets its contract.
 use mathlib.Core.Path.{_≡_, _∙_}
 use native.Mathlib.Omega.{arith}
 use lib.ListN.{length}

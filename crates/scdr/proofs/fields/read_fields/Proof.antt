@@ -1,4 +1,4 @@
--- `scdr::fields::read_fields` meets its contract: sixteen fields one after another. Assumes nothing.
+-- `scdr::fields::read_fields` meets its contract: sixteen fields one after another.
 use mathlib.Core.Path.{refl}
 use native.Mathlib.Omega.{arith}
 use Prim.Native.Nat.{_<_}
@@ -37,8 +37,8 @@ slice-aggregate-octets-at c = search needs
 octets-at-requires : tie.Need-octets-at-requires
 octets-at-requires c κs = search needs
 
-pair-at-requires : tie.Need-pair-at-requires
-pair-at-requires c κs = search needs
+two-octets-at-requires : tie.Need-two-octets-at-requires
+two-octets-at-requires c κs = search needs
 
 address-in-at-requires : tie.Need-address-in-at-requires
 address-in-at-requires c κs = search needs
@@ -97,7 +97,7 @@ returns c =
     (charging .word-at .ensures)
     (ggsn .address-at2 .ensures)
     (apn .octets-at .ensures)
-    (pdptype .pair-at .ensures)
+    (pdptype .two-octets-at .ensures)
     (served .address-in-at .ensures)
     (list .list-at .ensures)
     (opening .stamp-at .ensures)
@@ -120,7 +120,7 @@ read-fields-spec =
     address-at-requires-2
     slice-aggregate-octets-at
     octets-at-requires
-    pair-at-requires
+    two-octets-at-requires
     address-in-at-requires
     list-at-requires
     stamp-at-requires

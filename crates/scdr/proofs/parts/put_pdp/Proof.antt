@@ -22,8 +22,8 @@ slice-aggregate-put-text c = search needs
 put-text-requires : tie.Need-put-text-requires
 put-text-requires c κs = search needs
 
-put-pair-requires : tie.Need-put-pair-requires
-put-pair-requires c κs = search needs
+put-two-octets-requires : tie.Need-put-two-octets-requires
+put-two-octets-requires c κs = search needs
 
 put-address-in-requires : tie.Need-put-address-in-requires
 put-address-in-requires c κs = search needs
@@ -42,7 +42,7 @@ returns c =
     let m = start .pre in
     wrote-then (wrote refl (begun .put-address .ensures))
     (wrote-then (wrote (text-value (tag Apn) (a .t4) (a .apnlen) (omega (arith, m, l)) (omega (arith, m))) (named .put-text .ensures))
-    (wrote-then (wrote refl (typed .put-pair .ensures))
+    (wrote-then (wrote refl (typed .put-two-octets .ensures))
     (wrote-then (wrote refl (c .before .before .put-address-in .ensures)) wrote-none)))
 
 pub put-pdp-spec : {M : Type 1} → statement M
@@ -52,7 +52,7 @@ put-pdp-spec =
     put-address-requires
     slice-aggregate-put-text
     put-text-requires
-    put-pair-requires
+    put-two-octets-requires
     put-address-in-requires
     same-length
     returns)

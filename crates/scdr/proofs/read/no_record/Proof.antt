@@ -1,4 +1,4 @@
--- `scdr::read::no_record` meets its contract. Assumes nothing.
+-- `scdr::read::no_record` meets its contract.
 use mathlib.Core.Path.{refl}
 use borrow.Author.Needs.{needs}
 use Rattle.container.specs.List.{noContainers}

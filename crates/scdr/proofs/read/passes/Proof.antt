@@ -1,4 +1,4 @@
--- `scdr::read::passes` meets its contract. Assumes nothing.
+-- `scdr::read::passes` meets its contract.
 use mathlib.Core.Path.{sym, ap, _∙_}
 use lib.Dec.{eqb}
 use borrow.Author.Needs.{needs}

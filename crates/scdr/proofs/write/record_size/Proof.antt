@@ -1,4 +1,4 @@
--- `scdr::write::record_size` meets its contract: every record has room in 1,024 octets. Assumes nothing.
+-- `scdr::write::record_size` meets its contract: every record has room in 1,024 octets.
 use native.Mathlib.Omega.{arith}
 use lib.Dec.{T}
 use borrow.Author.Needs.{needs}

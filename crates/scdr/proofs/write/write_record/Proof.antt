@@ -1,4 +1,4 @@
--- `scdr::write::write_record` meets its contract: outside the rules, without room, and written. Assumes nothing.
+-- `scdr::write::write_record` meets its contract: outside the rules, without room, and written.
 use mathlib.Core.Path.{_≡_, sym, ap, _∙_}
 use mathlib.Core.Bool.{true}
 use native.Mathlib.Omega.{arith}

@@ -1,0 +1,42 @@
+-- `container::held::look` meets its contract: a place that is used, and one that is not.
+use borrow.Author.Needs.{needs}
+use Rattle.container.specs.Private.Stepwise.{looked}
+use Rattle.container.proofs.held.look.Statement.{statement}
+use Rattle.container.proofs.held.look.Tie as tie
+
+precedes-requires : tie.Need-precedes-requires
+precedes-requires c κs = search needs
+
+rest-of-requires : tie.Need-rest-of-requires
+rest-of-requires c κs = search needs
+
+rest-of-requires-2 : tie.Need-rest-of-requires-2
+rest-of-requires-2 c κs = search needs
+
+returns : tie.Need-returns
+unfolding looked
+returns c =
+    rw (
+      c .before .before .before .before .if1 .taken,
+      c .before .before .before .precedes .ensures,
+      c .before .rest-of2 .ensures,
+      c .before .before .rest-of .ensures,
+    )
+
+is-blank-requires : tie.Need-is-blank-requires
+is-blank-requires c κs = search needs
+
+returns-2 : tie.Need-returns-2
+unfolding looked
+returns-2 c = rw (c .before .if1 .left, c .is-blank .ensures)
+
+pub look-spec : {M : Type 1} → statement M
+look-spec =
+    tie.close
+    (tie.spec
+    precedes-requires
+    rest-of-requires
+    rest-of-requires-2
+    returns
+    is-blank-requires
+    returns-2)

@@ -1,0 +1,149 @@
+-- Every accepted call keeps the node sound and as the types have it, and each record that it writes is within the rules and reads back.
+use mathlib.Core.Path.{_≡_, refl, sym, _∙_}
+use mathlib.Core.Bool.{true, false, not, _||_}
+use mathlib.Core.List.{List, [], _∷_, _++_}
+use Prim.Native.Nat.{ℕ, _+_, _≤_, _<_}
+use native.Mathlib.Omega.{arith}
+use lib.Dec.{leb, ltb}
+use lib.ListN.{length}
+use borrow.Author.Tests.{le-leb, leb-false, ltb-false, not-false as not-false-true}
+use Rattle.event.specs.declared.Name.{Name}
+use Rattle.event.specs.declared.Decoded.the-variants as D
+use Rattle.event.specs.Fields.{timeOf}
+use Rattle.event.specs.Rows.{row, firstFit, rows}
+use Rattle.event.specs.Event.{eventOf, saidBy, decoded}
+use Rattle.event.proofs.Firsts.{passed}
+use Rattle.context.specs.declared.Context.{Context}
+use Rattle.context.specs.Sound.{slotsOk}
+use Rattle.context.specs.Context.{noContext}
+use Rattle.context.proofs.Sounds.{slot-active}
+use Rattle.history.specs.Lists.{All}
+use Rattle.history.specs.Slots.{distinct}
+use Rattle.history.proofs.Slots.{neither, fill-is, filled-all, filled-length, filled-distinct, pairs-length}
+use Rattle.history.proofs.Hearing.{none-bears}
+use Rattle.history.specs.Log.{Said, activates, tells, tellsAll, nothing}
+use Rattle.node.specs.declared.Node.{Node}
+use Rattle.node.specs.declared.Message.{Message}
+use Rattle.node.specs.Sound.{sound, latest, mostAccepted}
+use Rattle.node.specs.Step.{Brought, handling, taken, slots, activated, nodeAfter, recordsOf, output, notActive, isActive, allTaken, saidOf, refusals}
+use Rattle.node.specs.Private.Premises.{Due}
+use Rattle.node.specs.Private.Range.{advanced}
+use Rattle.node.specs.Held.{Octets, HeldContext, Held, Whole}
+use Rattle.node.proofs.Rules.{rules}
+use Rattle.node.proofs.RefusalRows.{tableRows, laterRows, parted, numbered-rows, none-fits}
+use Rattle.node.proofs.Found.{contexts, apart}
+use Rattle.node.proofs.Hearing.{same-exactly, all-settled}
+use Rattle.node.proofs.ContextKept.{Fine}
+use Rattle.node.proofs.Brings.{AllInRange, fair-said, activated-sound, activated-held}
+use Rattle.node.proofs.TableKept.{shapes, Onward, onward-slots, onward-held, onward-distinct, all-stay, all-fine}
+use Rattle.node.proofs.Filled.{slots-later, filled-slots}
+
+-- ---- a call that no row of the table refuses
+
+-- what is known of it
+pub record Accepts (n : Node) (s b : List ℕ) : Type 0 where
+  pub sound : sound n ≡ true
+  pub said : decoded s ≡ D.Said (timeOf s) (eventOf s)
+  pub since : n .clock ≤ timeOf s
+  pub until : timeOf s ≤ latest
+  pub few : n .accepted < mostAccepted
+  pub known : notActive (n .profile) (saidOf s) (slots n) ≡ false
+  pub new : isActive (n .profile) (saidOf s) (slots n) ≡ false
+  pub room : allTaken (saidOf s) (slots n) ≡ false
+  pub fits : length (output n (timeOf s) (saidOf s)) ≤ length b
+
+said-what : (s : List ℕ) → firstFit (rows s) ≡ 0 → decoded s ≡ D.Said (timeOf s) (eventOf s)
+unfolding decoded saidBy
+said-what s z = rw z
+
+module _ (n : Node) (s b : List ℕ) where
+  pub accepts : firstFit (refusals n s b) ≡ 0 → Accepts n s b
+  unfolding laterRows tableRows
+  accepts e =
+      let t = timeOf s in
+      let w = saidOf s in
+      let r₁₁ = row 11 (ltb (length b) (length (output n t w))) ∷ [] in
+      let r₁₀ = row 10 (allTaken w (slots n)) ∷ r₁₁ in
+      let r₉ = row 9 (isActive (n .profile) w (slots n)) ∷ r₁₀ in
+      let r₈ = row 8 (notActive (n .profile) w (slots n)) ∷ r₉ in
+      let r₇ = row 7 (leb mostAccepted (n .accepted)) ∷ r₈ in
+      let r₆ = row 6 (ltb latest t || ltb t (n .clock)) ∷ r₇ in
+      let p₁₃ = passed 13 (not (sound n)) (rows s ++ r₆) (omega arith) (rw (parted n s b) at e) in
+      let q = none-fits (rows s) r₆ (numbered-rows s) (p₁₃ .rest) in
+      let p₆ = passed 6 (ltb latest t || ltb t (n .clock)) r₇ (omega arith) (q .1) in
+      let p₇ = passed 7 (leb mostAccepted (n .accepted)) r₈ (omega arith) (p₆ .rest) in
+      let p₈ = passed 8 (notActive (n .profile) w (slots n)) r₉ (omega arith) (p₇ .rest) in
+      let p₉ = passed 9 (isActive (n .profile) w (slots n)) r₁₀ (omega arith) (p₈ .rest) in
+      let p₁₀ = passed 10 (allTaken w (slots n)) r₁₁ (omega arith) (p₉ .rest) in
+      let p₁₁ = passed 11 (ltb (length b) (length (output n t w))) [] (omega arith) (p₁₀ .rest) in
+      let v = neither (ltb latest t) (ltb t (n .clock)) (p₆ .fails) in
+      record {
+        sound = not-false-true (sound n) (p₁₃ .fails);
+        said = said-what s (q .0);
+        since = ltb-false t (n .clock) (v .1);
+        until = ltb-false latest t (v .0);
+        few = leb-false mostAccepted (n .accepted) (p₇ .fails);
+        known = p₈ .fails;
+        new = p₉ .fails;
+        room = p₁₀ .fails;
+        fits = ltb-false (length b) (length (output n t w)) (p₁₁ .fails);
+      }
+
+-- ---- what it does
+
+module _ (n : Node) (t : ℕ) (ok : sound n ≡ true) (h : Held n) (since : n .clock ≤ t) (until : t ≤ latest) (few : n .accepted < mostAccepted) where
+  abbrev due : Due (n .profile) t
+  due = record { clock = n .clock; accepted = n .accepted; profile = rules n ok .profile; since = since; until = until; few = few }
+
+  -- with this table then
+  whole : (cs : List Context) → slotsOk (n .profile .limits) (n .profile .zone) t (n .accepted + 1) cs ≡ true → distinct contexts cs ≡ true
+      → All HeldContext cs → length cs ≡ length (n .contexts) → Whole (advanced n t cs)
+  unfolding sound
+  whole cs k d a l = record {
+    sound = rw (rules n ok .profile, le-leb t latest until, le-leb (n .accepted + 1) mostAccepted (omega arith), apart cs ∙ d, k);
+    held = record { profile = h .profile; size = l ∙ h .size; contexts = a };
+  }
+
+  onward-whole : (cs : List Context) → Onward (n .profile) t (n .accepted + 1) (n .contexts) cs → Whole (advanced n t cs)
+  onward-whole cs o = whole cs (onward-slots o) (onward-distinct o (sym (apart (n .contexts)) ∙ rules n ok .names)) (onward-held o) (pairs-length o)
+
+  node-kept : (w : Said (Unit {0}) Name Brought Message) → AllInRange w → isActive (n .profile) w (slots n) ≡ false → Whole (nodeAfter n t w)
+  unfolding nodeAfter isActive activated
+  node-kept (activates m b) f new =
+      let p = n .profile in
+      let r = rules n ok in
+      let x = activated p t m (b tt) in
+      let s = all-settled (p .limits) (p .zone) (n .clock) (n .accepted) (n .contexts) (shapes (n .contexts) (h .contexts)) (r .slots) in
+      let g = fill-is taken noContext x (n .contexts) s in
+      let k = activated-sound p t m (b tt) f (r .profile) (n .accepted) in
+      whole _
+      (filled-slots (p .limits) (p .zone) t (n .accepted + 1) g (slot-active (p .limits) (p .zone) t (n .accepted + 1) x refl ∙ k)
+      (slots-later (p .limits) (p .zone) (n .clock) (n .accepted) t (n .accepted + 1) since (omega arith) (n .contexts) (r .slots)))
+      (filled-distinct contexts same-exactly noContext g (none-bears (handling p) taken m (n .contexts) new) (sym (apart (n .contexts)) ∙ r .names))
+      (filled-all taken noContext HeldContext g (activated-held p t m (b tt) f) (h .contexts)) (filled-length taken noContext g)
+  node-kept (tells m x) f new = onward-whole _ (all-stay (n .profile) t due (h .profile) (tells m x) f (n .contexts) (rules n ok .slots) (h .contexts))
+  node-kept (tellsAll x) f new = onward-whole _ (all-stay (n .profile) t due (h .profile) (tellsAll x) f (n .contexts) (rules n ok .slots) (h .contexts))
+  node-kept nothing f new = absurd f
+
+  records-fine : (w : Said (Unit {0}) Name Brought Message) → AllInRange w → All Fine (recordsOf n t w)
+  unfolding recordsOf
+  records-fine (activates m b) f = tt
+  records-fine (tells m x) f = all-fine (n .profile) t due (h .profile) (tells m x) f (n .contexts) (rules n ok .slots) (h .contexts)
+  records-fine (tellsAll x) f = all-fine (n .profile) t due (h .profile) (tellsAll x) f (n .contexts) (rules n ok .slots) (h .contexts)
+  records-fine nothing f = absurd f
+
+-- ---- the theorems
+
+-- An accepted call: no row fits, so the node was sound (13).
+module _ (n : Node) (s b : List ℕ) (h : Held n) (o : Octets s) (e : firstFit (refusals n s b) ≡ 0) where
+  -- the node stays sound, and as the types have it
+  pub sound-kept : Whole (nodeAfter n (timeOf s) (saidOf s))
+  sound-kept =
+      let a = accepts n s b e in
+      node-kept n (timeOf s) (a .sound) h (a .since) (a .until) (a .few) (saidOf s) (fair-said s (eventOf s) o (a .said)) (a .new)
+
+  -- every record that it writes is within the rules and as the types have it, reads back, and does not pass 1,024 octets
+  pub records-good : All Fine (recordsOf n (timeOf s) (saidOf s))
+  records-good =
+      let a = accepts n s b e in
+      records-fine n (timeOf s) (a .sound) h (a .since) (a .until) (a .few) (saidOf s) (fair-said s (eventOf s) o (a .said))
