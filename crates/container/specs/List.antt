@@ -6,9 +6,11 @@ use mathlib.Core.List.{List, [], _∷_, _++_}
 use Prim.Native.Nat.{ℕ, zero, suc, _-_}
 use lib.Dec.{leb, ltb, eqb}
 use lib.ListN.{length, take}
+use Rattle.format.specs.Maybe.{guard}
 use Rattle.format.specs.Format.{Fmt}
 use Rattle.ber.specs.Field.{first, many}
 use Rattle.ber.specs.Read.{Reads}
+use Rattle.ber.specs.Tlv.{tlvEnc}
 use Rattle.calendar.specs.declared.Stamp.{Stamp}
 use Rattle.container.specs.declared.Qos.{Qos}
 use Rattle.container.specs.declared.Container.{Container}
@@ -62,6 +64,10 @@ containers = many containerTag container noContainer 53 1 15
 unfoldable pub allFormed : Container → List Container → Bool
 allFormed b [] = true
 allFormed b (c ∷ cs) = formed b c && allFormed c cs
+
+-- the first n containers of an array under a tag, where they are 1 to 15 and each has a form after the one before it
+abbrev pub listForm : ℕ → ℕ → List Container → Option (List ℕ)
+listForm t n v = guard (leb 1 n && leb n 15 && allFormed noContainer (take n v)) (tlvEnc t (containers .enc (take n v)))
 
 -- ---- a list in an array of 15
 

@@ -3,14 +3,9 @@ use crate::Container;
 use crate::one;
 use ber::tlv;
 ghost use mathlib.Core.Path.{_≡_};
-ghost use mathlib.Core.Bool.{false, _&&_};
-ghost use lib.Dec.{leb};
-ghost use lib.ListN.{take};
-ghost use Rattle.format.specs.Maybe.{guard};
-ghost use Rattle.ber.specs.Tlv.{tlvEnc};
+ghost use mathlib.Core.Bool.{false};
 ghost use Rattle.ber.specs.Write.{Puts};
-ghost use Rattle.container.specs.Container.{noContainer};
-ghost use Rattle.container.specs.List.{allFormed, containers, Listed, noContainers};
+ghost use Rattle.container.specs.List.{containers, listForm, Listed, noContainers};
 
 // What octets are the list of: n containers at the start of v, and blank ones after. None of them (n = 0) where ok is false.
 pub struct ListOf {
@@ -59,7 +54,7 @@ fn no_list() -> ListOf
 // The first n containers of v, one after another under the tag, at a place of out. Not written where n is not 1 to 15, or one of
 // them is not as it must be, or its QoS could not be told.
 pub fn put_list(out: &mut [u8], at: usize, tag: u8, v: [Container; 15], n: usize) -> usize
-    ensures { λ r. ⌜ Puts (guard (leb 1 n && leb n 15 && allFormed noContainer (take n v)) (tlvEnc tag (containers .enc (take n v)))) (now (out .entry)) (now (out .exit)) at r ⌝ }
+    ensures { λ r. ⌜ Puts (listForm tag n v) (now (out .entry)) (now (out .exit)) at r ⌝ }
 {
     if n < 1 {
         return ber::NOWHERE;

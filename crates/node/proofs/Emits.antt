@@ -24,7 +24,7 @@ use Rattle.node.specs.declared.Message.{Message}
 use Rattle.node.specs.Hear.{closing, changeOf, going, goesOn, closedBy, afterClosing, hearWith, hear}
 use Rattle.node.specs.Step.{stood, markedOctets, octetsOf}
 use Rattle.node.specs.Private.Premises.{SoundContext, SoundSlot}
-use Rattle.node.specs.Private.Range.{slotNext, slotOut, Counts, StandsWritten}
+use Rattle.node.specs.Private.Range.{slotNext, slotOut, Counts, Stands}
 
 -- ---- a record after its mark
 
@@ -110,12 +110,12 @@ module _ (p : Profile) (c : Context) (t : ℕ) (m : Message) where
   pub turns-closes : {cause : ℕ} {r : Record} {d : Context} {b b′ : List ℕ} {at next : ℕ} → closing (p .limits) (c .current) t m ≡ some cause
       → r ≡ closedBy p c t m cause
       → d ≡ stood (afterClosing p c t m) → Put (markedOctets r) b b′ at next
-      → StandsWritten (stood (hear p c t m .next)) (octetsOf (hear p c t m .out)) b b′ at d next
+      → Stands (stood (hear p c t m .next)) (octetsOf (hear p c t m .out)) b b′ at d next
   turns-closes e i j q = record { value = rw (hear-closes e) j; written = put-is (ap markedOctets i ∙ sym (octets-closes e)) q }
 
   pub turns-on : {d : Context} {b : List ℕ} {at : ℕ} → closing (p .limits) (c .current) t m ≡ none
       → d ≡ going c (goesOn p (c .current) t m (changeOf (c .current) m)) (c .closed) → at ≤ length b
-      → StandsWritten (stood (hear p c t m .next)) (octetsOf (hear p c t m .out)) b b at d at
+      → Stands (stood (hear p c t m .next)) (octetsOf (hear p c t m .out)) b b at d at
   turns-on {b = b} e j k = record { value = rw (hear-on e) j; written = put-is (sym (octets-on e)) (put-none k) }
     where
       put-none : {b : List ℕ} {at : ℕ} → at ≤ length b → Put [] b b at at
@@ -143,12 +143,12 @@ module _ (p : Profile) (t : ℕ) (m : Message) (c : Context) where
   free-counts e = record { is = rw (slot-free e .1); most = omega arith }
 
   pub slot-turns : {d : Context} {b b′ : List ℕ} {at next : ℕ} → c .active ≡ 1
-      → StandsWritten (stood (hear p c t m .next)) (octetsOf (hear p c t m .out)) b b′ at d next
-      → StandsWritten (slotNext p t m c) (slotOut p t m c) b b′ at d next
+      → Stands (stood (hear p c t m .next)) (octetsOf (hear p c t m .out)) b b′ at d next
+      → Stands (slotNext p t m c) (slotOut p t m c) b b′ at d next
   slot-turns e k = record { value = k .value ∙ sym (slot-active e .0); written = put-is (sym (slot-active e .1)) (k .written) }
 
   pub free-turns : {b : List ℕ} {at : ℕ} → (c .active ≡ 1 → ⊥) → at + length (slotOut p t m c) ≤ length b
-      → StandsWritten (slotNext p t m c) (slotOut p t m c) b b at c at
+      → Stands (slotNext p t m c) (slotOut p t m c) b b at c at
   free-turns {b} {at} e k =
       record {
         value = sym (slot-free e .0);

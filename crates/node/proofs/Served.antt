@@ -26,7 +26,7 @@ use Rattle.node.specs.Step.{Brought, handling, taken, stood, slots, octe
 use Rattle.node.specs.Step.{notActive, isActive, allTaken, outcome}
 use Rattle.node.specs.Held.{Shaped}
 use Rattle.node.specs.Private.Premises.{SoundTable}
-use Rattle.node.specs.Private.Range.{slotNext, slotOut, StandsWritten, advanced, servedOf, Serves}
+use Rattle.node.specs.Private.Range.{slotNext, slotOut, Stands, advanced, servedOf, Serves}
 use Rattle.node.proofs.RefusalRows.{tableRows}
 use Rattle.node.proofs.Rules.{rules}
 use Rattle.node.proofs.Found.{contexts, named, idle}
@@ -66,7 +66,7 @@ module _ (n : Node) (from to t : ℕ) (h : Message) (b : List ℕ) where
   serves-full e l p q r = record { is = rw (lt-leb (length x) (length b) (omega arith)) (λ i. (p i, (q i, (r i, b)))) }
 
   pub serves-done : {b′ : List ℕ} {a at k : ℕ} {cs : List Context} {m : Node} → length x ≤ length b
-      → StandsWritten (across from to (slotNext (n .profile) t h) (n .contexts)) x b b′ 0 cs at
+      → Stands (across from to (slotNext (n .profile) t h) (n .contexts)) x b b′ 0 cs at
       → a ≡ 0 → m ≡ advanced n t cs → k ≡ at → Serves n from to t h b b′ a m k
   unfolding servedOf
   serves-done {b′} {a} {at} {k} {cs} {m} l w p q r =

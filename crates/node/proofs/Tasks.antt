@@ -40,7 +40,7 @@ use Rattle.node.specs.declared.task.Task.the-variants as K
 use Rattle.node.specs.Sound.{sound, latest, mostAccepted}
 use Rattle.node.specs.Step.{Brought, broughtBy, saying, takes, activated, stepOf, Steps}
 use Rattle.node.specs.Held.{Shaped}
-use Rattle.node.specs.Private.Range.{slotNext, slotOut, StandsWritten, advanced, triedOf, Tries, servedOf, Serves}
+use Rattle.node.specs.Private.Range.{slotNext, slotOut, Stands, advanced, triedOf, Tries, servedOf, Serves}
 use Rattle.node.specs.Private.Task.{oneAt, namedTask, openAt, openTask, taskOf, timelyTask, taskFor, doneBy}
 use Rattle.node.proofs.RefusalRows.{tableRows}
 use Rattle.node.proofs.Found.{named-at, none-named, free-at, all-taken}
@@ -103,7 +103,7 @@ module _ (p : Profile) (t : ℕ) (h : Message) (c : Context) (b : List ℕ) wher
   tries-full e l = record { is = rw (lt-leb (length (slotOut p t h c)) (length b) (omega arith)) }
 
   pub tries-done : {b′ : List ℕ} {at : ℕ} {c′ : Context} → length (slotOut p t h c) ≤ length b
-      → StandsWritten (slotNext p t h c) (slotOut p t h c) b b′ 0 c′ at → Tries p t h c b b′ 0 c′ at
+      → Stands (slotNext p t h c) (slotOut p t h c) b b′ 0 c′ at → Tries p t h c b b′ 0 c′ at
   unfolding triedOf
   tries-done {b′} {at} {c′} l w =
       let x = slotOut p t h c in

@@ -17,7 +17,7 @@ ghost use Rattle.scdr.specs.Rules.{within};
 ghost use Rattle.node.specs.Hear.{hear};
 ghost use Rattle.node.specs.Step.{stood, markedOctets, octetsOf};
 ghost use Rattle.node.specs.Private.Premises.{InRange, SoundContext, SoundSlot};
-ghost use Rattle.node.specs.Private.Range.{Counts, StandsWritten, Tries, slotNext, slotOut};
+ghost use Rattle.node.specs.Private.Range.{Counts, Stands, Tries, slotNext, slotOut};
 
 // What stands in a slot, and the place after what was written.
 pub struct SlotAfter {
@@ -56,7 +56,7 @@ fn hear(p: Profile, c: Context, t: u32, m: Message, out: &mut [u8], at: usize) -
     requires { ⌜ SoundContext p t c ⌝ }
     requires { ⌜ InRange m ⌝ }
     requires { ⌜ at + length (octetsOf (hear p c t m .out)) ≤ length (now out) ⌝ }
-    ensures { λ r. ⌜ StandsWritten (stood (hear p c t m .next)) (octetsOf (hear p c t m .out)) (now (out .entry)) (now (out .exit)) at (r .context) (r .at) ⌝ }
+    ensures { λ r. ⌜ Stands (stood (hear p c t m .next)) (octetsOf (hear p c t m .out)) (now (out .entry)) (now (out .exit)) at (r .context) (r .at) ⌝ }
 {
     let l = p.limits;
     let o = c.current;
@@ -91,7 +91,7 @@ pub fn hear_slot(p: Profile, c: Context, t: u32, m: Message, out: &mut [u8], at:
     requires { ⌜ SoundSlot p t c ⌝ }
     requires { ⌜ InRange m ⌝ }
     requires { ⌜ at + length (slotOut p t m c) ≤ length (now out) ⌝ }
-    ensures { λ r. ⌜ StandsWritten (slotNext p t m c) (slotOut p t m c) (now (out .entry)) (now (out .exit)) at (r .context) (r .at) ⌝ }
+    ensures { λ r. ⌜ Stands (slotNext p t m c) (slotOut p t m c) (now (out .entry)) (now (out .exit)) at (r .context) (r .at) ⌝ }
 {
     if c.active == 1 {
         return hear(p, c, t, m, out, at);

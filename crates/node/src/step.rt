@@ -18,14 +18,14 @@ ghost use mathlib.Core.Path.{_≡_};
 ghost use mathlib.Core.Bool.{cond};
 ghost use Prim.Native.Nat.{_≤_, _<_};
 ghost use lib.Dec.{eqb};
-ghost use lib.ListN.{length, set};
+ghost use lib.ListN.{length};
 ghost use Rattle.event.specs.Fields.{imsiOf, apnOf};
 ghost use Rattle.event.specs.Private.Activated.{Activated};
 ghost use Rattle.octets.specs.Filled.{fillTo};
 ghost use Rattle.node.specs.Sound.{mostAccepted};
 ghost use Rattle.node.specs.Step.{Steps, broughtBy, activated};
 ghost use Rattle.node.specs.Private.Premises.{InRange, SoundTable};
-ghost use Rattle.node.specs.Private.Range.{advanced, Serves};
+ghost use Rattle.node.specs.Private.Range.{advanced, placed, Serves};
 
 // The answer, the node, and how many octets were written.
 pub struct Stepped {
@@ -145,7 +145,7 @@ fn opened(p: Profile, t: u32, a: Activation, event: &[u8]) -> Tried
 // The node with what came of one slot: the same one where that is a refusal.
 fn placed(node: Node, i: usize, t: u32, k: Tried) -> Stepped
     requires { ⌜ (i < 16) × (node .accepted < mostAccepted) ⌝ }
-    ensures { λ r. ⌜ (r .answer ≡ k .answer) × ((r .node ≡ cond (eqb (k .answer) 0) (advanced node t (set (node .contexts) i (k .context))) node) × (r .written ≡ cond (eqb (k .answer) 0) (k .written) 0)) ⌝ }
+    ensures { λ r. ⌜ (r .answer ≡ k .answer) × ((r .node ≡ placed node i t (k .answer) (k .context)) × (r .written ≡ cond (eqb (k .answer) 0) (k .written) 0)) ⌝ }
 {
     if k.answer != 0 {
         return refused(node, k.answer);

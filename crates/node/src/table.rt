@@ -8,7 +8,7 @@ ghost use Prim.Native.Nat.{_≤_};
 ghost use lib.ListN.{length};
 ghost use Rattle.node.specs.Private.Premises.{InRange, SoundTable};
 ghost use Rattle.history.specs.Slots.{across, along};
-ghost use Rattle.node.specs.Private.Range.{slotNext, slotOut, StandsWritten};
+ghost use Rattle.node.specs.Private.Range.{slotNext, slotOut, Stands};
 
 // The table after it, and the place after what was written.
 pub struct TableAfter {
@@ -37,7 +37,7 @@ pub fn hear_all(p: Profile, cs: [Context; 16], t: u32, m: Message, out: &mut [u8
     requires { ⌜ SoundTable p t cs ⌝ }
     requires { ⌜ InRange m ⌝ }
     requires { ⌜ length (along 0 16 (slotOut p t m) cs) ≤ length (now out) ⌝ }
-    ensures { λ r. ⌜ StandsWritten (across 0 16 (slotNext p t m) cs) (along 0 16 (slotOut p t m) cs) (now (out .entry)) (now (out .exit)) 0 (r .contexts) (r .at) ⌝ }
+    ensures { λ r. ⌜ Stands (across 0 16 (slotNext p t m) cs) (along 0 16 (slotOut p t m) cs) (now (out .entry)) (now (out .exit)) 0 (r .contexts) (r .at) ⌝ }
 {
     let mut contexts = cs;
     let mut i: usize = 0;

@@ -3,8 +3,8 @@ use mathlib.Core.Path.{_≡_}
 use mathlib.Core.Bool.{cond}
 use mathlib.Core.List.{List, _++_}
 use Prim.Native.Nat.{ℕ, _+_, _≤_}
-use lib.Dec.{leb}
-use lib.ListN.{length, drop}
+use lib.Dec.{leb, eqb}
+use lib.ListN.{length, drop, set}
 use Rattle.ber.specs.Private.Wrote.{Put}
 use Rattle.profile.specs.declared.Profile.{Profile}
 use Rattle.context.specs.declared.Context.{Context}
@@ -28,7 +28,7 @@ pub record Counts (x : List ℕ) (n : ℕ) : Type 0 where
   pub most : n ≤ 1026
 
 -- what stands, and what was written at a place
-pub record StandsWritten {A : Type 0} (want : A) (x b b′ : List ℕ) (at : ℕ) (got : A) (next : ℕ) : Type 0 where
+pub record Stands {A : Type 0} (want : A) (x b b′ : List ℕ) (at : ℕ) (got : A) (next : ℕ) : Type 0 where
   pub value : got ≡ want
   pub written : Put x b b′ at next
 
@@ -44,6 +44,10 @@ pub record Tries (p : Profile) (t : ℕ) (h : Message) (c : Context) (b b′ : L
 -- the node at a time, one event on, with this table
 abbrev pub advanced : Node → ℕ → List Context → Node
 advanced n t cs = record { profile = n .profile; clock = t; accepted = n .accepted + 1; contexts = cs }
+
+-- the same with what came of one slot, or the node as it was where that is a refusal
+abbrev pub placed : Node → ℕ → ℕ → ℕ → Context → Node
+placed n i t answer c = cond (eqb answer 0) (advanced n t (set (n .contexts) i c)) n
 
 -- what is answered where the slots from one place up to another hear h: 11 where there is no room for what they write
 unfoldable pub servedOf : Node → ℕ → ℕ → ℕ → Message → List ℕ → ℕ × (Node × (ℕ × List ℕ))
