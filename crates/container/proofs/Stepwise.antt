@@ -167,12 +167,12 @@ turning-none v n z f h = record { before = omega arith; stood = refl; followed =
 
 module _ (v : List Container) (n : ℕ) (r : n ≤ length v) {z f t i : ℕ} (s : Turning v n z f t i) (d : Container) where
   -- one container more
-  pub turning-more : (e : Container) → i + 1 < n → (stands z t (getD v i d) && follows (getD v i d) (getD v (i + 1) e)) ≡ true
+  pub turning-more : (e : Container) → i + 1 < n → {x : Bool} → x ≡ (stands z t (getD v i d) && follows (getD v i d) (getD v (i + 1) e)) → x ≡ true
       → Turning v n z f (getD v i d .time .seconds) (i + 1)
-  turning-more e h q =
+  turning-more e h p q =
       let a = stands z t (getD v i d) in
       let b = follows (getD v i d) (getD v (i + 1) e) in
-      let w = true-T (a && b) q in
+      let w = true-T (a && b) (sym p ∙ q) in
       record {
         before = h;
         stood = stand-more v n r z t i d (s .before) (T-true a (and-l a b w)) ∙ s .stood;
@@ -200,10 +200,10 @@ refused true b s f l e p q = never s ∙ ap (λ (x : Bool). s && x && l) (q e)
 
 module _ (v : List Container) (n : ℕ) (opening : Stamp) (k : n ≤ 15) (r : n ≤ length v) {t i : ℕ} (s : Turning v n (opening .zone) (opening .seconds) t i)
     (d : Container) where
-  pub turning-no : (e : Container) → i + 1 < n → (stands (opening .zone) t (getD v i d) && follows (getD v i d) (getD v (i + 1) e)) ≡ false
-      → false ≡ (leb n 15 && listOk opening (take n v))
-  turning-no e h q =
-      refused (stands (opening .zone) t (getD v i d)) (follows (getD v i d) (getD v (i + 1) e)) _ _ (eqb (getD v (n - 1) d .condition) 2) q
+  pub turning-no : (e : Container) → i + 1 < n → {x : Bool} → x ≡ (stands (opening .zone) t (getD v i d) && follows (getD v i d) (getD v (i + 1) e))
+      → x ≡ false → false ≡ (leb n 15 && listOk opening (take n v))
+  turning-no e h p q =
+      refused (stands (opening .zone) t (getD v i d)) (follows (getD v i d) (getD v (i + 1) e)) _ _ (eqb (getD v (n - 1) d .condition) 2) (sym p ∙ q)
       (λ a. stand-no v n r (opening .zone) t i d (s .before) a ∙ s .stood)
       (λ b. follow-no v n r i d e h b ∙ s .followed)
       ∙ ok-rules v n opening (n - 1) d (omega (arith, s .before)) k r refl refl

@@ -162,11 +162,7 @@ fn skip_after(skip: u64, x: u8, n: u64) -> u64 {
 
 // The octet that a digit names; 0 past the end.
 fn octet_of(s: &[u8], digit: u8) -> u8 {
-    let at = size(digit % 16);
-    if at < s.len() {
-        return s[at];
-    }
-    0
+    octets::octet(s, size(digit % 16))
 }
 
 fn size(x: u8) -> usize {

@@ -2,17 +2,10 @@
 use calendar::Stamp;
 use container::Container;
 use container::Qos;
+use octets::octet;
 use scdr::Record;
 use std::num::wrapping_add_usize;
 ghost use Prim.Native.Nat.{_<_};
-
-// The octet at a place, 0 past the end.
-fn one(b: &[u8], at: usize) -> u8 {
-    if at < b.len() {
-        return b[at];
-    }
-    0
-}
 
 fn wide(x: u8) -> u64
     ensures { λ r. ⌜ r < 256 ⌝ }
@@ -25,7 +18,7 @@ pub fn number(b: &[u8], at: usize, n: usize) -> u64 {
     let mut v: u64 = 0;
     let mut i: usize = 0;
     while i < n {
-        v = v % 72057594037927936 * 256 + wide(one(b, wrapping_add_usize(at, i)));
+        v = v % 72057594037927936 * 256 + wide(octet(b, wrapping_add_usize(at, i)));
         i += 1;
     }
     v
@@ -52,15 +45,15 @@ fn stamp_of(b: &[u8], at: usize) -> Stamp {
 fn container_of(b: &[u8]) -> Container {
     Container {
         qos: Qos {
-            reliability: one(b, 0),
-            delay: one(b, 1),
-            precedence: one(b, 2),
-            peak: one(b, 3),
-            mean: one(b, 4),
+            reliability: octet(b, 0),
+            delay: octet(b, 1),
+            precedence: octet(b, 2),
+            peak: octet(b, 3),
+            mean: octet(b, 4),
         },
         uplink: number(b, 5, 8),
         downlink: number(b, 13, 8),
-        condition: one(b, 21),
+        condition: octet(b, 21),
         time: stamp_of(b, 22),
     }
 }
@@ -79,14 +72,14 @@ fn containers_of(b: &[u8]) -> [Container; 15] {
 fn fill(b: &[u8], at: usize, dst: &mut [u8]) {
     let mut i: usize = 0;
     while i < dst.len() {
-        dst[i] = one(b, wrapping_add_usize(at, i));
+        dst[i] = octet(b, wrapping_add_usize(at, i));
         i += 1;
     }
 }
 
 // Are the two flags 0 or 1?
 pub fn flags_ok(b: &[u8]) -> bool {
-    (one(b, 0) < 2) & (one(b, 97) < 2)
+    (octet(b, 0) < 2) & (octet(b, 97) < 2)
 }
 
 pub fn record_of(b: &[u8]) -> Record {
@@ -99,22 +92,22 @@ pub fn record_of(b: &[u8]) -> Record {
     let containers = containers_of(b);
     let opening = stamp_of(b, 91);
     Record {
-        network: one(b, 0) != 0,
+        network: octet(b, 0) != 0,
         imsi,
         sgsn: four(b, 9),
         charging: four(b, 13),
         ggsn: four(b, 17),
         apn,
-        apnlen: one(b, 21) as usize,
+        apnlen: octet(b, 21) as usize,
         pdptype: (two(b, 85) % 65536) as u16,
         address: four(b, 87),
         containers,
-        count: one(b, 128) as usize,
+        count: octet(b, 128) as usize,
         opening,
-        change: one(b, 97) != 0,
-        cause: one(b, 98),
+        change: octet(b, 97) != 0,
+        cause: octet(b, 98),
         number: number(b, 99, 8),
         nodeid,
-        nodelen: one(b, 107) as usize,
+        nodelen: octet(b, 107) as usize,
     }
 }

@@ -53,7 +53,7 @@ returns-3 c =
     let z : length (a .t1) ≡ 15 = search needs in
     let h = c .before .before .before .before .before .before .if2 .left in
     turning-no (a .t1) (a .n) (a .opening) (omega (arith, h)) (omega (arith, h)) (l .inv) _ _ (c .before .before .before .before .loop-test .taken)
-    (sym (c .before .pair-ok .ensures) ∙ not-true _ (c .if3 .taken))
+    (c .before .pair-ok .ensures) (not-true _ (c .if3 .taken))
 
 add-i : tie.Need-add-i Inv-loop μ-loop
 add-i c = search needs
@@ -67,7 +67,7 @@ loop-again c =
     let l = c .before .before .before .before .before .loop in
     let z : length (a .t1) ≡ 15 = search needs in
     turning-more (a .t1) (a .n) (omega (arith, c .before .before .before .before .before .before .if2 .left)) (l .inv) _ _
-    (c .before .before .before .before .loop-test .taken) (sym (c .before .pair-ok .ensures) ∙ not-false _ (c .if3 .left))
+    (c .before .before .before .before .loop-test .taken) (c .before .pair-ok .ensures) (not-false _ (c .if3 .left))
 
 mul-last : tie.Need-mul-last Inv-loop μ-loop
 mul-last c = search needs

@@ -19,8 +19,8 @@ loop-holds c = (omega arith, refl)
 wrapping-add-usize-requires : tie.Need-wrapping-add-usize-requires Inv-loop μ-loop
 wrapping-add-usize-requires c κs = search needs
 
-one-requires : tie.Need-one-requires Inv-loop μ-loop
-one-requires c κs = search needs
+octet-requires : tie.Need-octet-requires Inv-loop μ-loop
+octet-requires c κs = search needs
 
 slice-write-dst : tie.Need-slice-write-dst Inv-loop μ-loop
 slice-write-dst c = search needs
@@ -48,7 +48,7 @@ fill-spec =
     μ-loop
     loop-holds
     wrapping-add-usize-requires
-    one-requires
+    octet-requires
     slice-write-dst
     add-i
     loop-less

@@ -19,8 +19,8 @@ mul-v c = search needs
 wrapping-add-usize-requires : tie.Need-wrapping-add-usize-requires Inv-loop μ-loop
 wrapping-add-usize-requires c κs = search needs
 
-one-requires : tie.Need-one-requires Inv-loop μ-loop
-one-requires c κs = search needs
+octet-requires : tie.Need-octet-requires Inv-loop μ-loop
+octet-requires c κs = search needs
 
 wide-requires : tie.Need-wide-requires Inv-loop μ-loop
 wide-requires c κs = search needs
@@ -49,7 +49,7 @@ number-spec =
     loop-holds
     mul-v
     wrapping-add-usize-requires
-    one-requires
+    octet-requires
     wide-requires
     add-v
     add-i
