@@ -1,5 +1,4 @@
 -- Demand 3, for every node that handles a kind as its histories say.
---
 use Prim.Native.Nat.{ℕ}
 use mathlib.Core.Path.{_≡_, refl, sym, _∙_}
 use mathlib.Core.Bool.{Bool}

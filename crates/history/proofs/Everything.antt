@@ -1,7 +1,6 @@
 -- Demand 3 read over a whole run: under a name, the containers written and then those stored are the finished stretches of all
 -- its histories, once each, in order; with what runs they make up all that was reported.
 -- `entries` is what a finished stretch becomes in a record: one container, or nothing where a kind does not list it.
---
 use Prim.Native.Nat.{ℕ, _+_}
 use mathlib.Core.Path.{_≡_, refl, sym, ap, _∙_}
 use mathlib.Core.Bool.{Bool, true, false, cond}

@@ -1,5 +1,4 @@
 -- What holds of every history in a log: nothing is heard after the release, and time does not go back.
---
 use Prim.Native.Nat.{ℕ, _≤_}
 use mathlib.Core.Path.{_≡_, refl}
 use mathlib.Core.Bool.{Bool, true, false, cond}

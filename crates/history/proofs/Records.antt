@@ -1,5 +1,4 @@
 -- Laws of one history, for every kind of subject: its stretches, read through its records, are charged once each.
---
 use Prim.Native.Nat.{ℕ, zero, suc, _+_}
 use mathlib.Core.Path.{_≡_, refl, sym, ap, _∙_}
 use mathlib.Core.Logic.{_↔_}

@@ -1,5 +1,4 @@
 -- A table of slots seen under one name: what it holds and writes after an event is what the subjects of that name do.
---
 use Prim.Native.Nat.{ℕ, suc}
 use mathlib.Core.Path.{_≡_, refl, sym, ap, _∙_}
 use mathlib.Core.Logic.{_↔_}

@@ -1,6 +1,5 @@
 -- Over any accepted events, a table of a sound kind holds under a name what the histories of that name leave, and has written
 -- what they make.
---
 use Prim.Native.Nat.{ℕ, _+_}
 use mathlib.Core.Path.{_≡_, refl, sym, _∙_}
 use mathlib.Core.Bool.{Bool, true, false, not, cond, false≢true}

@@ -1,5 +1,4 @@
 -- Demand 3: every octet once.
---
 use Prim.Native.Nat.{ℕ, zero, suc, _+_}
 use mathlib.Core.Path.{_≡_}
 use mathlib.Core.Logic.{_↔_}

@@ -1,7 +1,6 @@
 -- A history: how it started, and then what was heard, each thing at its time, in order. `start 5 s ▸ 7 ∶ a ▸ 9 ∶ b` started at
 -- 5 with s in force, heard a at 7 and then b at 9. The history of an activation is one; the past of its open record, from the
 -- opening on, is one again, and so is a stretch. S is what is in force for the subject, E what it hears.
---
 use Prim.Native.Nat.{ℕ, _+_, _≤_}
 use mathlib.Core.List.{List, [], _∷_, _++_}
 use mathlib.Core.Option.{Option}

@@ -1,5 +1,4 @@
 -- Short words for lists and for what may be missing.
---
 use Prim.Native.Nat.{ℕ, suc, _+_, _≤_}
 use mathlib.Core.Bool.{Bool, true, false}
 use mathlib.Core.List.{List, [], _∷_, _++_}

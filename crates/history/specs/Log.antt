@@ -1,5 +1,4 @@
 -- The histories of a name in a log: the list of the accepted events.
---
 use Prim.Native.Nat.{ℕ, _+_}
 use mathlib.Core.Bool.{Bool, cond}
 use mathlib.Core.List.{List, [], _∷_, _++_, map}

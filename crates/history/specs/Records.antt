@@ -1,5 +1,4 @@
 -- How a history falls into stretches by its cuts, and into records by its closings: said once, for every kind of subject.
---
 use Prim.Native.Nat.{ℕ, zero, suc}
 use mathlib.Core.Bool.{Bool, true, false}
 use mathlib.Core.List.{List}

@@ -1,6 +1,5 @@
 -- A node's table of slots for one kind of subject, and what accepted events do to it: a named event is heard by the subject of
 -- that name, some events by all of them in slot order, an activation fills the lowest free slot, a release frees its slot.
---
 use Prim.Native.Nat.{ℕ}
 use mathlib.Core.Bool.{Bool, true, false, cond, _||_}
 use mathlib.Core.List.{List, [], _∷_, _++_}

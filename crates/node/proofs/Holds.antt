@@ -1,5 +1,4 @@
 -- Every node that the code can hold is as specs/Held.antt says, and so are the octets of every slice: what their types say of them.
---
 use mathlib.Core.List.{List, [], _∷_, map}
 use Prim.Native.Nat.{ℕ, zero, suc, _<_}
 use native.Mathlib.Omega.{arith}

@@ -1,5 +1,4 @@
 -- What the types say of every node that the code can hold: how many octets and places, how wide the numbers; and of an event's octets.
---
 use mathlib.Core.Path.{_≡_}
 use mathlib.Core.Bool.{true}
 use mathlib.Core.List.{List}

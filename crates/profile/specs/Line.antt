@@ -1,5 +1,4 @@
 -- The line at the front of a text: a name, one space, a value and a line feed. What is wrong with it is what comes first here.
---
 use mathlib.Core.Bool.{Bool, not, _&&_, _||_}
 use mathlib.Core.List.{List}
 use Prim.Native.Nat.{ℕ, zero, suc}

@@ -1,7 +1,6 @@
--- `host::charging_step` meets its contract: a walk of its MIR, by hand (written by gen/walk.py). The borrow of the node is opened, the node
+-- `host::charging_step` meets its contract: a walk of its MIR, by hand. The borrow of the node is opened, the node
 -- is read whole into a local, `step` is called, the node within what it returned is stored whole, and the borrow is closed at that node.
 -- All that the proof knows of `step` is that it meets its contract. Nothing here depends on the node's fields: only the structs' laws are cited.
---
 use mathlib.Core.Path.{_≡_, refl, ap}
 use mathlib.Core.Bool.{Bool, true}
 use Prim.Native.Nat.{ℕ, _<_, _^_}
