@@ -450,43 +450,43 @@ static int profile_ok(const struct charging_profile *p) {
 /* All octets that the open record has counted, or the limit where they reach it. */
 static uint64_t counted(const struct charging_context *c, uint64_t limit) {
     uint64_t left = limit;
-    for (size_t i = 0; i < c->count; i++) {
-        const struct charging_container *x = &c->containers[i];
+    for (size_t i = 0; i < c->current.count; i++) {
+        const struct charging_container *x = &c->current.containers[i];
         if (x->uplink >= left) return limit;
         left -= x->uplink;
         if (x->downlink >= left) return limit;
         left -= x->downlink;
     }
-    if (c->uplink >= left) return limit;
-    left -= c->uplink;
-    if (c->downlink >= left) return limit;
-    return limit - (left - c->downlink);
+    if (c->current.uplink >= left) return limit;
+    left -= c->current.uplink;
+    if (c->current.downlink >= left) return limit;
+    return limit - (left - c->current.downlink);
 }
 
 static int active_ok(const struct charging_node *n, const struct charging_context *c) {
     const struct charging_profile *p = &n->profile;
-    if (c->flags > 3 || !imsi_size(c->imsi) || !apn_ok(c->apn, c->apnlen) || !qos_ok(&c->qos)) return 0;
-    if (c->closed >= n->accepted || c->count != c->changes || c->changes >= p->limits.changes || c->opening.zone != p->zone) return 0;
-    uint32_t from = c->opening.seconds;
-    for (size_t i = 0; i < c->count; i++) {
-        const struct charging_container *x = &c->containers[i];
-        const struct charging_qos *after = i + 1 < c->count ? &c->containers[i + 1].qos : &c->qos;
+    if (c->flags > 3 || !imsi_size(c->imsi) || !apn_ok(c->apn, c->apnlen) || !qos_ok(&c->current.qos)) return 0;
+    if (c->closed >= n->accepted || c->current.count != c->current.changes || c->current.changes >= p->limits.changes || c->current.opening.zone != p->zone) return 0;
+    uint32_t from = c->current.opening.seconds;
+    for (size_t i = 0; i < c->current.count; i++) {
+        const struct charging_container *x = &c->current.containers[i];
+        const struct charging_qos *after = i + 1 < c->current.count ? &c->current.containers[i + 1].qos : &c->current.qos;
         if (!container_ok(x) || x->condition > 1 || x->time.zone != p->zone || x->time.seconds < from || !changes_right(x, after)) return 0;
         from = x->time.seconds;
     }
     if (from > n->clock) return 0;
-    for (size_t i = c->count; i < CHARGING_CONTAINERS; i++)
-        if (!blank(&c->containers[i])) return 0;
+    for (size_t i = c->current.count; i < CHARGING_CONTAINERS; i++)
+        if (!blank(&c->current.containers[i])) return 0;
     return counted(c, p->limits.volume) < p->limits.volume;
 }
 
 static int free_ok(const struct charging_context *c) {
     if (c->active || c->flags || c->name.id || c->name.ggsn || !zeros(c->imsi, 8) || !zeros(c->apn, 63) || c->apnlen || c->pdptype
-        || c->address || c->qos.reliability || c->qos.delay || c->qos.precedence || c->qos.peak || c->qos.mean || c->uplink || c->downlink
-        || c->opening.seconds || c->opening.zone || c->changes || c->count || c->closed)
+        || c->address || c->current.qos.reliability || c->current.qos.delay || c->current.qos.precedence || c->current.qos.peak || c->current.qos.mean || c->current.uplink || c->current.downlink
+        || c->current.opening.seconds || c->current.opening.zone || c->current.changes || c->current.count || c->closed)
         return 0;
     for (size_t i = 0; i < CHARGING_CONTAINERS; i++)
-        if (!blank(&c->containers[i])) return 0;
+        if (!blank(&c->current.containers[i])) return 0;
     return 1;
 }
 
@@ -541,21 +541,21 @@ static int closing(const struct charging_profile *p, const struct charging_conte
         return all >= p->limits.volume ? 16 : -1;
     }
     case 3:
-        if (memcmp(&c->qos, e + 15, 5) == 0) return -1;
-        return c->changes + 1 >= p->limits.changes ? 19 : -1;
+        if (memcmp(&c->current.qos, e + 15, 5) == 0) return -1;
+        return c->current.changes + 1 >= p->limits.changes ? 19 : -1;
     case 4:
-        return c->changes + 1 >= p->limits.changes ? 19 : -1;
+        return c->current.changes + 1 >= p->limits.changes ? 19 : -1;
     case 5:
         return e[15];
     case 6:
-        return t - c->opening.seconds >= p->limits.seconds ? 17 : -1;
+        return t - c->current.opening.seconds >= p->limits.seconds ? 17 : -1;
     default:
         return 20;
     }
 }
 
 static struct charging_container ended(const struct charging_profile *p, const struct charging_context *c, uint32_t t, uint8_t condition) {
-    struct charging_container x = {c->qos, c->uplink, c->downlink, condition, {t, p->zone}};
+    struct charging_container x = {c->current.qos, c->current.uplink, c->current.downlink, condition, {t, p->zone}};
     return x;
 }
 
@@ -571,15 +571,15 @@ static void record_of(const struct charging_profile *p, const struct charging_co
     r->apnlen = c->apnlen;
     r->pdptype = c->pdptype;
     r->address = c->address;
-    memcpy(r->containers, c->containers, c->count * sizeof r->containers[0]);
-    struct charging_container *x = &r->containers[c->count];
+    memcpy(r->containers, c->current.containers, c->current.count * sizeof r->containers[0]);
+    struct charging_container *x = &r->containers[c->current.count];
     *x = ended(p, c, t, 2);
     if (e[2] == 2) {
         x->uplink += four(e + 15);
         x->downlink += four(e + 19);
     }
-    r->count = c->count + 1;
-    r->opening = c->opening;
+    r->count = c->current.count + 1;
+    r->opening = c->current.opening;
     r->change = (c->flags & 2) && c->closed == 0;
     r->cause = (uint8_t)cause;
     r->number = e[2] == 5 && c->closed == 0 ? 0 : c->closed + 1;
@@ -593,25 +593,25 @@ static void next_record(const struct charging_profile *p, struct charging_contex
         memset(c, 0, sizeof *c);
         return;
     }
-    if (e[2] == 3) memcpy(&c->qos, e + 15, 5);
-    c->uplink = c->downlink = 0;
-    c->opening = (struct charging_stamp){t, p->zone};
-    c->changes = 0;
-    memset(c->containers, 0, sizeof c->containers);
-    c->count = 0;
+    if (e[2] == 3) memcpy(&c->current.qos, e + 15, 5);
+    c->current.uplink = c->current.downlink = 0;
+    c->current.opening = (struct charging_stamp){t, p->zone};
+    c->current.changes = 0;
+    memset(c->current.containers, 0, sizeof c->current.containers);
+    c->current.count = 0;
     c->closed++;
 }
 
 /* What an event that closes nothing does to a context. */
 static void go_on(const struct charging_profile *p, struct charging_context *c, uint32_t t, const uint8_t *e) {
     if (e[2] == 2) {
-        c->uplink += four(e + 15);
-        c->downlink += four(e + 19);
-    } else if (e[2] == 4 || (e[2] == 3 && memcmp(&c->qos, e + 15, 5) != 0)) {
-        c->containers[c->count++] = ended(p, c, t, e[2] == 4);
-        c->changes++;
-        c->uplink = c->downlink = 0;
-        if (e[2] == 3) memcpy(&c->qos, e + 15, 5);
+        c->current.uplink += four(e + 15);
+        c->current.downlink += four(e + 19);
+    } else if (e[2] == 4 || (e[2] == 3 && memcmp(&c->current.qos, e + 15, 5) != 0)) {
+        c->current.containers[c->current.count++] = ended(p, c, t, e[2] == 4);
+        c->current.changes++;
+        c->current.uplink = c->current.downlink = 0;
+        if (e[2] == 3) memcpy(&c->current.qos, e + 15, 5);
     }
 }
 
@@ -670,8 +670,8 @@ static struct charging_answer activate(struct charging_node *n, uint32_t t, cons
     memcpy(c->apn, e + 36, c->apnlen);
     c->pdptype = (uint16_t)(e[24] << 8 | e[25]);
     c->address = four(e + 26);
-    memcpy(&c->qos, e + 30, 5);
-    c->opening = (struct charging_stamp){t, n->profile.zone};
+    memcpy(&c->current.qos, e + 30, 5);
+    c->current.opening = (struct charging_stamp){t, n->profile.zone};
     n->clock = t;
     n->accepted++;
     return refused(0);
