@@ -3,9 +3,9 @@ use mathlib.Core.Path.{_≡_, sym, _∙_}
 use mathlib.Core.Option.{Option}
 use mathlib.Core.List.{List}
 use Prim.Native.Nat.{ℕ}
-use Rattle.ber.specs.Read.{Reads}
+use Rattle.ber.specs.Read.{Reads, Lies}
 use Rattle.ber.specs.Write.{Puts, Holds}
-use Rattle.ber.specs.Text.{Copies, Raw}
+use Rattle.ber.specs.Text.{Copies}
 
 -- what was found, and the place after it
 pub reads-fixes : {A : Type 0} {blank : A} {p : List ℕ → Option (A × List ℕ)} {s : List ℕ} {at : ℕ} {v w : A} {m n : ℕ}
@@ -25,6 +25,6 @@ pub copies-fixes : {p : List ℕ → Option (List ℕ × List ℕ)} {s : List �
     → Copies p s at b c k m → Copies p s at b d l n → _≡_ {A = List ℕ × ℕ × ℕ} (c, k, m) (d, l, n)
 copies-fixes a b = a .is ∙ sym (b .is)
 
--- where the contents begin and end, and the place after them
-pub raw-fixes : {k : ℕ} {s : List ℕ} {at t a b e f m n : ℕ} → Raw k s at t a e m → Raw k s at t b f n → _≡_ {A = ℕ × ℕ × ℕ} (a, e, m) (b, f, n)
-raw-fixes a b = a .is ∙ sym (b .is)
+-- where the contents begin, and the place after them
+pub lies-fixes : {s : List ℕ} {at t a b m n : ℕ} → Lies s at t a m → Lies s at t b n → _≡_ {A = ℕ × ℕ} (a, m) (b, n)
+lies-fixes a b = a .is ∙ sym (b .is)
