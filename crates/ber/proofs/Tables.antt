@@ -1,19 +1,21 @@
 -- The laws of a table of fields, by recursion over its rows: of its layout, of rows that are read one after another, of rows that are written so.
 use mathlib.Core.Path.{_≡_, refl, sym, ap, subst, _∙_}
-use mathlib.Core.Bool.{Bool, true, false, not, _||_}
+use mathlib.Core.Bool.{Bool, true, false, not, _&&_, _||_}
 use mathlib.Core.Option.{Option, none, some, Option·none-ne-some, Option·some-injective}
 use mathlib.Core.List.{List, [], _∷_, _++_, append-assoc}
 use Prim.Native.Nat.{ℕ, _≤_}
 use native.Mathlib.Omega.{arith}
 use lib.Dec.{T, ltb, eqb}
 use lib.ListN.{length, drop}
-use Rattle.format.specs.Maybe.{bind}
-use Rattle.format.specs.Format.{Fmt, Law}
-use Rattle.format.proofs.Tests.{either, and-l, and-r}
+use borrow.Author.Tests.{eqb-true, eqb-false}
+use Rattle.format.specs.Maybe.{bind, guard}
+use Rattle.format.specs.Format.{Fmt, Law, mapped, refined}
+use Rattle.format.proofs.Tests.{by, either, and-l, and-r}
 use Rattle.ber.specs.Field.{new, Avoids}
 use Rattle.ber.specs.Table.{Row, always, ifSet, ifAny, ifNew, Value, Values, row, layout, rowEnc, rowDec, tag, tags, among, distinct}
 use Rattle.ber.proofs.Fields.{Caps, field-law, end-law, optional-law, flag-law, unless-known-law, field-avoids, optional-avoids, flag-avoids}
-use Rattle.ber.proofs.Readers.{here-yes, here-no, Leaves, Got, Rest, rest-field, rest-flag, end-yes, end-no, first-leaves, maybe-leaves, flagged-leaves}
+use Rattle.ber.proofs.Readers.{here-yes, here-no, Leaves, Got, Rest, rest-whole, rest-field, rest-flag, rest-mapped, rest-refined, end-yes, end-no}
+use Rattle.ber.proofs.Readers.{first-leaves, maybe-leaves, flagged-leaves}
 
 -- ---- the law of a layout
 
@@ -114,6 +116,24 @@ module _ (s : List ℕ) where
 abbrev pub both : (rs qs : List Row) → Values rs → Values qs → Values (rs ++ qs)
 both [] qs v w = w
 both (r ∷ rs) qs v w = (v .0, both rs qs (v .1) w)
+
+-- All of s, as the value that the rows of a table say, if it passes a test.
+module _ {A : Type 0} (rs : List Row) (to : Values rs → A) (back : A → Values rs) (ok : A → Bool) (s : List ℕ) (v : Values rs) (next : ℕ)
+    (g : Gets s rs 0 v next) where
+  whole : {o : Option (Values rs)} → Rest (layout rs .dec) s 0 o
+      → refined ok (mapped to back (layout rs)) .dec s ≡ bind {A = A} (bind {B = A} o (λ a. some (to a))) (λ a. guard (ok a) a)
+  whole r = rest-whole (rest-refined ok (mapped to back (layout rs)) (rest-mapped to back (layout rs) r))
+
+  table-is : refined ok (mapped to back (layout rs)) .dec s ≡ guard (eqb next (length s) && ok (to v)) (to v)
+  table-is = by (eqb next (length s))
+      (λ y. rw y (whole (rows-yes s rs 0 v next g (eqb-true next (length s) y))))
+      (λ n. rw n (whole (rows-no s rs 0 v next g (eqb-false next (length s) n))))
+
+  pub table-yes : (eqb next (length s) && ok (to v)) ≡ true → refined ok (mapped to back (layout rs)) .dec s ≡ some (to v)
+  table-yes y = table-is ∙ rw y
+
+  pub table-no : (eqb next (length s) && ok (to v)) ≡ false → refined ok (mapped to back (layout rs)) .dec s ≡ none
+  table-no n = table-is ∙ rw n
 
 pub rows-then : (s : List ℕ) (rs qs : List Row) (at m next : ℕ) (v : Values rs) (w : Values qs) → Gets s rs at v m → Gets s qs m w next
     → Gets s (rs ++ qs) at (both rs qs v w) next

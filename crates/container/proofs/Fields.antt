@@ -1,27 +1,26 @@
 -- A profile and a container read field by field, and what is written put together.
 use mathlib.Core.Path.{_≡_, refl, sym, ap, subst, _∙_}
-use mathlib.Core.Bool.{Bool, true, false}
+use mathlib.Core.Bool.{Bool, true, false, _&&_}
 use mathlib.Core.Option.{Option, none, some}
 use mathlib.Core.List.{List, [], _∷_}
 use Prim.Native.Nat.{ℕ, _-_, _≤_, _<_}
 use native.Mathlib.Omega.{arith}
-use lib.Dec.{T}
+use lib.Dec.{T, eqb}
 use lib.ListN.{length, take, drop}
 use borrow.Author.Tests.{le-leb}
 use Rattle.format.specs.Maybe.{guard}
 use Rattle.format.specs.Format.{mapped}
 use Rattle.format.proofs.Tests.{by, T-true, and-l}
 use Rattle.format.proofs.Maybe.{guard-yes}
-use Rattle.ber.specs.Tlv.{tlvEnc, tlvForm}
+use Rattle.ber.specs.Tlv.{tlvEnc, tlvDec, tlvForm}
 use Rattle.ber.specs.Field.{first, new}
 use Rattle.ber.specs.Table.{layout, rowEnc, rowDec, tag}
 use Rattle.ber.specs.Read.{nowhere, Reads}
 use Rattle.ber.specs.Private.Stay.{stay}
 use Rattle.ber.specs.Write.{Puts}
 use Rattle.ber.proofs.Tlvs.{tlv-yes}
-use Rattle.ber.proofs.Places.{PartIs}
-use Rattle.ber.proofs.Readers.{part-length, Rest, got, reads-some, rest-mapped, rest-refined}
-use Rattle.ber.proofs.Tables.{row-leaves, Gets, rows-yes, rows-no}
+use Rattle.ber.proofs.Readers.{got, reads-some}
+use Rattle.ber.proofs.Tables.{row-leaves, Gets, table-yes, table-no}
 use Rattle.ber.proofs.Writers.{puts-is, puts-none, puts-nothing, wrote, wrote-then, wrote-none, filled}
 use Rattle.ber.specs.Private.Wrote.{Wrote}
 use Rattle.calendar.specs.declared.Stamp.{Stamp}
@@ -41,10 +40,6 @@ use Rattle.container.proofs.Formats.{qos-law, qos-good, told-none, told
 pub reads-as : {A : Type 0} {blank v w : A} {p : List ℕ → Option (A × List ℕ)} {s : List ℕ} {at next : ℕ} → v ≡ w → Reads blank p s at w next
     → Reads blank p s at v next
 reads-as {blank = blank} {p = p} {s = s} {at = at} {next = next} e r = subst (λ v. Reads blank p s at v next) (sym e) r
-
--- the contents of a value in s end before nowhere, as s does
-pub part-short : {s : List ℕ} {at t a e : ℕ} → PartIs s at t a e → length s < nowhere → length (take (e - a) (drop a s)) < nowhere
-part-short p h = omega (arith, part-length p, p .inside)
 
 -- what a reader of times answered
 
@@ -79,26 +74,18 @@ module _ {s : List ℕ} {reliability delay precedence peak mean : ℕ} {b c d e 
     ),
   )
 
-  -- octets are left after the fields, or a field was not there
-  pub qos-cut : (end ≡ length s → ⊥) → Rest (qos .dec) s 0 none
+  pub qos-yes : (eqb end (length s) && qosOk profile) ≡ true → qos .dec s ≡ some profile
   unfolding qos
-  qos-cut n =
-      rest-refined qosOk (mapped toQos ofQos (layout qosTable))
-      (rest-mapped toQos ofQos (layout qosTable) (rows-no s qosTable 0 (ofQos profile) end qos-fields n))
+  qos-yes = table-yes qosTable toQos ofQos qosOk s (ofQos profile) end qos-fields
 
-  module _ (q : end ≡ length s) where
-    fields : Rest (qos .dec) s 0 (guard (qosOk profile) profile)
-    unfolding qos
-    fields =
-        rest-refined qosOk (mapped toQos ofQos (layout qosTable))
-        (rest-mapped toQos ofQos (layout qosTable) (rows-yes s qosTable 0 (ofQos profile) end qos-fields q))
+  pub qos-no : (eqb end (length s) && qosOk profile) ≡ false → qos .dec s ≡ none
+  unfolding qos
+  qos-no = table-no qosTable toQos ofQos qosOk s (ofQos profile) end qos-fields
 
-    -- the fields are there, but not in range
-    pub qos-out : qosOk profile ≡ false → Rest (qos .dec) s 0 none
-    qos-out t = record { is = fields .is ∙ rw t }
-
-    pub qos-there : qosOk profile ≡ true → Rest (qos .dec) s 0 (some profile)
-    qos-there t = record { is = fields .is ∙ rw t }
+-- empty contents are no profile
+pub qos-hollow : qos .dec [] ≡ none
+unfolding qos first tlvDec
+qos-hollow = refl
 
 -- ---- the QoS of a container after another one
 
@@ -134,24 +121,18 @@ module _ (z : Container) {s : List ℕ} {q : Qos} {uplink downlink condition : �
     ),
   )
 
-  pub container-cut : (end ≡ length s → ⊥) → Rest (container z .dec) s 0 none
+  pub container-yes : (eqb end (length s) && containerOk held) ≡ true → container z .dec s ≡ some held
   unfolding container
-  container-cut n =
-      rest-refined containerOk (mapped toContainer ofContainer (layout (containerTable z)))
-      (rest-mapped toContainer ofContainer (layout (containerTable z)) (rows-no s (containerTable z) 0 (ofContainer held) end container-fields n))
+  container-yes = table-yes (containerTable z) toContainer ofContainer containerOk s (ofContainer held) end container-fields
 
-  module _ (whole : end ≡ length s) where
-    parts : Rest (container z .dec) s 0 (guard (containerOk held) held)
-    unfolding container
-    parts =
-        rest-refined containerOk (mapped toContainer ofContainer (layout (containerTable z)))
-        (rest-mapped toContainer ofContainer (layout (containerTable z)) (rows-yes s (containerTable z) 0 (ofContainer held) end container-fields whole))
+  pub container-no : (eqb end (length s) && containerOk held) ≡ false → container z .dec s ≡ none
+  unfolding container
+  container-no = table-no (containerTable z) toContainer ofContainer containerOk s (ofContainer held) end container-fields
 
-    pub container-out : containerOk held ≡ false → Rest (container z .dec) s 0 none
-    container-out k = record { is = parts .is ∙ rw k }
-
-    pub container-there : containerOk held ≡ true → Rest (container z .dec) s 0 (some held)
-    container-there k = record { is = parts .is ∙ rw k }
+-- and no container
+pub container-hollow : (z : Container) → container z .dec [] ≡ none
+unfolding container new first tlvDec
+container-hollow z = by (isNew z) (λ h. rw (told-none z h)) (λ h. rw (told-some z h))
 
 -- ---- written
 

@@ -3,12 +3,11 @@ use mathlib.Core.Path.{_≡_, refl, sym, _∙_}
 use mathlib.Core.Bool.{Bool, true, false}
 use mathlib.Core.Option.{Option, none, some}
 use mathlib.Core.List.{List, []}
-use Prim.Native.Nat.{ℕ, _-_}
-use lib.ListN.{take, drop}
+use Prim.Native.Nat.{ℕ, _<_}
+use lib.ListN.{length, take}
 use Rattle.ber.specs.Field.{first}
-use Rattle.ber.specs.Read.{nowhere, Reads}
-use Rattle.ber.proofs.Places.{PartIs}
-use Rattle.ber.proofs.Readers.{first-there, first-bad}
+use Rattle.ber.specs.Read.{nowhere, Reads, Lies, contentsOf}
+use Rattle.ber.proofs.Readers.{under-none, under-some, hollow}
 use Rattle.container.specs.declared.Container.{Container}
 use Rattle.container.specs.List.{containers, noContainers, isThere, listed, Listed, ListsAt}
 use Rattle.container.proofs.Padded.{take-padded}
@@ -29,20 +28,20 @@ module _ {s : List ℕ} {at t : ℕ} where
       let z : take n v ≡ [] = rw e in
       record { reads = rw (z, g) r; rest = rw z f; count = rw z (sym e) }
 
-  module _ {a e : ℕ} (p : PartIs s at t a e) where
+  module _ {from next : ℕ} (p : Lies s at t from next) (h : length s < nowhere) {c : List ℕ} (k : c ≡ contentsOf from next s)
+      {ok : Bool} {n : ℕ} {v : List Container} (l : Listed (containers .dec c) ok n v) where
     -- a list
-    pub lists-there : {ok : Bool} {n : ℕ} {v : List Container} → Listed (containers .dec (take (e - a) (drop a s))) ok n v → ok ≡ true → ListsAt s at t n v e
-    lists-there {ok} {n} {v} l k =
-        let q = there-some (containers .dec (take (e - a) (drop a s))) (sym (l .found) ∙ k) in
-        let w : take n v ≡ listed (containers .dec (take (e - a) (drop a s))) =
-        rw (l .count, l .values) (take-padded (listed (containers .dec (take (e - a) (drop a s))))) in
+    pub lists-there : ok ≡ true → ListsAt s at t n v next
+    unfolding containers
+    lists-there y =
+        let q = there-some (containers .dec c) (sym (l .found) ∙ y) in
+        let w : take n v ≡ listed (containers .dec c) = rw (l .count, l .values) (take-padded (listed (containers .dec c))) in
         record {
-          reads = rw w (first-there t containers s at p q);
+          reads = rw w (under-some t containers p h k q (hollow refl));
           rest = rw w (l .values);
           count = rw w (sym (l .count));
         }
 
     -- contents that are no list
-    pub lists-bad : {ok : Bool} {n : ℕ} {v : List Container} → Listed (containers .dec (take (e - a) (drop a s))) ok n v → ok ≡ false
-        → Reads [] (first t containers) s at [] nowhere
-    lists-bad l k = first-bad t containers s at p (there-none (containers .dec (take (e - a) (drop a s))) (sym (l .found) ∙ k))
+    pub lists-bad : ok ≡ false → Reads [] (first t containers) s at [] nowhere
+    lists-bad y = under-none t containers p h k (there-none (containers .dec c) (sym (l .found) ∙ y))

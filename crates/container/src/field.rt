@@ -4,7 +4,6 @@ use crate::list;
 use crate::one;
 use ber::NOWHERE;
 use ber::tlv;
-use ber::tlv::Part;
 ghost use mathlib.Core.Path.{_≡_};
 ghost use Rattle.ber.specs.Read.{nowhere};
 ghost use Rattle.container.specs.List.{noContainers, ListsAt};
@@ -20,13 +19,15 @@ pub struct ListAt {
 pub fn list_at(s: &[u8], at: usize, tag: u8) -> ListAt
     ensures { λ r. ⌜ ListsAt (now (s .entry)) at tag (r .n) (r .v) (r .next) ⌝ }
 {
-    let Part::Found(a, e) = tlv::part_at(s, at, tag) else {
-        return no_list();
-    };
-    let l = list::list_of(&s[a..e]);
+    let part = tlv::part_at(s, at, tag);
+    let l = list::list_of(tlv::contents(s, part));
     let v = l.v;
     if l.ok {
-        return ListAt { n: l.n, v, next: e };
+        return ListAt {
+            n: l.n,
+            v,
+            next: part.next,
+        };
     }
     no_list()
 }

@@ -7,7 +7,6 @@ use crate::stamp;
 use crate::tags;
 use ber::field;
 use ber::tlv;
-use ber::tlv::Part;
 use calendar::Stamp;
 ghost use mathlib.Core.Path.{_≡_};
 ghost use Rattle.format.specs.Maybe.{guard};
@@ -81,14 +80,8 @@ fn qos_after(s: &[u8], last: Container) -> QosAt
 pub fn container_at(s: &[u8], at: usize, last: Container) -> ContainerAt
     ensures { λ r. ⌜ Reads noContainer (first containerTag (container last)) (now (s .entry)) at (r .v) (r .next) ⌝ }
 {
-    let none = no_container();
-    let Part::Found(a, e) = tlv::part_at(s, at, tags::CONTAINER) else {
-        return ContainerAt {
-            v: none,
-            next: ber::NOWHERE,
-        };
-    };
-    let contents = &s[a..e];
+    let part = tlv::part_at(s, at, tags::CONTAINER);
+    let contents = tlv::contents(s, part);
     let profile = qos_after(contents, last);
     let uplink = field::int_at(contents, profile.next, tags::UPLINK);
     let downlink = field::int_at(contents, uplink.next, tags::DOWNLINK);
@@ -103,19 +96,16 @@ pub fn container_at(s: &[u8], at: usize, last: Container) -> ContainerAt
         condition: condition.v,
         time,
     };
-    if stamp.next != contents.len() {
+    if (stamp.next == contents.len()) & container_ok(c) {
         return ContainerAt {
-            v: none,
-            next: ber::NOWHERE,
+            v: c,
+            next: part.next,
         };
     }
-    if !container_ok(c) {
-        return ContainerAt {
-            v: none,
-            next: ber::NOWHERE,
-        };
+    ContainerAt {
+        v: no_container(),
+        next: ber::NOWHERE,
     }
-    ContainerAt { v: c, next: e }
 }
 
 // Can a reader tell the QoS of c, which stands after another one? It is new there, or the same still.

@@ -3,7 +3,6 @@ use crate::Qos;
 use crate::tags;
 use ber::field;
 use ber::tlv;
-use ber::tlv::Part;
 ghost use mathlib.Core.Path.{_≡_};
 ghost use Rattle.format.specs.Maybe.{guard};
 ghost use Rattle.ber.specs.Tlv.{tlvEnc};
@@ -53,14 +52,8 @@ pub fn no_qos() -> Qos
 pub fn qos_at(s: &[u8], at: usize, tag: u8) -> QosAt
     ensures { λ r. ⌜ Reads noQos (first tag qos) (now (s .entry)) at (r .v) (r .next) ⌝ }
 {
-    let none = no_qos();
-    let Part::Found(a, e) = tlv::part_at(s, at, tag) else {
-        return QosAt {
-            v: none,
-            next: ber::NOWHERE,
-        };
-    };
-    let contents = &s[a..e];
+    let part = tlv::part_at(s, at, tag);
+    let contents = tlv::contents(s, part);
     let reliability = field::octet_at(contents, 0, tags::RELIABILITY);
     let delay = field::octet_at(contents, reliability.next, tags::DELAY);
     let precedence = field::octet_at(contents, delay.next, tags::PRECEDENCE);
@@ -73,19 +66,16 @@ pub fn qos_at(s: &[u8], at: usize, tag: u8) -> QosAt
         peak: peak.v,
         mean: mean.v,
     };
-    if mean.next != contents.len() {
+    if (mean.next == contents.len()) & qos_ok(q) {
         return QosAt {
-            v: none,
-            next: ber::NOWHERE,
+            v: q,
+            next: part.next,
         };
     }
-    if !qos_ok(q) {
-        return QosAt {
-            v: none,
-            next: ber::NOWHERE,
-        };
+    QosAt {
+        v: no_qos(),
+        next: ber::NOWHERE,
     }
-    QosAt { v: q, next: e }
 }
 
 // A profile under the tag, at a place of out. One out of range is not written.

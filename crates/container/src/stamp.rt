@@ -1,6 +1,5 @@
 // A time stamp under a tag, read at a place of s and written at a place of out.
 use ber::tlv;
-use ber::tlv::Part;
 use calendar::Stamp;
 use calendar::StampRead;
 ghost use Rattle.format.specs.Maybe.{guard};
@@ -21,23 +20,17 @@ pub struct StampAt {
 pub fn stamp_at(s: &[u8], at: usize, tag: u8) -> StampAt
     ensures { λ r. ⌜ Reads noStamp (first tag stamp) (now (s .entry)) at (r .v) (r .next) ⌝ }
 {
-    let none = Stamp {
-        seconds: 0,
-        zone: 0,
-    };
-    let Part::Found(a, e) = tlv::part_at(s, at, tag) else {
+    let part = tlv::part_at(s, at, tag);
+    let StampRead::Time(v) = calendar::stamp_of(tlv::contents(s, part)) else {
         return StampAt {
-            v: none,
+            v: Stamp {
+                seconds: 0,
+                zone: 0,
+            },
             next: ber::NOWHERE,
         };
     };
-    let StampRead::Time(v) = calendar::stamp_of(&s[a..e]) else {
-        return StampAt {
-            v: none,
-            next: ber::NOWHERE,
-        };
-    };
-    StampAt { v, next: e }
+    StampAt { v, next: part.next }
 }
 
 // The time t under the tag, at a place of out. One out of range is not written.
