@@ -12,11 +12,12 @@ use lib.Seq.{drop-cons, drop-drop}
 use denote.Ref.{RefT, ptr, now}
 use Rattle.format.specs.Maybe.{bind, guard}
 use Rattle.format.specs.Format.{Law}
-use Rattle.format.proofs.Tests.{either}
+use Rattle.format.proofs.Tests.{by, either, and-l, T-true, true-T}
 use Rattle.ber.specs.Tlv.{tlvDec}
 use Rattle.ber.specs.Field.{first, end}
 use Rattle.ber.specs.Table.{rowGood}
-use Rattle.ber.proofs.Places.{PartIs, part-is}
+use Rattle.ber.specs.Read.{nowhere, Lies, contentsOf}
+use Rattle.ber.proofs.Places.{PartIs, part-is, by-part}
 use Rattle.container.specs.List.{containers}
 use Rattle.ber.proofs.Readers.{part-length}
 use Rattle.scdr.specs.declared.Record.{Record}
@@ -25,7 +26,7 @@ use Rattle.scdr.specs.Rules.{shaped, within, duration}
 use Rattle.ber.specs.Text.{orNone}
 use Rattle.scdr.specs.Table.{recordTag, NodeId}
 use Rattle.scdr.specs.Layout.{Fields, body, fieldsOf, toRecord, durationRight, inside, scdr}
-use Rattle.scdr.specs.Private.Pieces.{Wired}
+use Rattle.scdr.specs.Private.Pieces.{NameEnds, Wired}
 use Rattle.scdr.specs.Answers.{readOf, ReadsRecord}
 use Rattle.scdr.specs.Apn.{walk, walkIn, cut, apnPlace, apnOf, ShowsApn}
 use Rattle.scdr.specs.Private.Taken.{Taken, NotTaken}
@@ -69,6 +70,18 @@ module _ (s : List ℕ) where
     scdr-after k = split ∙ rw (drop-cons s e 0 (below e (length s) (p .inside) k)) (closed-more (inside .dec (take (e - a) (drop a s))) (getD s e 0)
         (drop (suc e) s))
 
+-- what was answered of the value under A0, and its contents c
+module _ {s : List ℕ} {from next : ℕ} (l : Lies s 0 recordTag from next) (h : length s < nowhere) where
+  pub record-not : (next ≡ length s → ⊥) → scdr .dec s ≡ none
+  record-not n = by-part l h refl (λ a _ _. scdr-absent s a) (λ p _. scdr-after s p n)
+
+  module _ {c : List ℕ} (k : c ≡ contentsOf from next s) (q : next ≡ length s) where
+    record-part : PartIs s 0 recordTag from next × (c ≡ take (next - from) (drop from s))
+    record-part = by-part l h k (λ _ n _. absurd (omega arith)) (λ p e. (p, e))
+
+    pub record-is : scdr .dec s ≡ inside .dec c
+    record-is = let (p, e) = record-part in scdr-whole s p q ∙ ap (inside .dec) (sym e)
+
 -- ---- what was read has the shape of a record
 
 node-most : (o : Option (List ℕ)) → rowGood NodeId o → length (orNone o) ≤ 20
@@ -88,7 +101,11 @@ good-shaped (kind, (network, (imsi, (sgsn, (id, (ggsn, (apn, (pdptype, (address,
 -- ---- the fields, the duration and the rules
 
 module _ (s : List ℕ) {w : Wire} (v : Wired s w) where
-  pub wire-lost : w .ok ≡ false → inside .dec s ≡ none
+  -- all that is asked of them
+  abbrev asked : Bool
+  asked = w .ok && (eqb (w .lasts) (duration (w .cdr)) && within (w .cdr))
+
+  wire-lost : w .ok ≡ false → inside .dec s ≡ none
   unfolding inside
   wire-lost e = rw (v .no e)
 
@@ -100,11 +117,17 @@ module _ (s : List ℕ) {w : Wire} (v : Wired s w) where
       (w .lasts)) d .0) in
       rw (d, v .back, h)
 
-  pub wire-yes : w .ok ≡ true → (eqb (w .lasts) (duration (w .cdr)) && within (w .cdr)) ≡ true → inside .dec s ≡ some (w .cdr)
-  wire-yes e t = wire-read e ∙ rw t
+  wire-is : inside .dec s ≡ guard asked (w .cdr)
+  wire-is = by (w .ok) (λ y. wire-read y ∙ rw y) (λ n. wire-lost n ∙ rw n)
 
-  pub wire-no : w .ok ≡ true → (eqb (w .lasts) (duration (w .cdr)) && within (w .cdr)) ≡ false → inside .dec s ≡ none
-  wire-no e t = wire-read e ∙ rw t
+  pub wire-yes : asked ≡ true → inside .dec s ≡ some (w .cdr)
+  wire-yes y = wire-is ∙ rw y
+
+  pub wire-no : asked ≡ false → inside .dec s ≡ none
+  wire-no n = wire-is ∙ rw n
+
+  pub wire-ends : asked ≡ true → NameEnds s w
+  wire-ends y = v .apn (T-true (w .ok) (and-l (w .ok) (eqb (w .lasts) (duration (w .cdr)) && within (w .cdr)) (true-T asked y)))
 
 -- ---- the answers
 
@@ -133,18 +156,32 @@ part-of-part s a n x y h k =
     let e : a + y - (a + x) ≡ y - x = omega arith in
     rw (e, ← drop-drop x a s) (sym (take-inside x y n (drop a s) h k))
 
-pub taken-record : (s : List ℕ) {a e : ℕ} (p : PartIs s 0 recordTag a e) {w : Wire} (v : Wired (take (e - a) (drop a s)) w)
-    → w .ok ≡ true → scdr .dec s ≡ some (w .cdr) → Taken s 0 (w .cdr) (a + w .from) (a + w .to)
+pub taken-record : {s : List ℕ} {from next : ℕ} (l : Lies s 0 recordTag from next) (h : length s < nowhere) {c : List ℕ} (k : c ≡ contentsOf from next s)
+    (q : next ≡ length s) {w : Wire} → NameEnds c w → scdr .dec s ≡ some (w .cdr)
+    → Taken s 0 (w .cdr) (from + w .apnend - w .cdr .apnlen) (from + w .apnend)
 unfolding apnOf apnPlace
-taken-record s {a} {e} p {w} v t d =
-    let l = part-length p in
-    record {
+taken-record {s} {from} {next} l h k q {w} v d =
+    let (p, f) = record-part l h k q in
+    let u : NameEnds (take (next - from) (drop from s)) w = subst (λ z. NameEnds z w) f v in
+    let start = w .apnend - w .cdr .apnlen in
+    let n = part-length p in
+    let m : from + w .apnend - w .cdr .apnlen ≡ from + start = omega (arith, u .order) in
+    let j : w .cdr .apnlen ≡ w .apnend - start = omega (arith, u .order) in
+    let name = subst (λ (z : ℕ). take z (drop start (take (next - from) (drop from s))) ≡ take (w .cdr .apnlen) (w .cdr .apn)) j (u .is) in
+    rw m record {
       reads = reads-record s d;
-      place = ap (λ (z : ℕ × ℕ). (a + z .0, a + z .1)) (v .place t) ∙ sym (rw (d, ← part-is s 0 recordTag (p .order) (p .inside) (p .is)));
-      order = omega (arith, v .order);
-      inside = omega (arith, v .inside, l, p .order, p .inside);
-      name = part-of-part s a (e - a) (w .from) (w .to) (v .order) (omega (arith, v .inside, l)) ∙ v .apn ∙ rw d;
+      place = ap (λ (z : ℕ × ℕ). (from + z .0, from + z .1)) (u .place) ∙ sym (rw (d, part-is s 0 recordTag (p .order) (p .inside) (p .is)));
+      order = omega (arith, u .order);
+      inside = omega (arith, u .inside, n, p .order, p .inside);
+      name = part-of-part s from (next - from) start (w .apnend) (omega arith) (omega (arith, u .inside, n)) ∙ name ∙ rw d;
     }
+
+-- so the end of the name lies in s
+pub record-inside : {s : List ℕ} {from next : ℕ} (l : Lies s 0 recordTag from next) (h : length s < nowhere) {c : List ℕ} (k : c ≡ contentsOf from next s)
+    (q : next ≡ length s) {w : Wire} → NameEnds c w → from + w .apnend ≤ length s
+record-inside l h k q v =
+    let (p, f) = record-part l h k q in
+    omega (arith, v .inside, ap length f, part-length p, p .order, p .inside)
 
 pub taken-nothing : (s : List ℕ) {n : ℕ} {r : Record} {from to : ℕ} → scdr .dec s ≡ none → NotTaken n r from to → Taken s n r from to
 unfolding readOf apnOf apnPlace

@@ -12,11 +12,11 @@ use Rattle.ber.specs.Field.{unless0, unlessNone, _⨾_}
 use Rattle.ber.specs.Table.{Row, Value, Values, rowDec, tag}
 use Rattle.ber.specs.Count.{counts}
 use Rattle.ber.specs.Read.{nowhere, Reads}
-use Rattle.ber.specs.Text.{text, Copies, Raw}
+use Rattle.ber.specs.Text.{text, Copies}
 use Rattle.ber.specs.Write.{zeros}
 use Rattle.ber.proofs.Readers.{Got, got, rest-whole}
 use Rattle.ber.proofs.Tables.{row-leaves, Gets, rows-yes, rows-no, rows-place, both, rows-then}
-use Rattle.ber.proofs.Texts.{copies-reads, copies-count, copies-buffer, text-reads, raw-order, raw-inside, same-part}
+use Rattle.ber.proofs.Texts.{copies-reads, copies-count, copies-buffer, text-reads}
 use Rattle.ber.proofs.Counts.{counts-maybe}
 use Rattle.calendar.specs.declared.Stamp.{Stamp}
 use Rattle.container.specs.declared.Container.{Container}
@@ -44,7 +44,7 @@ use Rattle.scdr.specs.Table.{
 }
 use Rattle.octets.specs.Filled.{fillTo}
 use Rattle.scdr.specs.Layout.{body, fieldsOf}
-use Rattle.scdr.specs.Private.Pieces.{Wired}
+use Rattle.scdr.specs.Private.Pieces.{NameEnds, Wired}
 use Rattle.scdr.proofs.Views.{made}
 use Rattle.scdr.proofs.Walks.{Finds, finds-rows, finds-here}
 
@@ -158,14 +158,20 @@ module _ {s : List ℕ} (h : length s < nowhere) {p₁ p₂ p₃ p₄ p₅ p₆ 
   fields-no e = rest-whole (rows-no s table 0 (fieldsOf recordOf lasts) p₁₆ all e)
 
   -- where the access point name lies, if all were read
-  finds-apn : p₁₆ ≡ length s → {from to next : ℕ} → Raw 63 s p₆ (tag Apn) from to next → Finds 7 (tag Apn) s 0 (from, to)
-  finds-apn e {from} {to} x =
-      finds-rows s (take 6 table) 0 p₆ 1 (tag Apn) (from, to) valuesBefore before tt
-      (finds-here h rApn (rows-place s (drop 7 table) p₇ valuesAfter p₁₆ after (omega arith)) x)
+  name-ends : p₁₆ ≡ length s → NameEnds s (record { cdr = recordOf; lasts = lasts; ok = eqb p₁₆ (length s); apnend = p₇ })
+  name-ends e =
+      let inside = rows-place s (drop 7 table) p₇ valuesAfter p₁₆ after (omega arith) in
+      let (here, order, is) = finds-here h 63 rApn inside in
+      record {
+        place = sym (finds-rows s (take 6 table) 0 p₆ 1 (tag Apn) (p₇ - apnlen, p₇) valuesBefore before tt here .is (length table) (omega arith));
+        order = order;
+        inside = inside;
+        is = is;
+      }
 
-  pub wired : apn₀ ≡ replicate 63 0 → nodeid₀ ≡ replicate 20 0 → {from to next : ℕ} → Raw 63 s p₆ (tag Apn) from to next
-      → Wired s (record { cdr = recordOf; lasts = lasts; ok = eqb p₁₆ (length s); from = from; to = to })
-  wired z y x = record {
+  pub wired : apn₀ ≡ replicate 63 0 → nodeid₀ ≡ replicate 20 0
+      → Wired s (record { cdr = recordOf; lasts = lasts; ok = eqb p₁₆ (length s); apnend = p₇ })
+  wired z y = record {
     yes = λ t. fields-yes (eqb-true p₁₆ (length s) t);
     no = λ t. fields-no (eqb-false p₁₆ (length s) t);
     back = made recordOf lasts (record {
@@ -176,8 +182,5 @@ module _ {s : List ℕ} (h : length s < nowhere) {p₁ p₂ p₃ p₄ p₅ p₆ 
       node = copied-fills 20 y rNodeId;
       nodelen = copies-count rNodeId;
     });
-    place = λ t. sym (finds-apn (eqb-true p₁₆ (length s) t) x .is (length table) (omega arith));
-    order = raw-order x;
-    inside = raw-inside x;
-    apn = same-part rApn x;
+    apn = λ t. name-ends (eqb-true p₁₆ (length s) t);
   }

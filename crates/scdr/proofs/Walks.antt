@@ -17,13 +17,11 @@ use Rattle.ber.specs.Tlv.{tlvDec}
 use Rattle.ber.specs.Field.{first, starts, maybe, flagged, isThere, new, between}
 use Rattle.ber.specs.Table.{Row, always, ifSet, ifAny, ifNew, Value, Values, rowDec, tag, tags, among}
 use Rattle.ber.specs.Read.{nowhere, partAt}
-use Rattle.ber.specs.Text.{Copies, rawOf, Raw}
-use Rattle.ber.specs.declared.tlv.Part.{Part}
-use Rattle.ber.specs.declared.tlv.Part.the-variants as P
+use Rattle.ber.specs.Text.{Copies}
 use Rattle.ber.proofs.Places.{part-end, part-other, part-none, part-some, part-is, PartIs}
 use Rattle.ber.proofs.Readers.{Got, reads-found, first-leaves, part-length}
 use Rattle.ber.proofs.Tables.{not-l, not-r, Gets, got-found}
-use Rattle.ber.proofs.Texts.{octets-only, copies-reads}
+use Rattle.ber.proofs.Texts.{copies-reads, copies-count}
 use Rattle.scdr.specs.Apn.{walk}
 
 -- ---- one value
@@ -39,7 +37,7 @@ tag-is s at u {q} d =
 module _ {s : List ℕ} {at u a e : ℕ} (p : PartIs s at u a e) where
   walk-part : (n t : ℕ) → walk (suc n) t s at ≡ cond (eqb u t) (a, e) (walk n t s e)
   unfolding walk
-  walk-part n t = rw (tag-is s at u (p .is), ← part-is s at u (p .order) (p .inside) (p .is))
+  walk-part n t = rw (tag-is s at u (p .is), part-is s at u (p .order) (p .inside) (p .is))
 
 -- a value of format x under the tag, which ends at next
 module _ (u : ℕ) {A : Type 0} (x : Fmt A) (s : List ℕ) (at : ℕ) {v : A} {next : ℕ} where
@@ -48,10 +46,10 @@ module _ (u : ℕ) {A : Type 0} (x : Fmt A) (s : List ℕ) (at : ℕ) {v : A} {n
   unfolding first
   value-part j d = go (partAt s at u) refl
     where
-      go : (o : Part) → partAt s at u ≡ o → (a : ℕ) × PartIs s at u a next × (x .dec (take (next - a) (drop a s)) ≡ some v)
-      go P.NoPart q = absurd (Option·none-ne-some (v, drop next s) (rw (part-none s at u (sym q)) at d))
-      go (P.Found a e) q =
-          let p = part-some s at u (sym q) in
+      go : (o : Option (ℕ × ℕ)) → partAt s at u ≡ o → (a : ℕ) × PartIs s at u a next × (x .dec (take (next - a) (drop a s)) ≡ some v)
+      go none q = absurd (Option·none-ne-some (v, drop next s) (rw (part-none s at u q) at d))
+      go (some (a, e)) q =
+          let p = part-some s at u q in
           let (b, f, g) = bind-some (x .dec (take (e - a) (drop a s))) (λ a. some (a, drop e s)) (v, drop next s) (rw (p .is) at d) in
           let i = Option·some-injective (b, drop e s) (v, drop next s) g in
           let w : b ≡ v = ap (λ (z : A × List ℕ). z .0) i in
@@ -129,20 +127,18 @@ finds-rows s (r ∷ rs) at next k t z v (m, g, gs) ne f =
     (omega arith)
 
 module _ {s : List ℕ} (h : length s < nowhere) {at next t : ℕ} where
-  -- what was copied lies where it was looked for
-  pub finds-here : {m : ℕ} {b b′ : List ℕ} {n a e after : ℕ} → Copies (first t (between 1 m)) s at b b′ n next → next ≤ length s → Raw m s at t a e after
-      → Finds 1 t s at (a, e)
-  finds-here {m} {b} {b′} {n} {a} {e} {after} c i r =
+  -- what was copied lies before the place after it
+  pub finds-here : (m : ℕ) {b b′ : List ℕ} {n : ℕ} → Copies (first t (between 1 m)) s at b b′ n next → next ≤ length s
+      → Finds 1 t s at (next - n, next) × (n ≤ next) × (take n (drop (next - n) s) ≡ take n b′)
+  finds-here m {b} {b′} {n} c i =
       let (j, _, d) = reads-found (first-leaves t (between 1 m)) h (copies-reads c .0) (λ e. omega arith) in
       let (x, p, o) = value-part t (between 1 m) s at i d in
-      let l = octets-only t 1 m (drop at s) (take n b′, drop next s) d .1 in
       let y = take (next - x) (drop x s) in
       let w = guard-some (leb (length y) m && leb 1 (length y)) y (take n b′) o .1 in
-      let k : next - x ≤ m = omega (arith, part-length p, ap length w) in
-      let q : _≡_ {A = ℕ × ℕ × ℕ} (a, e, after) (x, next, next) =
-      r .is ∙ ap (rawOf m) (sym (part-is s at t (p .order) (p .inside) (p .is))) ∙ rw (le-leb (next - x) m k) in
-      record { place = j; is = go p (λ i. (q i .0, q i .1)) }
+      let k : next - x ≡ n = sym (part-length p) ∙ ap length w ∙ copies-count c in
+      let a : x ≡ next - n = omega (arith, p .order) in
+      (record { place = j; is = go p a }, omega arith, subst (λ (a : ℕ). take n (drop a s) ≡ take n b′) a (subst (λ (l : ℕ). take l (drop x s) ≡ take n b′) k w))
     where
-      go : {x : ℕ} → PartIs s at t x next → _≡_ {A = ℕ × ℕ} (a, e) (x, next) → (n : ℕ) → 1 ≤ n → walk n t s at ≡ (a, e)
-      go p q zero h = absurd (not-suc-le-zero h)
-      go p q (suc n) h = walk-part p n t ∙ rw (T-true (eqb t t) (eqb-refl t)) (sym q)
+      go : {x : ℕ} → PartIs s at t x next → x ≡ next - n → (k : ℕ) → 1 ≤ k → walk k t s at ≡ (next - n, next)
+      go p e zero h = absurd (not-suc-le-zero h)
+      go p e (suc k) h = walk-part p k t ∙ rw (T-true (eqb t t) (eqb-refl t), e)

@@ -10,8 +10,6 @@ use lib.ListN.{length, take, drop, getD}
 use denote.Ref.{RefT, ptr, now}
 use Rattle.ber.specs.Read.{partAt}
 use Rattle.ber.specs.Table.{tag}
-use Rattle.ber.specs.declared.tlv.Part.{Part}
-use Rattle.ber.specs.declared.tlv.Part.the-variants as P
 use Rattle.scdr.specs.declared.Record.{Record}
 use Rattle.scdr.specs.Table.{recordTag, Apn, table}
 use Rattle.scdr.specs.Layout.{scdr}
@@ -23,9 +21,9 @@ abbrev pub cut : ℕ × ℕ → List ℕ → List ℕ
 cut z s = take (z .1 - z .0) (drop (z .0) s)
 
 -- a value was found: its contents, if it is the one that is looked for; else go on after it
-abbrev pub seen : Bool → (ℕ → ℕ × ℕ) → Part → ℕ × ℕ
-seen it on P.NoPart = (0, 0)
-seen it on (P.Found a e) = cond it (a, e) (on e)
+abbrev pub seen : Bool → (ℕ → ℕ × ℕ) → Option (ℕ × ℕ) → ℕ × ℕ
+seen it on none = (0, 0)
+seen it on (some z) = cond it z (on (z .1))
 
 -- where the contents under the tag t lie, among n values at most that stand one after another from a place of s on
 unfoldable pub walk : ℕ → ℕ → List ℕ → ℕ → ℕ × ℕ
@@ -33,9 +31,9 @@ walk zero t s at = (0, 0)
 walk (suc n) t s at = seen (eqb (getD s at 0) t) (walk n t s) (partAt s at (getD s at 0))
 
 -- the same in a part of s, counted from the start of s
-abbrev pub walkIn : ℕ → ℕ → List ℕ → Part → ℕ × ℕ
-walkIn n t s P.NoPart = (0, 0)
-walkIn n t s (P.Found a e) = (a + walk n t (cut (a, e) s) 0 .0, a + walk n t (cut (a, e) s) 0 .1)
+abbrev pub walkIn : ℕ → ℕ → List ℕ → Option (ℕ × ℕ) → ℕ × ℕ
+walkIn n t s none = (0, 0)
+walkIn n t s (some z) = (z .0 + walk n t (cut z s) 0 .0, z .0 + walk n t (cut z s) 0 .1)
 
 -- ---- the access point name
 

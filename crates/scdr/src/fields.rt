@@ -19,9 +19,8 @@ pub struct Wire {
     pub cdr: Record,
     pub lasts: u64,
     pub ok: bool,
-    // where the access point name lies
-    pub from: usize,
-    pub to: usize,
+    // the place after the access point name
+    pub apnend: usize,
 }
 
 pub fn read_fields(s: &[u8]) -> Wire
@@ -45,7 +44,6 @@ pub fn read_fields(s: &[u8]) -> Wire
     let number = count::count_at(s, cause.next, tags::NUMBER);
     let mut nodeid = [0u8; 20];
     let node = text::text_at(s, number.next, tags::NODE_ID, &mut nodeid);
-    let place = text::part_in(s, ggsn.next, tags::APN, 63);
     let digits = imsi.v;
     let containers = list.v;
     let opening = stamp.v;
@@ -72,7 +70,6 @@ pub fn read_fields(s: &[u8]) -> Wire
         cdr,
         lasts: lasts.v,
         ok: node.next == s.len(),
-        from: place.a,
-        to: place.e,
+        apnend: name.next,
     }
 }

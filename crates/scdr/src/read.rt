@@ -5,7 +5,6 @@ use crate::fields;
 use crate::rules;
 use crate::tags;
 use ber::tlv;
-use ber::tlv::Part;
 ghost use mathlib.Core.Path.{_≡_};
 ghost use mathlib.Core.Bool.{_&&_};
 ghost use lib.Dec.{eqb};
@@ -53,23 +52,19 @@ struct Whole {
 fn take_apart(s: &[u8]) -> Whole
     ensures { λ z. ⌜ Taken (now (s .entry)) (z .answer) (z .cdr) (z .from) (z .to) ⌝ }
 {
-    let Part::Found(a, e) = tlv::part_at(s, 0, tags::RECORD) else {
-        return no_record();
-    };
-    if e != s.len() {
+    let part = tlv::part_at(s, 0, tags::RECORD);
+    if part.next != s.len() {
         return no_record();
     }
-    let wire = fields::read_fields(&s[a..e]);
+    let wire = fields::read_fields(tlv::contents(s, part));
     let cdr = wire.cdr;
-    if !wire.ok {
-        return no_record();
-    }
-    if passes(cdr, wire.lasts) {
+    if wire.ok & passes(cdr, wire.lasts) {
+        let to = part.from + wire.apnend;
         return Whole {
             answer: 0,
             cdr,
-            from: a + wire.from,
-            to: a + wire.to,
+            from: to - cdr.apnlen,
+            to,
         };
     }
     no_record()

@@ -18,7 +18,7 @@ slice-aggregate-result-2 c = search needs
 
 returns-2 : tie.Need-returns-2
 unfolding contentsOf
-returns-2 c = 
+returns-2 c =
     let a = c .before .before .before .args in
     rw (le-leb (a .part .from) (a .part .next) (c .before .before .if1 .left), lt-leb (a .part .next) (length (a .s .now)) (c .before .if2 .taken))
 
@@ -30,7 +30,7 @@ part-result-end c = search needs
 
 returns-3 : tie.Need-returns-3
 unfolding contentsOf
-returns-3 c = 
+returns-3 c =
     let a = c .before .before .before .args in
     rw (le-leb (a .part .from) (a .part .next) (c .before .before .if1 .left), le-leb (a .part .next) (length (a .s .now)) (c .before .if2 .left))
 

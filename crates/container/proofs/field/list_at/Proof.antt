@@ -21,7 +21,7 @@ no-list-requires : tie.Need-no-list-requires
 no-list-requires c κs = search needs
 
 returns-2 : tie.Need-returns-2
-returns-2 c = 
+returns-2 c =
     lists-none (c .no-list .ensures)
     (lists-bad (c .before .before .before .before .before .part-at .ensures) (omega arith) (c .before .before .before .before .contents .ensures) (c .before .before .before .list-of .ensures) (c .before .if1 .left))
 

@@ -36,7 +36,7 @@ container-ok-requires : tie.Need-container-ok-requires
 container-ok-requires c κs = search needs
 
 returns : tie.Need-returns
-returns c = 
+returns c =
     let a = c .before .before .before .before .before .before .before .before .before .before .before .before .before .args in
     let h : length (a .s .now) < nowhere = omega (arith, c .before .before .before .before .before .before .before .before .before .before .before .before .before .good .0 .1) in
     let l = c .before .before .before .before .before .before .before .before .before .before .before .part-at .ensures in
@@ -50,7 +50,7 @@ no-container-requires : tie.Need-no-container-requires
 no-container-requires c κs = search needs
 
 returns-2 : tie.Need-returns-2
-returns-2 c = 
+returns-2 c =
     let a = c .before .before .before .before .before .before .before .before .before .before .before .before .before .before .args in
     let h : length (a .s .now) < nowhere = omega (arith, c .before .before .before .before .before .before .before .before .before .before .before .before .before .before .good .0 .1) in
     let l = c .before .before .before .before .before .before .before .before .before .before .before .before .part-at .ensures in

@@ -36,7 +36,7 @@ qos-ok-requires : tie.Need-qos-ok-requires
 qos-ok-requires c κs = search needs
 
 returns : tie.Need-returns
-returns c = 
+returns c =
     let a = c .before .before .before .before .before .before .before .before .before .before .before .args in
     let h : length (a .s .now) < nowhere = omega (arith, c .before .before .before .before .before .before .before .before .before .before .before .good .0 .1) in
     let l = c .before .before .before .before .before .before .before .before .before .part-at .ensures in
@@ -50,7 +50,7 @@ no-qos-requires : tie.Need-no-qos-requires
 no-qos-requires c κs = search needs
 
 returns-2 : tie.Need-returns-2
-returns-2 c = 
+returns-2 c =
     let a = c .before .before .before .before .before .before .before .before .before .before .before .before .args in
     let h : length (a .s .now) < nowhere = omega (arith, c .before .before .before .before .before .before .before .before .before .before .before .before .good .0 .1) in
     let l = c .before .before .before .before .before .before .before .before .before .before .part-at .ensures in

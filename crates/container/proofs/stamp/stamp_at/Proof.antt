@@ -26,12 +26,12 @@ enum-told : tie.Need-enum-told
 enum-told c = search needs
 
 returns : tie.Need-returns
-returns c = 
+returns c =
     under-none (c .before .before .before .before .before .before .args .tag) stamp (c .before .before .before .before .part-at .ensures) (omega arith) (c .before .before .before .contents .ensures)
     (time-none _ (sym (c .enum-told .given .1) ∙ c .before .before .stamp-of .ensures))
 
 returns-2 : tie.Need-returns-2
-returns-2 c = 
+returns-2 c =
     under-some (c .before .before .before .before .before .before .before .args .tag) stamp (c .before .before .before .before .before .part-at .ensures) (omega arith) (c .before .before .before .before .contents .ensures)
     (time-some _ _ (sym (c .before .v .given .1) ∙ c .before .before .before .stamp-of .ensures)) (hollow (time-none _ (read-length [] (λ e. omega arith))))
 

@@ -67,13 +67,9 @@ slice-aggregate-text-at c = search needs
 text-at-requires : tie.Need-text-at-requires
 text-at-requires c κs = search needs
 
-part-in-requires : tie.Need-part-in-requires
-part-in-requires c κs = search needs
-
 returns : tie.Need-returns
 returns c =
-    let looked = c .before .before .before .before in
-    let node = looked .before .before in
+    let node = c .before .before .before .before .before in
     let number = node .before .before in
     let cause = number .before in
     let change = cause .before in
@@ -106,7 +102,7 @@ returns c =
     (cause .octet-at .ensures)
     (number .count-at .ensures)
     (node .text-at .ensures)
-    refl refl (looked .part-in .ensures)
+    refl refl
 
 pub read-fields-spec : {M : Type 1} → statement M
 read-fields-spec =
@@ -130,5 +126,4 @@ read-fields-spec =
     count-at-requires
     slice-aggregate-text-at
     text-at-requires
-    part-in-requires
     returns)
