@@ -78,6 +78,11 @@ each-cond f false a rest = refl
 pub none≢some : {A : Type 0} {k : A} → none ≡ some k → ⊥
 none≢some {k = k} p = let z : _≡_ {A = ℕ} 0 1 = cc in omega arith
 
+-- what holds of x holds of what a test let pass
+pub kept : {A : Type 0} (P : A → Type 0) (b : Bool) (x e : A) → cond b (some x) none ≡ some e → P x → P e
+kept P true x e p q = let i : x ≡ e = cc in rw i at q
+kept P false x e p q = absurd (none≢some p)
+
 pub all-append : {A : Type 0} (P : A → Type 0) (a b : List A) → All P a → All P b → All P (a ++ b)
 all-append P [] b p q = q
 all-append P (x ∷ xs) b p q = (p .0, all-append P xs b (p .1) q)

@@ -1,6 +1,6 @@
 -- What an event is to a context that hears it (01, "What an event does"): what it reports, the change that it is, the limit that is looked at
 -- after it, whether it closes the record by itself. One line a kind; all that comes after works on these.
-use mathlib.Core.Bool.{true, false}
+use mathlib.Core.Bool.{Bool, true, false}
 use Prim.Native.Nat.{ℕ}
 use Rattle.container.specs.declared.Qos.{Qos}
 use Rattle.container.specs.Qos.{noQos}
@@ -10,109 +10,48 @@ use Rattle.node.specs.declared.Message.{Message}
 use Rattle.node.specs.declared.meaning.Meaning.{Meaning}
 use Rattle.node.specs.declared.meaning.Meaning.the-variants.{Opens, Tells, TellsAll}
 
+-- A message, by its columns: the report that it counts; the QoS that it brings; whether it is a tariff change, whether a tick; whether it closes the
+-- record, with which cause, and whether no record opens after it.
+abbrev pub message : Bool → ℕ → ℕ → Bool → Qos → Bool → Bool → Bool → ℕ → Bool → Message
+message counts up down brings qos tariff ticks closes cause releases = record {
+  counts = counts;
+  up = up;
+  down = down;
+  brings = brings;
+  qos = qos;
+  tariff = tariff;
+  ticks = ticks;
+  closes = closes;
+  cause = cause;
+  releases = releases;
+}
+
 -- nothing at all
 abbrev pub quiet : Message
-quiet = record {
-  counts = false;
-  up = 0;
-  down = 0;
-  brings = false;
-  qos = noQos;
-  tariff = false;
-  ticks = false;
-  closes = false;
-  cause = 0;
-  releases = false;
-}
+quiet = message false 0 0 false noQos false false false 0 false
 
 -- "Traffic adds both volumes"; the volume limit is looked at "after a traffic event"
 abbrev pub report : ℕ → ℕ → Message
-report up down = record {
-  counts = true;
-  up = up;
-  down = down;
-  brings = false;
-  qos = noQos;
-  tariff = false;
-  ticks = false;
-  closes = false;
-  cause = 0;
-  releases = false;
-}
+report up down = message true up down false noQos false false false 0 false
 
 -- a QoS profile, which is in force from now on
 abbrev pub newQos : Qos → Message
-newQos q = record {
-  counts = false;
-  up = 0;
-  down = 0;
-  brings = true;
-  qos = q;
-  tariff = false;
-  ticks = false;
-  closes = false;
-  cause = 0;
-  releases = false;
-}
+newQos q = message false 0 0 true q false false false 0 false
 
 -- "Tariff ends the container of every context"
 abbrev pub tariffChange : Message
-tariffChange = record {
-  counts = false;
-  up = 0;
-  down = 0;
-  brings = false;
-  qos = noQos;
-  tariff = true;
-  ticks = false;
-  closes = false;
-  cause = 0;
-  releases = false;
-}
+tariffChange = message false 0 0 false noQos true false false 0 false
 
 -- "Time is looked at only on a tick."
 abbrev pub tick : Message
-tick = record {
-  counts = false;
-  up = 0;
-  down = 0;
-  brings = false;
-  qos = noQos;
-  tariff = false;
-  ticks = true;
-  closes = false;
-  cause = 0;
-  releases = false;
-}
+tick = message false 0 0 false noQos false true false 0 false
 
 -- it closes the record, whatever the limits are; a release does, and no record opens after it
 abbrev pub closeWith : ℕ → Message
-closeWith cause = record {
-  counts = false;
-  up = 0;
-  down = 0;
-  brings = false;
-  qos = noQos;
-  tariff = false;
-  ticks = false;
-  closes = true;
-  cause = cause;
-  releases = false;
-}
+closeWith cause = message false 0 0 false noQos false false true cause false
 
 abbrev pub releaseWith : ℕ → Message
-releaseWith cause = record {
-  counts = false;
-  up = 0;
-  down = 0;
-  brings = false;
-  qos = noQos;
-  tariff = false;
-  ticks = false;
-  closes = true;
-  cause = cause;
-  releases = true;
-}
+releaseWith cause = message false 0 0 false noQos false false true cause true
 
 -- Who hears an event, and what it is to them: an activate opens a context; traffic, QoS, release and management are told to the one that
 -- they name, a tariff and a tick to all.

@@ -137,7 +137,8 @@ module _ {s : List ℕ} (h : length s < nowhere) {at next t : ℕ} where
       let w = guard-some (leb (length y) m && leb 1 (length y)) y (take n b′) o .1 in
       let k : next - x ≡ n = sym (part-length p) ∙ ap length w ∙ copies-count c in
       let a : x ≡ next - n = omega (arith, p .order) in
-      (record { place = j; is = go p a }, omega arith, subst (λ (a : ℕ). take n (drop a s) ≡ take n b′) a (subst (λ (l : ℕ). take l (drop x s) ≡ take n b′) k w))
+      let there = subst (λ (l : ℕ). take l (drop x s) ≡ take n b′) k w in
+      (record { place = j; is = go p a }, omega arith, subst (λ (a : ℕ). take n (drop a s) ≡ take n b′) a there)
     where
       go : {x : ℕ} → PartIs s at t x next → x ≡ next - n → (k : ℕ) → 1 ≤ k → walk k t s at ≡ (next - n, next)
       go p e zero h = absurd (not-suc-le-zero h)

@@ -15,7 +15,7 @@ use Rattle.history.specs.Log.{activates, heard}
 use Rattle.history.specs.Sample.Events.{Badge, Turn, Event}
 use Rattle.history.specs.Sample.Guests.{same, Stay, Heard, after, rules, says, settles, meaning, Visit, Guest, stop, forms}
 use Rattle.history.specs.Sample.Guests.{keep, moved, full, hear, takes, handling}
-use Rattle.history.proofs.Lists.{both, each-append, none≢some}
+use Rattle.history.proofs.Lists.{both, each-append, none≢some, kept}
 use Rattle.history.proofs.Records.{inForce-open, inForce-running, changed}
 use Rattle.history.proofs.Tables.{Bears, bears-cond, told, told-closing, told-change, told-plain, Sound}
 use Rattle.history.proofs.Sample.Lines.{sole, eqb-exactly}
@@ -125,15 +125,11 @@ module _ (s : Stay) where
   turned (Turn.move p) = refl
   turned (Turn.leave k) = refl
 
-  kept : (b : Bool) (x e : Heard) → cond b (some x) none ≡ some e → (after s x) .offset ≡ s .offset → (after s e) .offset ≡ s .offset
-  kept true x e p q = let i : x ≡ e = cc in rw i at q
-  kept false x e p q = absurd (none≢some p)
-
   settings-heard : (n : Badge) (v : Event) (e : Heard) → heard rules meaning n (says v) ≡ some e → (after s e) .offset ≡ settles (s .offset) v
   settings-heard n (Event.activate m q) e p = absurd (none≢some p)
   settings-heard n (Event.arrive b q) e p = absurd (none≢some p)
   settings-heard n (Event.order m x) e p = absurd (none≢some p)
-  settings-heard n (Event.turn b x) e p = kept (same n b) (Heard.turn x) e p (turned x)
+  settings-heard n (Event.turn b x) e p = kept (λ e. (after s e) .offset ≡ s .offset) (same n b) (Heard.turn x) e p (turned x)
   settings-heard n Event.tariff e p = absurd (none≢some p)
   settings-heard n (Event.limit l) e p = absurd (none≢some p)
   settings-heard n (Event.offset o) e p = let i : Heard.offset o ≡ e = cc in rw (← i)

@@ -15,7 +15,7 @@ use Rattle.history.specs.Log.{activates, tellsAll, heard}
 use Rattle.history.specs.Sample.Events.{Order, Event, Settings, settles, soleOr}
 use Rattle.history.specs.Sample.Lines.{Force, Heard, after, octets, rules, says, meaning, Bill, Line, part, forms}
 use Rattle.history.specs.Sample.Lines.{keep, counted, turned, full, hear, takes, handling}
-use Rattle.history.proofs.Lists.{map-append, none≢some}
+use Rattle.history.proofs.Lists.{map-append, none≢some, kept}
 use Rattle.history.proofs.Records.{inForce-running, every-open}
 use Rattle.history.proofs.Tables.{Bears, bears-cond, told, told-closing, told-change, told-plain, Sound}
 
@@ -134,14 +134,10 @@ module _ (s : Force) where
   ordered (Order.grade q) = refl
   ordered (Order.release k) = refl
 
-  kept : (b : Bool) (x e : Heard) → cond b (some x) none ≡ some e → (after s x) .set ≡ s .set → (after s e) .set ≡ s .set
-  kept true x e p q = let i : x ≡ e = cc in rw i at q
-  kept false x e p q = absurd (none≢some p)
-
   settings-heard : (n : ℕ) (v : Event) (e : Heard) → heard rules meaning n (says v) ≡ some e → (after s e) .set ≡ settles (s .set) v
   settings-heard n (Event.activate m q) e p = absurd (none≢some p)
   settings-heard n (Event.arrive b q) e p = absurd (none≢some p)
-  settings-heard n (Event.order m x) e p = kept (eqb n m) (Heard.order x) e p (ordered x)
+  settings-heard n (Event.order m x) e p = kept (λ e. (after s e) .set ≡ s .set) (eqb n m) (Heard.order x) e p (ordered x)
   settings-heard n (Event.turn b x) e p = absurd (none≢some p)
   settings-heard n Event.tariff e p = let i : Heard.tariff ≡ e = cc in rw (← i)
   settings-heard n (Event.limit l) e p = let i : Heard.limit l ≡ e = cc in rw (← i)

@@ -36,4 +36,12 @@ returns-3 c =
 
 pub contents-spec : {M : Type 1} → statement M
 contents-spec =
-    tie.close (tie.spec slice-aggregate-result returns slice-aggregate-result-2 returns-2 part-result-start part-result-end returns-3)
+    tie.close
+    (tie.spec
+    slice-aggregate-result
+    returns
+    slice-aggregate-result-2
+    returns-2
+    part-result-start
+    part-result-end
+    returns-3)

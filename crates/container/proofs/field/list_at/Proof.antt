@@ -15,15 +15,23 @@ list-of-requires : tie.Need-list-of-requires
 list-of-requires c κs = search needs
 
 returns : tie.Need-returns
-returns c = lists-there (c .before .before .before .before .part-at .ensures) (omega arith) (c .before .before .before .contents .ensures) (c .before .before .list-of .ensures) (c .if1 .taken)
+returns c =
+    let list = c .before .before in
+    let contents = list .before in
+    let part = contents .before in
+    lists-there (part .part-at .ensures) (omega arith) (contents .contents .ensures) (list .list-of .ensures) (c .if1 .taken)
 
 no-list-requires : tie.Need-no-list-requires
 no-list-requires c κs = search needs
 
 returns-2 : tie.Need-returns-2
 returns-2 c =
+    let none = c .before in
+    let list = none .before .before in
+    let contents = list .before in
+    let part = contents .before in
     lists-none (c .no-list .ensures)
-    (lists-bad (c .before .before .before .before .before .part-at .ensures) (omega arith) (c .before .before .before .before .contents .ensures) (c .before .before .before .list-of .ensures) (c .before .if1 .left))
+    (lists-bad (part .part-at .ensures) (omega arith) (contents .contents .ensures) (list .list-of .ensures) (none .if1 .left))
 
 pub list-at-spec : {M : Type 1} → statement M
 list-at-spec =

@@ -37,29 +37,60 @@ container-ok-requires c κs = search needs
 
 returns : tie.Need-returns
 returns c =
-    let a = c .before .before .before .before .before .before .before .before .before .before .before .before .before .args in
-    let h : length (a .s .now) < nowhere = omega (arith, c .before .before .before .before .before .before .before .before .before .before .before .before .before .good .0 .1) in
-    let l = c .before .before .before .before .before .before .before .before .before .before .before .part-at .ensures in
-    let k = c .before .before .before .before .before .before .before .before .before .before .contents .ensures in
+    let ok = c .before in
+    let time = ok .before .before .before .before in
+    let condition = time .before in
+    let downlink = condition .before in
+    let uplink = downlink .before in
+    let profile = uplink .before in
+    let contents = profile .before in
+    let part = contents .before in
+    let start = part .before .before in
+    let a = start .args in
+    let h : length (a .s .now) < nowhere = omega (arith, start .good .0 .1) in
+    let l = part .part-at .ensures in
+    let k = contents .contents .ensures in
     under-some containerTag (container (a .last)) l h k (container-yes (a .last) (contents-less l h k)
-    (c .before .before .before .before .before .before .before .before .before .qos-after .ensures) (c .before .before .before .before .before .before .before .before .int-at .ensures)
-    (c .before .before .before .before .before .before .before .int-at2 .ensures) (c .before .before .before .before .before .before .octet-at .ensures) (c .before .before .before .before .before .stamp-at .ensures)
-    (rw (c .before .container-ok .ensures) at (c .if1 .taken))) (hollow (container-hollow (a .last)))
+    (profile .qos-after .ensures) (uplink .int-at .ensures)
+    (downlink .int-at2 .ensures) (condition .octet-at .ensures) (time .stamp-at .ensures)
+    (rw (ok .container-ok .ensures) at (c .if1 .taken))) (hollow (container-hollow (a .last)))
 
 no-container-requires : tie.Need-no-container-requires
 no-container-requires c κs = search needs
 
 returns-2 : tie.Need-returns-2
 returns-2 c =
-    let a = c .before .before .before .before .before .before .before .before .before .before .before .before .before .before .args in
-    let h : length (a .s .now) < nowhere = omega (arith, c .before .before .before .before .before .before .before .before .before .before .before .before .before .before .good .0 .1) in
-    let l = c .before .before .before .before .before .before .before .before .before .before .before .before .part-at .ensures in
-    let k = c .before .before .before .before .before .before .before .before .before .before .before .contents .ensures in
+    let left = c .before in
+    let ok = left .before in
+    let time = ok .before .before .before .before in
+    let condition = time .before in
+    let downlink = condition .before in
+    let uplink = downlink .before in
+    let profile = uplink .before in
+    let contents = profile .before in
+    let part = contents .before in
+    let start = part .before .before in
+    let a = start .args in
+    let h : length (a .s .now) < nowhere = omega (arith, start .good .0 .1) in
+    let l = part .part-at .ensures in
+    let k = contents .contents .ensures in
     reads-as (c .no-container .ensures) (under-none containerTag (container (a .last)) l h k (container-no (a .last) (contents-less l h k)
-    (c .before .before .before .before .before .before .before .before .before .before .qos-after .ensures) (c .before .before .before .before .before .before .before .before .before .int-at .ensures)
-    (c .before .before .before .before .before .before .before .before .int-at2 .ensures) (c .before .before .before .before .before .before .before .octet-at .ensures) (c .before .before .before .before .before .before .stamp-at .ensures)
-    (rw (c .before .before .container-ok .ensures) at (c .before .if1 .left))))
+    (profile .qos-after .ensures) (uplink .int-at .ensures)
+    (downlink .int-at2 .ensures) (condition .octet-at .ensures) (time .stamp-at .ensures)
+    (rw (ok .container-ok .ensures) at (left .if1 .left))))
 
 pub container-at-spec : {M : Type 1} → statement M
 container-at-spec =
-    tie.close (tie.spec part-at-requires contents-requires qos-after-requires int-at-requires int-at-requires-2 octet-at-requires stamp-at-requires container-ok-requires returns no-container-requires returns-2)
+    tie.close
+    (tie.spec
+    part-at-requires
+    contents-requires
+    qos-after-requires
+    int-at-requires
+    int-at-requires-2
+    octet-at-requires
+    stamp-at-requires
+    container-ok-requires
+    returns
+    no-container-requires
+    returns-2)

@@ -37,29 +37,60 @@ qos-ok-requires c κs = search needs
 
 returns : tie.Need-returns
 returns c =
-    let a = c .before .before .before .before .before .before .before .before .before .before .before .args in
-    let h : length (a .s .now) < nowhere = omega (arith, c .before .before .before .before .before .before .before .before .before .before .before .good .0 .1) in
-    let l = c .before .before .before .before .before .before .before .before .before .part-at .ensures in
-    let k = c .before .before .before .before .before .before .before .before .contents .ensures in
+    let ok = c .before in
+    let mean = ok .before .before in
+    let peak = mean .before in
+    let precedence = peak .before in
+    let delay = precedence .before in
+    let reliability = delay .before in
+    let contents = reliability .before in
+    let part = contents .before in
+    let start = part .before .before in
+    let a = start .args in
+    let h : length (a .s .now) < nowhere = omega (arith, start .good .0 .1) in
+    let l = part .part-at .ensures in
+    let k = contents .contents .ensures in
     under-some (a .tag) qos l h k (qos-yes (contents-less l h k)
-    (c .before .before .before .before .before .before .before .octet-at .ensures) (c .before .before .before .before .before .before .octet-at2 .ensures)
-    (c .before .before .before .before .before .octet-at3 .ensures) (c .before .before .before .before .octet-at4 .ensures) (c .before .before .before .octet-at5 .ensures)
-    (rw (c .before .qos-ok .ensures) at (c .if1 .taken))) (hollow qos-hollow)
+    (reliability .octet-at .ensures) (delay .octet-at2 .ensures)
+    (precedence .octet-at3 .ensures) (peak .octet-at4 .ensures) (mean .octet-at5 .ensures)
+    (rw (ok .qos-ok .ensures) at (c .if1 .taken))) (hollow qos-hollow)
 
 no-qos-requires : tie.Need-no-qos-requires
 no-qos-requires c κs = search needs
 
 returns-2 : tie.Need-returns-2
 returns-2 c =
-    let a = c .before .before .before .before .before .before .before .before .before .before .before .before .args in
-    let h : length (a .s .now) < nowhere = omega (arith, c .before .before .before .before .before .before .before .before .before .before .before .before .good .0 .1) in
-    let l = c .before .before .before .before .before .before .before .before .before .before .part-at .ensures in
-    let k = c .before .before .before .before .before .before .before .before .before .contents .ensures in
+    let left = c .before in
+    let ok = left .before in
+    let mean = ok .before .before in
+    let peak = mean .before in
+    let precedence = peak .before in
+    let delay = precedence .before in
+    let reliability = delay .before in
+    let contents = reliability .before in
+    let part = contents .before in
+    let start = part .before .before in
+    let a = start .args in
+    let h : length (a .s .now) < nowhere = omega (arith, start .good .0 .1) in
+    let l = part .part-at .ensures in
+    let k = contents .contents .ensures in
     reads-as (c .no-qos .ensures) (under-none (a .tag) qos l h k (qos-no (contents-less l h k)
-    (c .before .before .before .before .before .before .before .before .octet-at .ensures) (c .before .before .before .before .before .before .before .octet-at2 .ensures)
-    (c .before .before .before .before .before .before .octet-at3 .ensures) (c .before .before .before .before .before .octet-at4 .ensures) (c .before .before .before .before .octet-at5 .ensures)
-    (rw (c .before .before .qos-ok .ensures) at (c .before .if1 .left))))
+    (reliability .octet-at .ensures) (delay .octet-at2 .ensures)
+    (precedence .octet-at3 .ensures) (peak .octet-at4 .ensures) (mean .octet-at5 .ensures)
+    (rw (ok .qos-ok .ensures) at (left .if1 .left))))
 
 pub qos-at-spec : {M : Type 1} → statement M
 qos-at-spec =
-    tie.close (tie.spec part-at-requires contents-requires octet-at-requires octet-at-requires-2 octet-at-requires-3 octet-at-requires-4 octet-at-requires-5 qos-ok-requires returns no-qos-requires returns-2)
+    tie.close
+    (tie.spec
+    part-at-requires
+    contents-requires
+    octet-at-requires
+    octet-at-requires-2
+    octet-at-requires-3
+    octet-at-requires-4
+    octet-at-requires-5
+    qos-ok-requires
+    returns
+    no-qos-requires
+    returns-2)

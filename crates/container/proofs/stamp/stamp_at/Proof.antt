@@ -27,13 +27,22 @@ enum-told c = search needs
 
 returns : tie.Need-returns
 returns c =
-    under-none (c .before .before .before .before .before .before .args .tag) stamp (c .before .before .before .before .part-at .ensures) (omega arith) (c .before .before .before .contents .ensures)
-    (time-none _ (sym (c .enum-told .given .1) ∙ c .before .before .stamp-of .ensures))
+    let time = c .before .before in
+    let contents = time .before in
+    let part = contents .before in
+    let start = part .before .before in
+    under-none (start .args .tag) stamp (part .part-at .ensures) (omega arith) (contents .contents .ensures)
+    (time-none _ (sym (c .enum-told .given .1) ∙ time .stamp-of .ensures))
 
 returns-2 : tie.Need-returns-2
 returns-2 c =
-    under-some (c .before .before .before .before .before .before .before .args .tag) stamp (c .before .before .before .before .before .part-at .ensures) (omega arith) (c .before .before .before .before .contents .ensures)
-    (time-some _ _ (sym (c .before .v .given .1) ∙ c .before .before .before .stamp-of .ensures)) (hollow (time-none _ (read-length [] (λ e. omega arith))))
+    let value = c .before in
+    let time = value .before .before in
+    let contents = time .before in
+    let part = contents .before in
+    let start = part .before .before in
+    under-some (start .args .tag) stamp (part .part-at .ensures) (omega arith) (contents .contents .ensures)
+    (time-some _ _ (sym (value .v .given .1) ∙ time .stamp-of .ensures)) (hollow (time-none _ (read-length [] (λ e. omega arith))))
 
 pub stamp-at-spec : {M : Type 1} → statement M
 stamp-at-spec =

@@ -17,7 +17,10 @@ no-record-requires c κs = search needs
 
 returns : tie.Need-returns
 returns c =
-    taken-nothing (c .before .before .before .before .before .args .s .now) (record-not (c .before .before .before .part-at .ensures) (omega arith) (c .before .if1 .taken)) (c .no-record .ensures)
+    let cut = c .before in
+    let part = cut .before .before in
+    let start = part .before .before in
+    taken-nothing (start .args .s .now) (record-not (part .part-at .ensures) (omega arith) (cut .if1 .taken)) (c .no-record .ensures)
 
 contents-requires : tie.Need-contents-requires
 contents-requires c κs = search needs
@@ -30,51 +33,77 @@ passes-requires c κs = search needs
 
 add-to : tie.Need-add-to
 add-to c =
-    let start = c .before .before .before .before .before .before .before .before .before .before .before .before in
-    let s = start .args .s .now in
-    let h : length s < nowhere = omega (arith, start .good .0) in
-    let l = c .before .before .before .before .before .before .before .before .before .before .part-at .ensures in
-    let k = c .before .before .before .before .before .before .before .contents .ensures in
-    let v = c .before .before .before .before .before .before .read-fields .ensures in
-    let asked = rw (c .before .before .before .before .passes .ensures) at (c .before .before .if2 .taken) in
-    let ends = wire-ends _ v asked in
-    omega (arith, record-inside l h k (omega arith) ends)
+    let asks = c .before .before in
+    let passes = asks .before .before in
+    let wire = passes .before .before in
+    let contents = wire .before in
+    let part = contents .before .before .before in
+    let start = part .before .before in
+    let h : length (start .args .s .now) < nowhere = omega (arith, start .good .0) in
+    let l = part .part-at .ensures in
+    let k = contents .contents .ensures in
+    let v = wire .read-fields .ensures in
+    omega (arith, record-inside l h k (omega arith) (wire-ends _ v (rw (passes .passes .ensures) at (asks .if2 .taken))))
 
 sub-t10 : tie.Need-sub-t10
 sub-t10 c =
-    let start = c .before .before .before .before .before .before .before .before .before .before .before .before .before in
-    let s = start .args .s .now in
-    let h : length s < nowhere = omega (arith, start .good .0) in
-    let l = c .before .before .before .before .before .before .before .before .before .before .before .part-at .ensures in
-    let k = c .before .before .before .before .before .before .before .before .contents .ensures in
-    let v = c .before .before .before .before .before .before .before .read-fields .ensures in
-    let asked = rw (c .before .before .before .before .before .passes .ensures) at (c .before .before .before .if2 .taken) in
-    let ends = wire-ends _ v asked in
-    omega (arith, ends .order)
+    let asks = c .before .before .before in
+    let passes = asks .before .before in
+    let wire = passes .before .before in
+    let contents = wire .before in
+    let part = contents .before .before .before in
+    let start = part .before .before in
+    let h : length (start .args .s .now) < nowhere = omega (arith, start .good .0) in
+    let l = part .part-at .ensures in
+    let k = contents .contents .ensures in
+    let v = wire .read-fields .ensures in
+    omega (arith, wire-ends _ v (rw (passes .passes .ensures) at (asks .if2 .taken)) .order)
 
 returns-2 : tie.Need-returns-2
 returns-2 c =
-    let start = c .before .before .before .before .before .before .before .before .before .before .before .before .before in
-    let s = start .args .s .now in
-    let h : length s < nowhere = omega (arith, start .good .0) in
-    let l = c .before .before .before .before .before .before .before .before .before .before .before .part-at .ensures in
-    let k = c .before .before .before .before .before .before .before .before .contents .ensures in
-    let v = c .before .before .before .before .before .before .before .read-fields .ensures in
-    let asked = rw (c .before .before .before .before .before .passes .ensures) at (c .before .before .before .if2 .taken) in
-    let ends = wire-ends _ v asked in
-    taken-record l h k (omega arith) ends (record-is l h k (omega arith) ∙ wire-yes _ v asked)
+    let asks = c .before .before .before in
+    let passes = asks .before .before in
+    let wire = passes .before .before in
+    let contents = wire .before in
+    let part = contents .before .before .before in
+    let start = part .before .before in
+    let h : length (start .args .s .now) < nowhere = omega (arith, start .good .0) in
+    let l = part .part-at .ensures in
+    let k = contents .contents .ensures in
+    let v = wire .read-fields .ensures in
+    let asked = rw (passes .passes .ensures) at (asks .if2 .taken) in
+    taken-record l h k (omega arith) (wire-ends _ v asked) (record-is l h k (omega arith) ∙ wire-yes _ v asked)
 
 no-record-requires-2 : tie.Need-no-record-requires-2
 no-record-requires-2 c κs = search needs
 
 returns-3 : tie.Need-returns-3
 returns-3 c =
-    let start = c .before .before .before .before .before .before .before .before .before .before .before in
+    let asks = c .before in
+    let passes = asks .before .before in
+    let wire = passes .before .before in
+    let contents = wire .before in
+    let part = contents .before .before .before in
+    let start = part .before .before in
     let h : length (start .args .s .now) < nowhere = omega (arith, start .good .0) in
-    let v = c .before .before .before .before .before .read-fields .ensures in
-    let asked = rw (c .before .before .before .passes .ensures) at (c .before .if2 .left) in
-    taken-nothing _ (record-is (c .before .before .before .before .before .before .before .before .before .part-at .ensures) h (c .before .before .before .before .before .before .contents .ensures) (omega arith) ∙ wire-no _ v asked) (c .no-record2 .ensures)
+    let l = part .part-at .ensures in
+    let k = contents .contents .ensures in
+    let v = wire .read-fields .ensures in
+    let asked = rw (passes .passes .ensures) at (asks .if2 .left) in
+    taken-nothing (start .args .s .now) (record-is l h k (omega arith) ∙ wire-no _ v asked) (c .no-record2 .ensures)
 
 pub take-apart-spec : {M : Type 1} → statement M
 take-apart-spec =
-    tie.close (tie.spec part-at-requires no-record-requires returns contents-requires read-fields-requires passes-requires add-to sub-t10 returns-2 no-record-requires-2 returns-3)
+    tie.close
+    (tie.spec
+    part-at-requires
+    no-record-requires
+    returns
+    contents-requires
+    read-fields-requires
+    passes-requires
+    add-to
+    sub-t10
+    returns-2
+    no-record-requires-2
+    returns-3)
