@@ -3,7 +3,8 @@ use mathlib.Core.Path.{_≡_, sym, _∙_}
 use mathlib.Core.Option.{Option}
 use mathlib.Core.List.{List}
 use Prim.Native.Nat.{ℕ}
-use Rattle.ber.specs.Read.{Reads, Lies}
+use denote.Ref.{RefT, ptr, now}
+use Rattle.ber.specs.Read.{Reads, Lies, Lends}
 use Rattle.ber.specs.Write.{Puts, Holds}
 use Rattle.ber.specs.Text.{Copies}
 
@@ -28,3 +29,8 @@ copies-fixes a b = a .is ∙ sym (b .is)
 -- where the contents begin, and the place after them
 pub lies-fixes : {s : List ℕ} {at t a b m n : ℕ} → Lies s at t a m → Lies s at t b n → _≡_ {A = ℕ × ℕ} (a, m) (b, n)
 lies-fixes a b = a .is ∙ sym (b .is)
+
+-- where the contents that are lent begin, and their octets: with its pointer and its length a part is fixed. (The third component of a reference in the
+-- logic is the name under which a proof tracks it: no program sees it.)
+pub lends-fixes : {s p q : RefT (List ℕ)} {from next : ℕ} → Lends s p from next → Lends s q from next → (ptr p ≡ ptr q) × (now p ≡ now q)
+lends-fixes a b = (a .place ∙ sym (b .place), a .octets ∙ sym (b .octets))

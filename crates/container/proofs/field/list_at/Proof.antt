@@ -19,7 +19,7 @@ returns c =
     let list = c .before .before in
     let contents = list .before in
     let part = contents .before in
-    lists-there (part .part-at .ensures) (omega arith) (contents .contents .ensures) (list .list-of .ensures) (c .if1 .taken)
+    lists-there (part .part-at .ensures) (omega arith) (contents .contents .ensures .octets) (list .list-of .ensures) (c .if1 .taken)
 
 no-list-requires : tie.Need-no-list-requires
 no-list-requires c κs = search needs
@@ -31,7 +31,7 @@ returns-2 c =
     let contents = list .before in
     let part = contents .before in
     lists-none (c .no-list .ensures)
-    (lists-bad (part .part-at .ensures) (omega arith) (contents .contents .ensures) (list .list-of .ensures) (none .if1 .left))
+    (lists-bad (part .part-at .ensures) (omega arith) (contents .contents .ensures .octets) (list .list-of .ensures) (none .if1 .left))
 
 pub list-at-spec : {M : Type 1} → statement M
 list-at-spec =

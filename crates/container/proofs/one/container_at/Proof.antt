@@ -49,7 +49,7 @@ returns c =
     let a = start .args in
     let h : length (a .s .now) < nowhere = omega (arith, start .good .0 .1) in
     let l = part .part-at .ensures in
-    let k = contents .contents .ensures in
+    let k = contents .contents .ensures .octets in
     under-some containerTag (container (a .last)) l h k (container-yes (a .last) (contents-less l h k)
     (profile .qos-after .ensures) (uplink .int-at .ensures)
     (downlink .int-at2 .ensures) (condition .octet-at .ensures) (time .stamp-at .ensures)
@@ -73,7 +73,7 @@ returns-2 c =
     let a = start .args in
     let h : length (a .s .now) < nowhere = omega (arith, start .good .0 .1) in
     let l = part .part-at .ensures in
-    let k = contents .contents .ensures in
+    let k = contents .contents .ensures .octets in
     reads-as (c .no-container .ensures) (under-none containerTag (container (a .last)) l h k (container-no (a .last) (contents-less l h k)
     (profile .qos-after .ensures) (uplink .int-at .ensures)
     (downlink .int-at2 .ensures) (condition .octet-at .ensures) (time .stamp-at .ensures)

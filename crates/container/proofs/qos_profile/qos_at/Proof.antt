@@ -49,7 +49,7 @@ returns c =
     let a = start .args in
     let h : length (a .s .now) < nowhere = omega (arith, start .good .0 .1) in
     let l = part .part-at .ensures in
-    let k = contents .contents .ensures in
+    let k = contents .contents .ensures .octets in
     under-some (a .tag) qos l h k (qos-yes (contents-less l h k)
     (reliability .octet-at .ensures) (delay .octet-at2 .ensures)
     (precedence .octet-at3 .ensures) (peak .octet-at4 .ensures) (mean .octet-at5 .ensures)
@@ -73,7 +73,7 @@ returns-2 c =
     let a = start .args in
     let h : length (a .s .now) < nowhere = omega (arith, start .good .0 .1) in
     let l = part .part-at .ensures in
-    let k = contents .contents .ensures in
+    let k = contents .contents .ensures .octets in
     reads-as (c .no-qos .ensures) (under-none (a .tag) qos l h k (qos-no (contents-less l h k)
     (reliability .octet-at .ensures) (delay .octet-at2 .ensures)
     (precedence .octet-at3 .ensures) (peak .octet-at4 .ensures) (mean .octet-at5 .ensures)

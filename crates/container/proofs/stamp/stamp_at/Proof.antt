@@ -31,7 +31,7 @@ returns c =
     let contents = time .before in
     let part = contents .before in
     let start = part .before .before in
-    under-none (start .args .tag) stamp (part .part-at .ensures) (omega arith) (contents .contents .ensures)
+    under-none (start .args .tag) stamp (part .part-at .ensures) (omega arith) (contents .contents .ensures .octets)
     (time-none _ (sym (c .enum-told .given .1) ∙ time .stamp-of .ensures))
 
 returns-2 : tie.Need-returns-2
@@ -41,7 +41,7 @@ returns-2 c =
     let contents = time .before in
     let part = contents .before in
     let start = part .before .before in
-    under-some (start .args .tag) stamp (part .part-at .ensures) (omega arith) (contents .contents .ensures)
+    under-some (start .args .tag) stamp (part .part-at .ensures) (omega arith) (contents .contents .ensures .octets)
     (time-some _ _ (sym (value .v .given .1) ∙ time .stamp-of .ensures)) (hollow (time-none _ (read-length [] (λ e. omega arith))))
 
 pub stamp-at-spec : {M : Type 1} → statement M

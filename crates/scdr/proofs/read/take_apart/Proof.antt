@@ -41,7 +41,7 @@ add-to c =
     let start = part .before .before in
     let h : length (start .args .s .now) < nowhere = omega (arith, start .good .0) in
     let l = part .part-at .ensures in
-    let k = contents .contents .ensures in
+    let k = contents .contents .ensures .octets in
     let v = wire .read-fields .ensures in
     omega (arith, record-inside l h k (omega arith) (wire-ends _ v (rw (passes .passes .ensures) at (asks .if2 .taken))))
 
@@ -55,7 +55,7 @@ sub-t10 c =
     let start = part .before .before in
     let h : length (start .args .s .now) < nowhere = omega (arith, start .good .0) in
     let l = part .part-at .ensures in
-    let k = contents .contents .ensures in
+    let k = contents .contents .ensures .octets in
     let v = wire .read-fields .ensures in
     omega (arith, wire-ends _ v (rw (passes .passes .ensures) at (asks .if2 .taken)) .order)
 
@@ -69,7 +69,7 @@ returns-2 c =
     let start = part .before .before in
     let h : length (start .args .s .now) < nowhere = omega (arith, start .good .0) in
     let l = part .part-at .ensures in
-    let k = contents .contents .ensures in
+    let k = contents .contents .ensures .octets in
     let v = wire .read-fields .ensures in
     let asked = rw (passes .passes .ensures) at (asks .if2 .taken) in
     taken-record l h k (omega arith) (wire-ends _ v asked) (record-is l h k (omega arith) ∙ wire-yes _ v asked)
@@ -87,7 +87,7 @@ returns-3 c =
     let start = part .before .before in
     let h : length (start .args .s .now) < nowhere = omega (arith, start .good .0) in
     let l = part .part-at .ensures in
-    let k = contents .contents .ensures in
+    let k = contents .contents .ensures .octets in
     let v = wire .read-fields .ensures in
     let asked = rw (passes .passes .ensures) at (asks .if2 .left) in
     taken-nothing (start .args .s .now) (record-is l h k (omega arith) ∙ wire-no _ v asked) (c .no-record2 .ensures)
