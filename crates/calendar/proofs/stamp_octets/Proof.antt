@@ -15,9 +15,6 @@ use Rattle.calendar.proofs.stamp_octets.Tie as tie
 inside : (c : tie.Else1) → stampOk (c .before .before .args .t) ≡ true
 inside c = sym (c .before .stamp-within .ensures) ∙ not-false _ (c .if1 .left)
 
-stamp-within-requires : tie.Need-stamp-within-requires
-stamp-within-requires c κs = search needs
-
 returns : tie.Need-returns
 returns c = stamped-no (c .before .before .args .t) (sym (c .before .stamp-within .ensures) ∙ not-true _ (c .if1 .taken))
 
@@ -38,4 +35,4 @@ returns-2 c =
     stamped-yes t (inside e) (form-of t (d .month) (d .place) refl (c .octets-of .ensures))
 
 pub stamp-octets-spec : {M : Type 1} → statement M
-stamp-octets-spec = tie.close (tie.spec stamp-within-requires returns date-of-requires octets-of-requires returns-2)
+stamp-octets-spec = tie.close (tie.spec (search needs) returns date-of-requires octets-of-requires returns-2)

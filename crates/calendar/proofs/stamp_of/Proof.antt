@@ -30,29 +30,8 @@ use Rattle.calendar.proofs.stamp_of.Tie as tie
 returns : tie.Need-returns
 returns c = read-length (c .before .before .args .s .now) (c .if1 .taken)
 
-shared-slice-read-month-named : tie.Need-shared-slice-read-month-named
-shared-slice-read-month-named c = search needs
-
-shared-slice-read-month-named-2 : tie.Need-shared-slice-read-month-named-2
-shared-slice-read-month-named-2 c = search needs
-
-month-named-requires : tie.Need-month-named-requires
-month-named-requires c κs = search needs
-
 returns-2 : tie.Need-returns-2
 returns-2 c = read-late (c .before .before .before .before .before .before .args .s .now) (omega arith)
-
-days-of-requires : tie.Need-days-of-requires
-days-of-requires c κs = search needs
-
-shared-slice-read-of-bcd : tie.Need-shared-slice-read-of-bcd
-shared-slice-read-of-bcd c = search needs
-
-of-bcd-requires : tie.Need-of-bcd-requires
-of-bcd-requires c κs = search needs
-
-less-one-requires : tie.Need-less-one-requires
-less-one-requires c κs = search needs
 
 -- where the day's octet has been read: the octets, and the place that it names
 abbrev read : tie.After-less-one → List ℕ
@@ -67,44 +46,8 @@ returns-3 c =
     let d = l .before .before .before in
     read-day (read l) (d .before .before .month-named .ensures .same) (d .days-of .ensures .count) (place l) (omega arith)
 
-shared-slice-read-second-of : tie.Need-shared-slice-read-second-of
-shared-slice-read-second-of c = search needs
-
-shared-slice-read-second-of-2 : tie.Need-shared-slice-read-second-of-2
-shared-slice-read-second-of-2 c = search needs
-
-shared-slice-read-second-of-3 : tie.Need-shared-slice-read-second-of-3
-shared-slice-read-second-of-3 c = search needs
-
-second-of-requires : tie.Need-second-of-requires
-second-of-requires c κs = search needs
-
 returns-4 : tie.Need-returns-4
 returns-4 c = read-clock (read (c .before .before .before .before .before .before .before)) (c .before .second-of .ensures .same) (c .if4 .taken)
-
-add-t14 : tie.Need-add-t14
-add-t14 c = search needs
-
-mul-t20 : tie.Need-mul-t20
-mul-t20 c = search needs
-
-add-t21 : tie.Need-add-t21
-add-t21 c = search needs
-
-shared-slice-read-zone-of : tie.Need-shared-slice-read-zone-of
-shared-slice-read-zone-of c = search needs
-
-shared-slice-read-zone-of-2 : tie.Need-shared-slice-read-zone-of-2
-shared-slice-read-zone-of-2 c = search needs
-
-shared-slice-read-zone-of-3 : tie.Need-shared-slice-read-zone-of-3
-shared-slice-read-zone-of-3 c = search needs
-
-zone-of-requires : tie.Need-zone-of-requires
-zone-of-requires c κs = search needs
-
-stamp-within-requires : tie.Need-stamp-within-requires
-stamp-within-requires c κs = search needs
 
 -- where all of them have been read: the place of the day's, of the clock's, and the month's days; the octets, and the time
 abbrev less : tie.After-zone-of → tie.After-less-one
@@ -165,12 +108,6 @@ form c =
     (omega arith)
     (c .octets-of .ensures)
 
-slice-aggregate-same : tie.Need-slice-aggregate-same
-slice-aggregate-same c = search needs
-
-same-requires : tie.Need-same-requires
-same-requires c κs = search needs
-
 true-not-false : true ≡ false → ⊥
 true-not-false e = subst T e tt
 
@@ -189,33 +126,7 @@ returns-7 c =
 pub stamp-of-spec : {M : Type 1} → statement M
 stamp-of-spec =
     tie.close
-    (tie.spec
-    returns
-    shared-slice-read-month-named
-    shared-slice-read-month-named-2
-    month-named-requires
-    returns-2
-    days-of-requires
-    shared-slice-read-of-bcd
-    of-bcd-requires
-    less-one-requires
-    returns-3
-    shared-slice-read-second-of
-    shared-slice-read-second-of-2
-    shared-slice-read-second-of-3
-    second-of-requires
-    returns-4
-    add-t14
-    mul-t20
-    add-t21
-    shared-slice-read-zone-of
-    shared-slice-read-zone-of-2
-    shared-slice-read-zone-of-3
-    zone-of-requires
-    stamp-within-requires
-    returns-5
-    octets-of-requires
-    slice-aggregate-same
-    same-requires
-    returns-6
-    returns-7)
+    (tie.spec returns (search needs) (search needs) (search needs) returns-2 (search needs) (search needs)
+    (search needs) (search needs) returns-3 (search needs) (search needs) (search needs) (search needs) returns-4
+    (search needs) (search needs) (search needs) (search needs) (search needs) (search needs) (search needs)
+    (search needs) returns-5 octets-of-requires (search needs) (search needs) returns-6 returns-7)

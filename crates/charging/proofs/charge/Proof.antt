@@ -64,12 +64,6 @@ is-ready-requires c κs = tt
 sub-next-length : tie.Need-sub-next-length Inv-loop μ-loop
 sub-next-length c = c .before .before .loop .inv .within
 
-part-next-length-start : tie.Need-part-next-length-start Inv-loop μ-loop
-part-next-length-start c = search needs
-
-part-next-length-end : tie.Need-part-next-length-end Inv-loop μ-loop
-part-next-length-end c = search needs
-
 next-length-requires : tie.Need-next-length-requires Inv-loop μ-loop
 next-length-requires c κs = tt
 
@@ -82,17 +76,11 @@ add-full c = let w = wide c in search needs
 sub-step : tie.Need-sub-step Inv-loop μ-loop
 sub-step c = omega arith
 
-part-step-start : tie.Need-part-step-start Inv-loop μ-loop
-part-step-start c = search needs
-
 part-step-end : tie.Need-part-step-end Inv-loop μ-loop
 part-step-end c = let l = lies c in search needs
 
 sub-step-2 : tie.Need-sub-step-2 Inv-loop μ-loop
 sub-step-2 c = omega arith
-
-part-step-start-2 : tie.Need-part-step-start-2 Inv-loop μ-loop
-part-step-start-2 c = search needs
 
 part-step-end-2 : tie.Need-part-step-end-2 Inv-loop μ-loop
 part-step-end-2 c = let w = wide (c .before) in search needs
@@ -148,31 +136,7 @@ returns-2 c = going-end (c .before .before .loop .inv) (sym (c .before .is-ready
 pub charge-spec : {M : Type 1} → statement M
 charge-spec =
     tie.close
-    (tie.spec
-    Inv-loop
-    μ-loop
-    loop-holds
-    sub-is-ready
-    sub-is-ready-2
-    is-ready-requires
-    sub-next-length
-    part-next-length-start
-    part-next-length-end
-    next-length-requires
-    add-end
-    add-full
-    sub-step
-    part-step-start
-    part-step-end
-    sub-step-2
-    part-step-start-2
-    part-step-end-2
-    step-requires
-    same-length
-    returns
-    add-events
-    add-written
-    loop-less
-    loop-again
-    same-length-2
-    returns-2)
+    (tie.spec Inv-loop μ-loop loop-holds sub-is-ready sub-is-ready-2 is-ready-requires sub-next-length (search needs)
+    (search needs) next-length-requires add-end add-full sub-step (search needs) part-step-end sub-step-2
+    (search needs) part-step-end-2 step-requires same-length returns add-events add-written loop-less loop-again
+    same-length-2 returns-2)

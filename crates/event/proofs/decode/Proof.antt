@@ -10,16 +10,10 @@ use Rattle.event.proofs.decode.Tie as tie
 returns : tie.Need-returns
 returns c = let s = c .before .before .args .s .now in refused-is s (row-1 s (c .if1 .taken)) (λ z. omega arith)
 
-is-marked-requires : tie.Need-is-marked-requires
-is-marked-requires c κs = search needs
-
 returns-2 : tie.Need-returns-2
 returns-2 c =
     let s = c .before .before .before .before .args .s .now in
     refused-is s (row-2 s (c .before .before .if1 .left) (fails (c .before .is-marked .ensures) (c .if2 .taken))) (λ z. omega arith)
-
-entry-of-requires : tie.Need-entry-of-requires
-entry-of-requires c κs = search needs
 
 returns-3 : tie.Need-returns-3
 returns-3 c =
@@ -48,9 +42,6 @@ returns-5 c =
     let l = holds (entry-long s e) (c .before .if4 .left) in
     refused-is s (row-5 s (b .before .before .before .if1 .left) m k l (fails (entry-right s e) (c .if5 .taken))) (λ z. omega arith)
 
-four-requires : tie.Need-four-requires
-four-requires c κs = search needs
-
 returns-6 : tie.Need-returns-6
 returns-6 c =
     let b = c .before .before .before .before .before .before in
@@ -65,4 +56,4 @@ returns-6 c =
 pub decode-spec : {M : Type 1} → statement M
 decode-spec =
     tie.close
-    (tie.spec returns is-marked-requires returns-2 entry-of-requires returns-3 returns-4 returns-5 four-requires returns-6)
+    (tie.spec returns (search needs) returns-2 (search needs) returns-3 returns-4 returns-5 (search needs) returns-6)

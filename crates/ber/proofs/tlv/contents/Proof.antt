@@ -19,15 +19,6 @@ returns : tie.Need-returns
 unfolding contentsOf
 returns c = let e = c .before .if1 .taken in record { place = rw e; octets = rw e }
 
-sub-result-2 : tie.Need-sub-result-2
-sub-result-2 c = search needs
-
-part-result-start-2 : tie.Need-part-result-start-2
-part-result-start-2 c = search needs
-
-part-result-end-2 : tie.Need-part-result-end-2
-part-result-end-2 c = search needs
-
 returns-2 : tie.Need-returns-2
 unfolding contentsOf
 returns-2 c = let e = c .before .if1 .left in record { place = rw e; octets = rw e }
@@ -35,4 +26,5 @@ returns-2 c = let e = c .before .if1 .left in record { place = rw e; octets = rw
 pub contents-spec : {M : Type 1} → statement M
 contents-spec =
     tie.close
-    (tie.spec sub-result part-result-start part-result-end returns sub-result-2 part-result-start-2 part-result-end-2 returns-2)
+    (tie.spec sub-result part-result-start part-result-end returns (search needs) (search needs) (search needs)
+    returns-2)

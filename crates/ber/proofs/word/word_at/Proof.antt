@@ -11,12 +11,6 @@ use Rattle.ber.proofs.Readers.{test-yes, test-no}
 use Rattle.ber.proofs.word.word_at.Statement.{statement}
 use Rattle.ber.proofs.word.word_at.Tie as tie
 
-int-at-requires : tie.Need-int-at-requires
-int-at-requires c κs = search needs
-
-cast-t7 : tie.Need-cast-t7
-cast-t7 c = search needs
-
 returns : tie.Need-returns
 returns c =
     test-yes (c .before .before .before .args .tag) int (refined (λ n. ltb n (2 ^ 32)) int) (λ n. ltb n (2 ^ 32)) (λ n. n) (λ z. refl) (omega arith)
@@ -30,4 +24,4 @@ returns-2 c =
     (le-ltb (c .before .int-at .result .v) (2 ^ 32) (c .if1 .left))
 
 pub word-at-spec : {M : Type 1} → statement M
-word-at-spec = tie.close (tie.spec int-at-requires cast-t7 returns returns-2)
+word-at-spec = tie.close (tie.spec (search needs) (search needs) returns returns-2)

@@ -8,20 +8,8 @@ use Rattle.calendar.proofs.Months.{lies, dated}
 use Rattle.calendar.proofs.month.date_of.Statement.{statement}
 use Rattle.calendar.proofs.month.date_of.Tie as tie
 
-years-requires : tie.Need-years-requires
-years-requires c κs = search needs
-
 place-of-requires : tie.Need-place-of-requires
 place-of-requires c κs = search needs
-
-mul-t7 : tie.Need-mul-t7
-mul-t7 c = search needs
-
-add-t8 : tie.Need-add-t8
-add-t8 c = search needs
-
-day-in-requires : tie.Need-day-in-requires
-day-in-requires c κs = search needs
 
 -- what the row has at the place is where the month begins
 begins : (c : tie.After-day-in) → c .day-in .result ≡ firstDay
@@ -38,4 +26,6 @@ returns : tie.Need-returns
 returns c = dated (c .before .before .before .before .before .args .day) _ _ (search needs) (c .before .before .place-of .ensures .month) (begins c)
 
 pub date-of-spec : {M : Type 1} → statement M
-date-of-spec = tie.close (tie.spec years-requires place-of-requires mul-t7 add-t8 day-in-requires sub-t11 returns)
+date-of-spec =
+    tie.close
+    (tie.spec (search needs) place-of-requires (search needs) (search needs) (search needs) sub-t11 returns)

@@ -8,12 +8,6 @@ use Rattle.calendar.proofs.Months.{row-at, row-next, december, lasts}
 use Rattle.calendar.proofs.month.days_of.Statement.{statement}
 use Rattle.calendar.proofs.month.days_of.Tie as tie
 
-years-requires : tie.Need-years-requires
-years-requires c κs = search needs
-
-day-in-requires : tie.Need-day-in-requires
-day-in-requires c κs = search needs
-
 -- where the month's entry has been read: the month
 abbrev month : tie.After-day-in → ℕ
 month c = c .before .before .before .args .month
@@ -32,12 +26,6 @@ returns c =
     let k = month (c .before) in
     lasts k _ _ (search needs) (starts (c .before)) (sym (december k (omega arith)))
 
-add-day-in : tie.Need-add-day-in
-add-day-in c = search needs
-
-day-in-requires-2 : tie.Need-day-in-requires-2
-day-in-requires-2 c κs = search needs
-
 sub-t11 : tie.Need-sub-t11
 sub-t11 c = omega (arith, follows c, starts (c .before .before .before))
 
@@ -49,11 +37,4 @@ returns-2 c =
 pub days-of-spec : {M : Type 1} → statement M
 days-of-spec =
     tie.close
-    (tie.spec
-    years-requires
-    day-in-requires
-    returns
-    add-day-in
-    day-in-requires-2
-    sub-t11
-    returns-2)
+    (tie.spec (search needs) (search needs) returns (search needs) (search needs) sub-t11 returns-2)

@@ -15,9 +15,6 @@ Inv-loop row day month₀ month = (month ≤ 47) × (firstDay (day / 1461 * 48 +
 abbrev μ-loop : tie.MeasureT-loop
 μ-loop row day month₀ month = 47 - month
 
-day-in-requires : tie.Need-day-in-requires Inv-loop μ-loop
-day-in-requires c κs = search needs
-
 sub-month : tie.Need-sub-month Inv-loop μ-loop
 sub-month c =
     let s = c .before in
@@ -30,23 +27,11 @@ loop-holds c =
     let e = row-first d (search needs) (s .pre .0) in
     omega (arith, early d ((d - c .day-in .result) / 31) (search needs) (omega arith))
 
-add-day-in : tie.Need-add-day-in Inv-loop μ-loop
-add-day-in c = search needs
-
-day-in-requires-2 : tie.Need-day-in-requires-2 Inv-loop μ-loop
-day-in-requires-2 c κs = search needs
-
 returns : tie.Need-returns Inv-loop μ-loop
 returns c =
     let s = c .before .before .before .before .before in
     let i = c .before .before .before .loop .month in
     placed (s .args .day) i (search needs) (omega arith) (omega arith) (omega (arith, s .pre .0 .begins (i + 1) (omega arith)))
-
-add-month : tie.Need-add-month Inv-loop μ-loop
-add-month c = search needs
-
-loop-less : tie.Need-loop-less Inv-loop μ-loop
-loop-less c = search needs
 
 loop-again : tie.Need-loop-again Inv-loop μ-loop
 loop-again c =
@@ -64,16 +49,5 @@ returns-2 c =
 pub place-of-spec : {M : Type 1} → statement M
 place-of-spec =
     tie.close
-    (tie.spec
-    Inv-loop
-    μ-loop
-    day-in-requires
-    sub-month
-    loop-holds
-    add-day-in
-    day-in-requires-2
-    returns
-    add-month
-    loop-less
-    loop-again
-    returns-2)
+    (tie.spec Inv-loop μ-loop (search needs) sub-month loop-holds (search needs) (search needs) returns (search needs)
+    (search needs) loop-again returns-2)

@@ -5,17 +5,11 @@ use borrow.Author.Needs.{needs}
 use Rattle.calendar.proofs.zone.away_of.Statement.{statement}
 use Rattle.calendar.proofs.zone.away_of.Tie as tie
 
-sub-result : tie.Need-sub-result
-sub-result c = search needs
-
 returns : tie.Need-returns
 returns c = simp (le-ltb (c .before .args .zone) 720 (omega arith))
-
-sub-result-2 : tie.Need-sub-result-2
-sub-result-2 c = search needs
 
 returns-2 : tie.Need-returns-2
 returns-2 c = simp (lt-ltb (c .before .args .zone) 720 (omega arith))
 
 pub away-of-spec : {M : Type 1} → statement M
-away-of-spec = tie.close (tie.spec sub-result returns sub-result-2 returns-2)
+away-of-spec = tie.close (tie.spec (search needs) returns (search needs) returns-2)

@@ -5,24 +5,12 @@ use Rattle.container.proofs.Listings.{lists-none, lists-there, lists-ba
 use Rattle.container.proofs.field.list_at.Statement.{statement}
 use Rattle.container.proofs.field.list_at.Tie as tie
 
-part-at-requires : tie.Need-part-at-requires
-part-at-requires c κs = search needs
-
-contents-requires : tie.Need-contents-requires
-contents-requires c κs = search needs
-
-list-of-requires : tie.Need-list-of-requires
-list-of-requires c κs = search needs
-
 returns : tie.Need-returns
 returns c =
     let list = c .before .before in
     let contents = list .before in
     let part = contents .before in
     lists-there (part .part-at .ensures) (omega arith) (contents .contents .ensures .octets) (list .list-of .ensures) (c .if1 .taken)
-
-no-list-requires : tie.Need-no-list-requires
-no-list-requires c κs = search needs
 
 returns-2 : tie.Need-returns-2
 returns-2 c =
@@ -34,5 +22,4 @@ returns-2 c =
     (lists-bad (part .part-at .ensures) (omega arith) (contents .contents .ensures .octets) (list .list-of .ensures) (none .if1 .left))
 
 pub list-at-spec : {M : Type 1} → statement M
-list-at-spec =
-    tie.close (tie.spec part-at-requires contents-requires list-of-requires returns no-list-requires returns-2)
+list-at-spec = tie.close (tie.spec (search needs) (search needs) (search needs) returns (search needs) returns-2)

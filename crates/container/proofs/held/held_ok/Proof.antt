@@ -20,30 +20,15 @@ long c = search needs
 loop-holds : tie.Need-loop-holds Inv-loop μ-loop
 loop-holds c = held-all (long c)
 
-sub-c : tie.Need-sub-c Inv-loop μ-loop
-sub-c c = search needs
-
-mul-c : tie.Need-mul-c Inv-loop μ-loop
-mul-c c = search needs
-
 array-copy-out-c : tie.Need-array-copy-out-c Inv-loop μ-loop
 array-copy-out-c c =
     let l = long (c .before .before) in
     omega (arith, c .before .loop .inv .most)
 
-look-requires : tie.Need-look-requires Inv-loop μ-loop
-look-requires c κs = search needs
-
 returns : tie.Need-returns Inv-loop μ-loop
 returns c =
     let t = c .before .before in
     held-no (t .before .before .before .loop .inv) _ (t .before .before .loop-test .taken) (t .look .ensures) (c .if1 .taken)
-
-sub-i : tie.Need-sub-i Inv-loop μ-loop
-sub-i c = search needs
-
-loop-less : tie.Need-loop-less Inv-loop μ-loop
-loop-less c = search needs
 
 loop-again : tie.Need-loop-again Inv-loop μ-loop
 loop-again c =
@@ -56,16 +41,5 @@ returns-2 c = held-end (c .before .before .before .loop .inv) (c .before .before
 pub held-ok-spec : {M : Type 1} → statement M
 held-ok-spec =
     tie.close
-    (tie.spec
-    Inv-loop
-    μ-loop
-    loop-holds
-    sub-c
-    mul-c
-    array-copy-out-c
-    look-requires
-    returns
-    sub-i
-    loop-less
-    loop-again
-    returns-2)
+    (tie.spec Inv-loop μ-loop loop-holds (search needs) (search needs) array-copy-out-c (search needs) returns
+    (search needs) (search needs) loop-again returns-2)

@@ -26,24 +26,6 @@ returns c =
     let l = long s in
     left-end (c .before .before .loop .inv) (omega (arith, length-take (s .args .n) (s .args .t1)))
 
-mul-c : tie.Need-mul-c Inv-loop μ-loop
-mul-c c = search needs
-
-array-copy-out-c : tie.Need-array-copy-out-c Inv-loop μ-loop
-array-copy-out-c c = search needs
-
-rest-of-requires : tie.Need-rest-of-requires Inv-loop μ-loop
-rest-of-requires c κs = search needs
-
-rest-of-requires-2 : tie.Need-rest-of-requires-2 Inv-loop μ-loop
-rest-of-requires-2 c κs = search needs
-
-add-i : tie.Need-add-i Inv-loop μ-loop
-add-i c = search needs
-
-loop-less : tie.Need-loop-less Inv-loop μ-loop
-loop-less c = search needs
-
 loop-again : tie.Need-loop-again Inv-loop μ-loop
 loop-again c =
     let t = c .before .before .before .before in
@@ -60,16 +42,5 @@ returns-2 c =
 pub left-after-spec : {M : Type 1} → statement M
 left-after-spec =
     tie.close
-    (tie.spec
-    Inv-loop
-    μ-loop
-    loop-holds
-    returns
-    mul-c
-    array-copy-out-c
-    rest-of-requires
-    rest-of-requires-2
-    add-i
-    loop-less
-    loop-again
-    returns-2)
+    (tie.spec Inv-loop μ-loop loop-holds returns (search needs) (search needs) (search needs) (search needs)
+    (search needs) (search needs) loop-again returns-2)

@@ -4,15 +4,6 @@ use Rattle.container.specs.Private.Stepwise.{looked}
 use Rattle.container.proofs.held.look.Statement.{statement}
 use Rattle.container.proofs.held.look.Tie as tie
 
-precedes-requires : tie.Need-precedes-requires
-precedes-requires c κs = search needs
-
-rest-of-requires : tie.Need-rest-of-requires
-rest-of-requires c κs = search needs
-
-rest-of-requires-2 : tie.Need-rest-of-requires-2
-rest-of-requires-2 c κs = search needs
-
 returns : tie.Need-returns
 unfolding looked
 returns c =
@@ -23,20 +14,9 @@ returns c =
       c .before .before .rest-of .ensures,
     )
 
-is-blank-requires : tie.Need-is-blank-requires
-is-blank-requires c κs = search needs
-
 returns-2 : tie.Need-returns-2
 unfolding looked
 returns-2 c = rw (c .before .if1 .left, c .is-blank .ensures)
 
 pub look-spec : {M : Type 1} → statement M
-look-spec =
-    tie.close
-    (tie.spec
-    precedes-requires
-    rest-of-requires
-    rest-of-requires-2
-    returns
-    is-blank-requires
-    returns-2)
+look-spec = tie.close (tie.spec (search needs) (search needs) (search needs) returns (search needs) returns-2)

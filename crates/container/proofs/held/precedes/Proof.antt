@@ -7,12 +7,6 @@ use Rattle.container.specs.Private.Stepwise.{precedes}
 use Rattle.container.proofs.held.precedes.Statement.{statement}
 use Rattle.container.proofs.held.precedes.Tie as tie
 
-container-ok-requires : tie.Need-container-ok-requires
-container-ok-requires c κs = search needs
-
-changes-requires : tie.Need-changes-requires
-changes-requires c κs = search needs
-
 returns : tie.Need-returns
 unfolding precedes
 returns c =
@@ -21,4 +15,4 @@ returns c =
     (c .before .before .before .before .container-ok .ensures) (c .before .before .before .changes .ensures)
 
 pub precedes-spec : {M : Type 1} → statement M
-precedes-spec = tie.close (tie.spec container-ok-requires changes-requires returns)
+precedes-spec = tie.close (tie.spec (search needs) (search needs) returns)

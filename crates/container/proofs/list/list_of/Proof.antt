@@ -17,36 +17,15 @@ Inv-loop s v₀ n₀ at₀ last₀ v n at last = SoFar s v n at last
 abbrev μ-loop : tie.MeasureT-loop
 μ-loop s v₀ n₀ at₀ last₀ v n at last = 15 - n
 
-no-container-requires : tie.Need-no-container-requires Inv-loop μ-loop
-no-container-requires c κs = search needs
-
 loop-holds : tie.Need-loop-holds Inv-loop μ-loop
 unfolding noContainers
 loop-holds c = sofar-none (c .before .before .args .s .now) _ _ refl (rw (c .no-container .ensures)) (c .no-container .ensures)
-
-no-list-requires : tie.Need-no-list-requires Inv-loop μ-loop
-no-list-requires c κs = search needs
 
 returns : tie.Need-returns Inv-loop μ-loop
 returns c =
     let s = c .before .before .before .before .before .before .args .s .now in
     listed-none s (list-long s (c .before .before .before .loop .inv) (c .before .before .loop-test .taken) (omega (arith, c .before .if1 .taken)))
     (c .no-list .ensures)
-
-container-at-requires : tie.Need-container-at-requires Inv-loop μ-loop
-container-at-requires c κs = search needs
-
-mul-v : tie.Need-mul-v Inv-loop μ-loop
-mul-v c = search needs
-
-array-set-from-v : tie.Need-array-set-from-v Inv-loop μ-loop
-array-set-from-v c = search needs
-
-add-n : tie.Need-add-n Inv-loop μ-loop
-add-n c = search needs
-
-loop-less : tie.Need-loop-less Inv-loop μ-loop
-loop-less c = search needs
 
 loop-again : tie.Need-loop-again Inv-loop μ-loop
 loop-again c =
@@ -56,17 +35,11 @@ loop-again c =
     (got (first-leaves containerTag (container (l .last))) (omega (arith, c .before .before .before .before .before .before .before .good .0 .1))
     (c .before .container-at .ensures))
 
-no-list-requires-2 : tie.Need-no-list-requires-2 Inv-loop μ-loop
-no-list-requires-2 c κs = search needs
-
 returns-2 : tie.Need-returns-2 Inv-loop μ-loop
 returns-2 c =
     let s = c .before .before .before .before .before .before .args .s .now in
     listed-none s (list-cut s (c .before .before .before .loop .inv) (omega (arith, c .before .before .loop-test .left, c .before .if2 .taken)))
     (c .no-list2 .ensures)
-
-no-list-requires-3 : tie.Need-no-list-requires-3 Inv-loop μ-loop
-no-list-requires-3 c κs = search needs
 
 returns-3 : tie.Need-returns-3 Inv-loop μ-loop
 returns-3 c =
@@ -81,21 +54,6 @@ returns-4 c =
 pub list-of-spec : {M : Type 1} → statement M
 list-of-spec =
     tie.close
-    (tie.spec
-    Inv-loop
-    μ-loop
-    no-container-requires
-    loop-holds
-    no-list-requires
-    returns
-    container-at-requires
-    mul-v
-    array-set-from-v
-    add-n
-    loop-less
-    loop-again
-    no-list-requires-2
-    returns-2
-    no-list-requires-3
-    returns-3
+    (tie.spec Inv-loop μ-loop (search needs) loop-holds (search needs) returns (search needs) (search needs)
+    (search needs) (search needs) (search needs) loop-again (search needs) returns-2 (search needs) returns-3
     returns-4)

@@ -5,12 +5,9 @@ use Rattle.container.specs.List.{noContainers}
 use Rattle.container.proofs.list.no_list.Statement.{statement}
 use Rattle.container.proofs.list.no_list.Tie as tie
 
-no-container-requires : tie.Need-no-container-requires
-no-container-requires c κs = search needs
-
 returns : tie.Need-returns
 unfolding noContainers
 returns c = (refl, refl, rw (c .no-container .ensures))
 
 pub no-list-spec : {M : Type 1} → statement M
-no-list-spec = tie.close (tie.spec no-container-requires returns)
+no-list-spec = tie.close (tie.spec (search needs) returns)

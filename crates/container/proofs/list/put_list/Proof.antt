@@ -32,29 +32,8 @@ returns-2 c =
     puts-not (leb 1 (a .n) && leb (a .n) 15 && allFormed noContainer (take (a .n) (a .t4))) _
     (many (a .n) _ (omega (arith, c .before .if1 .left)) (c .if2 .taken))
 
-no-container-requires : tie.Need-no-container-requires Inv-loop μ-loop
-no-container-requires c κs = search needs
-
 loop-holds : tie.Need-loop-holds Inv-loop μ-loop
 loop-holds c = (omega arith, filling-none (c .before .before .before .before .args .t4) _ _ refl (c .no-container .ensures))
-
-mul-c : tie.Need-mul-c Inv-loop μ-loop
-mul-c c = search needs
-
-array-copy-out-c : tie.Need-array-copy-out-c Inv-loop μ-loop
-array-copy-out-c c = search needs
-
-sub-put-container : tie.Need-sub-put-container Inv-loop μ-loop
-sub-put-container c = search needs
-
-part-list-start : tie.Need-part-list-start Inv-loop μ-loop
-part-list-start c = search needs
-
-part-list-end : tie.Need-part-list-end Inv-loop μ-loop
-part-list-end c = search needs
-
-put-container-requires : tie.Need-put-container-requires Inv-loop μ-loop
-put-container-requires c κs = search needs
 
 returns-3 : tie.Need-returns-3 Inv-loop μ-loop
 returns-3 c =
@@ -96,12 +75,6 @@ add-end c =
           )) (c .before .before .put-container .ensures) (c .if3 .left),
     )
 
-add-i : tie.Need-add-i Inv-loop μ-loop
-add-i c = search needs
-
-loop-less : tie.Need-loop-less Inv-loop μ-loop
-loop-less c = search needs
-
 loop-again : tie.Need-loop-again Inv-loop μ-loop
 loop-again c =
     let a = c .before .before .before .before .before .before .before .before .before .before .before .args in
@@ -131,12 +104,6 @@ slice-aggregate-put-tlv c =
     let h : a .n ≤ 15 = omega (arith, c .before .before .before .before .before .if2 .left) in
     filled-count (filling-all (l .inv .1) (a .n) (omega arith) (omega (arith, c .before .before .before .before .before .before .if1 .left)) h (omega arith))
 
-put-tlv-requires : tie.Need-put-tlv-requires Inv-loop μ-loop
-put-tlv-requires c κs = search needs
-
-same-length : tie.Need-same-length Inv-loop μ-loop
-same-length c = search needs
-
 returns-4 : tie.Need-returns-4 Inv-loop μ-loop
 returns-4 c =
     let a = c .before .before .before .before .before .before .before .before .before .before .before .args in
@@ -153,26 +120,6 @@ returns-4 c =
 pub put-list-spec : {M : Type 1} → statement M
 put-list-spec =
     tie.close
-    (tie.spec
-    Inv-loop
-    μ-loop
-    returns
-    returns-2
-    no-container-requires
-    loop-holds
-    mul-c
-    array-copy-out-c
-    sub-put-container
-    part-list-start
-    part-list-end
-    put-container-requires
-    returns-3
-    add-end
-    add-i
-    loop-less
-    loop-again
-    array-share-prefix-list
-    slice-aggregate-put-tlv
-    put-tlv-requires
-    same-length
-    returns-4)
+    (tie.spec Inv-loop μ-loop returns returns-2 (search needs) loop-holds (search needs) (search needs) (search needs)
+    (search needs) (search needs) (search needs) returns-3 add-end (search needs) (search needs) loop-again
+    array-share-prefix-list slice-aggregate-put-tlv (search needs) (search needs) returns-4)

@@ -11,30 +11,6 @@ use Rattle.container.proofs.Fields.{reads-as, container-yes, container-
 use Rattle.container.proofs.one.container_at.Statement.{statement}
 use Rattle.container.proofs.one.container_at.Tie as tie
 
-part-at-requires : tie.Need-part-at-requires
-part-at-requires c κs = search needs
-
-contents-requires : tie.Need-contents-requires
-contents-requires c κs = search needs
-
-qos-after-requires : tie.Need-qos-after-requires
-qos-after-requires c κs = search needs
-
-int-at-requires : tie.Need-int-at-requires
-int-at-requires c κs = search needs
-
-int-at-requires-2 : tie.Need-int-at-requires-2
-int-at-requires-2 c κs = search needs
-
-octet-at-requires : tie.Need-octet-at-requires
-octet-at-requires c κs = search needs
-
-stamp-at-requires : tie.Need-stamp-at-requires
-stamp-at-requires c κs = search needs
-
-container-ok-requires : tie.Need-container-ok-requires
-container-ok-requires c κs = search needs
-
 returns : tie.Need-returns
 returns c =
     let ok = c .before in
@@ -54,9 +30,6 @@ returns c =
     (profile .qos-after .ensures) (uplink .int-at .ensures)
     (downlink .int-at2 .ensures) (condition .octet-at .ensures) (time .stamp-at .ensures)
     (rw (ok .container-ok .ensures) at (c .if1 .taken))) (hollow (container-hollow (a .last)))
-
-no-container-requires : tie.Need-no-container-requires
-no-container-requires c κs = search needs
 
 returns-2 : tie.Need-returns-2
 returns-2 c =
@@ -82,15 +55,5 @@ returns-2 c =
 pub container-at-spec : {M : Type 1} → statement M
 container-at-spec =
     tie.close
-    (tie.spec
-    part-at-requires
-    contents-requires
-    qos-after-requires
-    int-at-requires
-    int-at-requires-2
-    octet-at-requires
-    stamp-at-requires
-    container-ok-requires
-    returns
-    no-container-requires
-    returns-2)
+    (tie.spec (search needs) (search needs) (search needs) (search needs) (search needs) (search needs) (search needs)
+    (search needs) returns (search needs) returns-2)

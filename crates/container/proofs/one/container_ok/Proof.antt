@@ -8,12 +8,6 @@ use Rattle.container.specs.Container.{containerOk}
 use Rattle.container.proofs.one.container_ok.Statement.{statement}
 use Rattle.container.proofs.one.container_ok.Tie as tie
 
-qos-ok-requires : tie.Need-qos-ok-requires
-qos-ok-requires c κs = search needs
-
-stamp-within-requires : tie.Need-stamp-within-requires
-stamp-within-requires c κs = search needs
-
 returns : tie.Need-returns
 unfolding containerOk
 returns c =
@@ -22,4 +16,4 @@ returns c =
     (c .before .before .before .before .qos-ok .ensures) (c .before .before .before .stamp-within .ensures)
 
 pub container-ok-spec : {M : Type 1} → statement M
-container-ok-spec = tie.close (tie.spec qos-ok-requires stamp-within-requires returns)
+container-ok-spec = tie.close (tie.spec (search needs) (search needs) returns)

@@ -5,14 +5,8 @@ use Rattle.container.proofs.Fields.{told-always, told-same}
 use Rattle.container.proofs.one.is_told.Statement.{statement}
 use Rattle.container.proofs.one.is_told.Tie as tie
 
-is-new-requires : tie.Need-is-new-requires
-is-new-requires c κs = search needs
-
 returns : tie.Need-returns
 returns c = let a = c .before .before .args in told-always (a .last) (a .c) (sym (c .before .is-new .ensures) ∙ c .if1 .taken)
-
-same-qos-requires : tie.Need-same-qos-requires
-same-qos-requires c κs = search needs
 
 returns-2 : tie.Need-returns-2
 returns-2 c =
@@ -20,4 +14,4 @@ returns-2 c =
     c .same-qos .ensures ∙ told-same (a .last) (a .c) (sym (c .before .before .before .before .is-new .ensures) ∙ c .before .before .before .if1 .left)
 
 pub is-told-spec : {M : Type 1} → statement M
-is-told-spec = tie.close (tie.spec is-new-requires returns same-qos-requires returns-2)
+is-told-spec = tie.close (tie.spec (search needs) returns (search needs) returns-2)

@@ -6,15 +6,6 @@ use Rattle.container.proofs.Fields.{form-own, form-none, nothing-front}
 use Rattle.container.proofs.one.put_qos_after.Statement.{statement}
 use Rattle.container.proofs.one.put_qos_after.Tie as tie
 
-is-new-requires : tie.Need-is-new-requires
-is-new-requires c κs = search needs
-
-put-qos-requires : tie.Need-put-qos-requires
-put-qos-requires c κs = search needs
-
-same-length : tie.Need-same-length
-same-length c = search needs
-
 returns : tie.Need-returns
 returns c =
     let a = c .before .before .before .before .before .before .before .args in
@@ -27,4 +18,4 @@ returns-2 c =
     puts-is (form-none (a .last) (a .q) (sym (c .before .is-new .ensures) ∙ c .if1 .left)) nothing-front
 
 pub put-qos-after-spec : {M : Type 1} → statement M
-put-qos-after-spec = tie.close (tie.spec is-new-requires put-qos-requires same-length returns returns-2)
+put-qos-after-spec = tie.close (tie.spec (search needs) (search needs) (search needs) returns returns-2)

@@ -5,12 +5,6 @@ use Rattle.container.proofs.Fields.{qos-read, qos-told}
 use Rattle.container.proofs.one.qos_after.Statement.{statement}
 use Rattle.container.proofs.one.qos_after.Tie as tie
 
-is-new-requires : tie.Need-is-new-requires
-is-new-requires c κs = search needs
-
-qos-at-requires : tie.Need-qos-at-requires
-qos-at-requires c κs = search needs
-
 returns : tie.Need-returns
 returns c = qos-read (c .before .before .before .before .args .last) (sym (c .before .before .is-new .ensures) ∙ c .before .if1 .taken) (c .qos-at .ensures)
 
@@ -18,4 +12,4 @@ returns-2 : tie.Need-returns-2
 returns-2 c = qos-told (c .before .before .before .before .args .last) (sym (c .before .before .is-new .ensures) ∙ c .before .if1 .left) refl refl
 
 pub qos-after-spec : {M : Type 1} → statement M
-qos-after-spec = tie.close (tie.spec is-new-requires qos-at-requires returns returns-2)
+qos-after-spec = tie.close (tie.spec (search needs) (search needs) returns returns-2)

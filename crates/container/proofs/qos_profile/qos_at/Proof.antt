@@ -11,30 +11,6 @@ use Rattle.container.proofs.Fields.{reads-as, qos-yes, qos-no, qos-holl
 use Rattle.container.proofs.qos_profile.qos_at.Statement.{statement}
 use Rattle.container.proofs.qos_profile.qos_at.Tie as tie
 
-part-at-requires : tie.Need-part-at-requires
-part-at-requires c κs = search needs
-
-contents-requires : tie.Need-contents-requires
-contents-requires c κs = search needs
-
-octet-at-requires : tie.Need-octet-at-requires
-octet-at-requires c κs = search needs
-
-octet-at-requires-2 : tie.Need-octet-at-requires-2
-octet-at-requires-2 c κs = search needs
-
-octet-at-requires-3 : tie.Need-octet-at-requires-3
-octet-at-requires-3 c κs = search needs
-
-octet-at-requires-4 : tie.Need-octet-at-requires-4
-octet-at-requires-4 c κs = search needs
-
-octet-at-requires-5 : tie.Need-octet-at-requires-5
-octet-at-requires-5 c κs = search needs
-
-qos-ok-requires : tie.Need-qos-ok-requires
-qos-ok-requires c κs = search needs
-
 returns : tie.Need-returns
 returns c =
     let ok = c .before in
@@ -54,9 +30,6 @@ returns c =
     (reliability .octet-at .ensures) (delay .octet-at2 .ensures)
     (precedence .octet-at3 .ensures) (peak .octet-at4 .ensures) (mean .octet-at5 .ensures)
     (rw (ok .qos-ok .ensures) at (c .if1 .taken))) (hollow qos-hollow)
-
-no-qos-requires : tie.Need-no-qos-requires
-no-qos-requires c κs = search needs
 
 returns-2 : tie.Need-returns-2
 returns-2 c =
@@ -82,15 +55,5 @@ returns-2 c =
 pub qos-at-spec : {M : Type 1} → statement M
 qos-at-spec =
     tie.close
-    (tie.spec
-    part-at-requires
-    contents-requires
-    octet-at-requires
-    octet-at-requires-2
-    octet-at-requires-3
-    octet-at-requires-4
-    octet-at-requires-5
-    qos-ok-requires
-    returns
-    no-qos-requires
-    returns-2)
+    (tie.spec (search needs) (search needs) (search needs) (search needs) (search needs) (search needs) (search needs)
+    (search needs) returns (search needs) returns-2)

@@ -6,16 +6,10 @@ use borrow.Author.Needs.{needs}
 use Rattle.container.proofs.rules.changes.Statement.{statement}
 use Rattle.container.proofs.rules.changes.Tie as tie
 
-same-qos-requires : tie.Need-same-qos-requires
-same-qos-requires c κs = search needs
-
-alike-requires : tie.Need-alike-requires
-alike-requires c κs = search needs
-
 returns : tie.Need-returns
 returns c =
     let a = c .before .before .before .before .args .c in
     c .alike .ensures ∙ ap (λ (x : Bool). Bool·beq (not x) (eqb (a .condition) 0)) (c .before .before .same-qos .ensures)
 
 pub changes-spec : {M : Type 1} → statement M
-changes-spec = tie.close (tie.spec same-qos-requires alike-requires returns)
+changes-spec = tie.close (tie.spec (search needs) (search needs) returns)

@@ -7,12 +7,9 @@ use Rattle.container.specs.Private.Stepwise.{follows}
 use Rattle.container.proofs.rules.follows.Statement.{statement}
 use Rattle.container.proofs.rules.follows.Tie as tie
 
-changes-requires : tie.Need-changes-requires
-changes-requires c κs = search needs
-
 returns : tie.Need-returns
 unfolding follows
 returns c = ap (λ (x : Bool). ltb (c .before .before .before .args .c .condition) 2 && x) (c .before .changes .ensures)
 
 pub follows-spec : {M : Type 1} → statement M
-follows-spec = tie.close (tie.spec changes-requires returns)
+follows-spec = tie.close (tie.spec (search needs) returns)

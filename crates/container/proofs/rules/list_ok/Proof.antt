@@ -25,27 +25,6 @@ returns-2 c = let a = c .before .before .args in ok-many (a .t1) (a .n) (a .open
 loop-holds : tie.Need-loop-holds Inv-loop μ-loop
 loop-holds c = let a = c .before .before .args in turning-none (a .t1) (a .n) _ _ (omega (arith, c .before .if1 .left))
 
-add-loop : tie.Need-add-loop Inv-loop μ-loop
-add-loop c = search needs
-
-mul-c : tie.Need-mul-c Inv-loop μ-loop
-mul-c c = search needs
-
-array-copy-out-c : tie.Need-array-copy-out-c Inv-loop μ-loop
-array-copy-out-c c = search needs
-
-add-d : tie.Need-add-d Inv-loop μ-loop
-add-d c = search needs
-
-mul-d : tie.Need-mul-d Inv-loop μ-loop
-mul-d c = search needs
-
-array-copy-out-d : tie.Need-array-copy-out-d Inv-loop μ-loop
-array-copy-out-d c = search needs
-
-pair-ok-requires : tie.Need-pair-ok-requires Inv-loop μ-loop
-pair-ok-requires c κs = search needs
-
 returns-3 : tie.Need-returns-3 Inv-loop μ-loop
 returns-3 c =
     let a = c .before .before .before .before .before .before .before .before .args in
@@ -55,12 +34,6 @@ returns-3 c =
     turning-no (a .t1) (a .n) (a .opening) (omega (arith, h)) (omega (arith, h)) (l .inv) _ _ (c .before .before .before .before .loop-test .taken)
     (c .before .pair-ok .ensures) (not-true _ (c .if3 .taken))
 
-add-i : tie.Need-add-i Inv-loop μ-loop
-add-i c = search needs
-
-loop-less : tie.Need-loop-less Inv-loop μ-loop
-loop-less c = search needs
-
 loop-again : tie.Need-loop-again Inv-loop μ-loop
 loop-again c =
     let a = c .before .before .before .before .before .before .before .before .args in
@@ -68,15 +41,6 @@ loop-again c =
     let z : length (a .t1) ≡ 15 = search needs in
     turning-more (a .t1) (a .n) (omega (arith, c .before .before .before .before .before .before .if2 .left)) (l .inv) _ _
     (c .before .before .before .before .loop-test .taken) (c .before .pair-ok .ensures) (not-false _ (c .if3 .left))
-
-mul-last : tie.Need-mul-last Inv-loop μ-loop
-mul-last c = search needs
-
-array-copy-out-last : tie.Need-array-copy-out-last Inv-loop μ-loop
-array-copy-out-last c = search needs
-
-stands-requires : tie.Need-stands-requires Inv-loop μ-loop
-stands-requires c κs = search needs
 
 returns-4 : tie.Need-returns-4 Inv-loop μ-loop
 returns-4 c =
@@ -90,24 +54,6 @@ returns-4 c =
 pub list-ok-spec : {M : Type 1} → statement M
 list-ok-spec =
     tie.close
-    (tie.spec
-    Inv-loop
-    μ-loop
-    returns
-    returns-2
-    loop-holds
-    add-loop
-    mul-c
-    array-copy-out-c
-    add-d
-    mul-d
-    array-copy-out-d
-    pair-ok-requires
-    returns-3
-    add-i
-    loop-less
-    loop-again
-    mul-last
-    array-copy-out-last
-    stands-requires
-    returns-4)
+    (tie.spec Inv-loop μ-loop returns returns-2 loop-holds (search needs) (search needs) (search needs) (search needs)
+    (search needs) (search needs) (search needs) returns-3 (search needs) (search needs) loop-again (search needs)
+    (search needs) (search needs) returns-4)

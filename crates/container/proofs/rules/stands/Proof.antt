@@ -7,9 +7,6 @@ use Rattle.container.specs.Private.Stepwise.{stands}
 use Rattle.container.proofs.rules.stands.Statement.{statement}
 use Rattle.container.proofs.rules.stands.Tie as tie
 
-container-ok-requires : tie.Need-container-ok-requires
-container-ok-requires c κs = search needs
-
 returns : tie.Need-returns
 unfolding stands
 returns c =
@@ -17,4 +14,4 @@ returns c =
     ap (λ (x : Bool). x && eqb (a .c .time .zone) (a .zone) && leb (a .from) (a .c .time .seconds)) (c .before .before .container-ok .ensures)
 
 pub stands-spec : {M : Type 1} → statement M
-stands-spec = tie.close (tie.spec container-ok-requires returns)
+stands-spec = tie.close (tie.spec (search needs) returns)

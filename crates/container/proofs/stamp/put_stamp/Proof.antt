@@ -10,21 +10,12 @@ use Rattle.container.proofs.Fields.{puts-not, ready}
 use Rattle.container.proofs.stamp.put_stamp.Statement.{statement}
 use Rattle.container.proofs.stamp.put_stamp.Tie as tie
 
-stamp-octets-requires : tie.Need-stamp-octets-requires
-stamp-octets-requires c κs = search needs
-
 returns : tie.Need-returns
 returns c =
     puts-not (stampOk (c .before .before .before .before .args .t)) _ (sym (c .before .before .stamp-octets .ensures .within) ∙ not-true _ (c .if1 .taken))
 
 slice-aggregate-put-tlv : tie.Need-slice-aggregate-put-tlv
 slice-aggregate-put-tlv c = search needs
-
-put-tlv-requires : tie.Need-put-tlv-requires
-put-tlv-requires c κs = search needs
-
-same-length : tie.Need-same-length
-same-length c = search needs
 
 returns-2 : tie.Need-returns-2
 returns-2 c =
@@ -38,10 +29,4 @@ returns-2 c =
 pub put-stamp-spec : {M : Type 1} → statement M
 put-stamp-spec =
     tie.close
-    (tie.spec
-    stamp-octets-requires
-    returns
-    slice-aggregate-put-tlv
-    put-tlv-requires
-    same-length
-    returns-2)
+    (tie.spec (search needs) returns slice-aggregate-put-tlv (search needs) (search needs) returns-2)

@@ -10,21 +10,6 @@ use Rattle.container.proofs.Fields.{time-none, time-some}
 use Rattle.container.proofs.stamp.stamp_at.Statement.{statement}
 use Rattle.container.proofs.stamp.stamp_at.Tie as tie
 
-part-at-requires : tie.Need-part-at-requires
-part-at-requires c κs = search needs
-
-contents-requires : tie.Need-contents-requires
-contents-requires c κs = search needs
-
-stamp-of-requires : tie.Need-stamp-of-requires
-stamp-of-requires c κs = search needs
-
-enum-known-v : tie.Need-enum-known-v
-enum-known-v c = search needs
-
-enum-told : tie.Need-enum-told
-enum-told c = search needs
-
 returns : tie.Need-returns
 returns c =
     let time = c .before .before in
@@ -46,4 +31,5 @@ returns-2 c =
 
 pub stamp-at-spec : {M : Type 1} → statement M
 stamp-at-spec =
-    tie.close (tie.spec part-at-requires contents-requires stamp-of-requires enum-known-v enum-told returns returns-2)
+    tie.close
+    (tie.spec (search needs) (search needs) (search needs) (search needs) (search needs) returns returns-2)

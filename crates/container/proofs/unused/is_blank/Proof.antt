@@ -9,12 +9,6 @@ use Rattle.container.specs.List.{isBlank}
 use Rattle.container.proofs.unused.is_blank.Statement.{statement}
 use Rattle.container.proofs.unused.is_blank.Tie as tie
 
-no-qos-requires : tie.Need-no-qos-requires
-no-qos-requires c κs = search needs
-
-same-qos-requires : tie.Need-same-qos-requires
-same-qos-requires c κs = search needs
-
 returns : tie.Need-returns
 unfolding isBlank
 returns c =
@@ -24,4 +18,4 @@ returns c =
     ∙ ap (λ (q : Qos). sameQos (a .qos) q) (c .before .before .before .before .before .before .no-qos .ensures))
 
 pub is-blank-spec : {M : Type 1} → statement M
-is-blank-spec = tie.close (tie.spec no-qos-requires same-qos-requires returns)
+is-blank-spec = tie.close (tie.spec (search needs) (search needs) returns)

@@ -30,26 +30,8 @@ long c = search (needs, length-of-map)
 loop-holds : tie.Need-loop-holds Inv-loop2 μ-loop2 Inv-loop μ-loop
 loop-holds c = rest-all
 
-mul-s : tie.Need-mul-s Inv-loop2 μ-loop2 Inv-loop μ-loop
-mul-s c = search needs
-
-array-copy-out-s : tie.Need-array-copy-out-s Inv-loop2 μ-loop2 Inv-loop μ-loop
-array-copy-out-s c = search needs
-
-add-j : tie.Need-add-j Inv-loop2 μ-loop2 Inv-loop μ-loop
-add-j c = search needs
-
 loop2-holds : tie.Need-loop2-holds Inv-loop2 μ-loop2 Inv-loop μ-loop
 loop2-holds c = rest-all
-
-mul-t : tie.Need-mul-t Inv-loop2 μ-loop2 Inv-loop μ-loop
-mul-t c = search needs
-
-array-copy-out-t : tie.Need-array-copy-out-t Inv-loop2 μ-loop2 Inv-loop μ-loop
-array-copy-out-t c = search needs
-
-clash-requires : tie.Need-clash-requires Inv-loop2 μ-loop2 Inv-loop μ-loop
-clash-requires c κs = search needs
 
 returns : tie.Need-returns Inv-loop2 μ-loop2 Inv-loop μ-loop
 returns c =
@@ -60,24 +42,12 @@ returns c =
     (sym (rest-no (alone-asks _) (t .loop2 .inv) _ (omega (arith, c .before .before .before .loop2-test .taken)) (ap not (c .before .clash .ensures))
     (ap not (c .if1 .taken))))
 
-add-j-2 : tie.Need-add-j-2 Inv-loop2 μ-loop2 Inv-loop μ-loop
-add-j-2 c = search needs
-
-loop2-less : tie.Need-loop2-less Inv-loop2 μ-loop2 Inv-loop μ-loop
-loop2-less c = search needs
-
 loop2-again : tie.Need-loop2-again Inv-loop2 μ-loop2 Inv-loop μ-loop
 loop2-again c =
     let t = c .before .before .before .before in
     let l = long (t .before .before .before .before) in
     rest-next (alone-asks _) (t .loop2 .inv) _ (omega (arith, c .before .before .before .loop2-test .taken)) (ap not (c .before .clash .ensures))
     (ap not (c .if1 .left))
-
-add-i : tie.Need-add-i Inv-loop2 μ-loop2 Inv-loop μ-loop
-add-i c = search needs
-
-loop-less : tie.Need-loop-less Inv-loop2 μ-loop2 Inv-loop μ-loop
-loop-less c = search needs
 
 loop-again : tie.Need-loop-again Inv-loop2 μ-loop2 Inv-loop μ-loop
 loop-again c =
@@ -95,24 +65,6 @@ returns-2 c =
 pub all-distinct-spec : {M : Type 1} → statement M
 all-distinct-spec =
     tie.close
-    (tie.spec
-    Inv-loop2
-    μ-loop2
-    Inv-loop
-    μ-loop
-    loop-holds
-    mul-s
-    array-copy-out-s
-    add-j
-    loop2-holds
-    mul-t
-    array-copy-out-t
-    clash-requires
-    returns
-    add-j-2
-    loop2-less
-    loop2-again
-    add-i
-    loop-less
-    loop-again
-    returns-2)
+    (tie.spec Inv-loop2 μ-loop2 Inv-loop μ-loop loop-holds (search needs) (search needs) (search needs) loop2-holds
+    (search needs) (search needs) (search needs) returns (search needs) (search needs) loop2-again (search needs)
+    (search needs) loop-again returns-2)

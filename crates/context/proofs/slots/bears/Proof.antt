@@ -4,12 +4,9 @@ use Rattle.context.specs.Slots.{isActive, bears}
 use Rattle.context.proofs.slots.bears.Statement.{statement}
 use Rattle.context.proofs.slots.bears.Tie as tie
 
-same-name-requires : tie.Need-same-name-requires
-same-name-requires c κs = search needs
-
 returns : tie.Need-returns
 unfolding isActive bears
 returns c = rw (c .before .same-name .ensures)
 
 pub bears-spec : {M : Type 1} → statement M
-bears-spec = tie.close (tie.spec same-name-requires returns)
+bears-spec = tie.close (tie.spec (search needs) returns)

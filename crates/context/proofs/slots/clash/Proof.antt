@@ -5,12 +5,9 @@ use Rattle.context.specs.Private.Clash.{clash}
 use Rattle.context.proofs.slots.clash.Statement.{statement}
 use Rattle.context.proofs.slots.clash.Tie as tie
 
-bears-requires : tie.Need-bears-requires
-bears-requires c κs = search needs
-
 returns : tie.Need-returns
 unfolding isActive clash
 returns c = rw (c .before .bears .ensures)
 
 pub clash-spec : {M : Type 1} → statement M
-clash-spec = tie.close (tie.spec bears-requires returns)
+clash-spec = tie.close (tie.spec (search needs) returns)

@@ -12,12 +12,6 @@ use Rattle.context.proofs.sound.fields_ok.Tie as tie
 slice-aggregate-imsi-size : tie.Need-slice-aggregate-imsi-size
 slice-aggregate-imsi-size c = search needs
 
-imsi-size-requires : tie.Need-imsi-size-requires
-imsi-size-requires c κs = search needs
-
-apn-ok-requires : tie.Need-apn-ok-requires
-apn-ok-requires c κs = search needs
-
 returns : tie.Need-returns
 unfolding fieldsOk
 returns c =
@@ -25,6 +19,4 @@ returns c =
     rw (ap (λ (n : ℕ). not (eqb n 0)) (t .imsi-size .ensures) ∙ imsi-room (t .before .before .before .before .args .c .imsi), c .before .apn-ok .ensures)
 
 pub fields-ok-spec : {M : Type 1} → statement M
-fields-ok-spec =
-    tie.close
-    (tie.spec slice-aggregate-imsi-size imsi-size-requires apn-ok-requires returns)
+fields-ok-spec = tie.close (tie.spec slice-aggregate-imsi-size (search needs) (search needs) returns)

@@ -4,16 +4,10 @@ use Rattle.context.proofs.Sounds.{slot-active, slot-free}
 use Rattle.context.proofs.sound.slot_ok.Statement.{statement}
 use Rattle.context.proofs.sound.slot_ok.Tie as tie
 
-context-ok-requires : tie.Need-context-ok-requires
-context-ok-requires c κs = search needs
-
 returns : tie.Need-returns
 returns c =
     let a = c .before .before .before .args in
     rw (slot-active (a .limits) (a .zone) (a .clock) (a .accepted) (a .c) (c .before .if1 .taken)) (c .context-ok .ensures)
-
-zero-ok-requires : tie.Need-zero-ok-requires
-zero-ok-requires c κs = search needs
 
 returns-2 : tie.Need-returns-2
 returns-2 c =
@@ -21,4 +15,4 @@ returns-2 c =
     rw (slot-free (a .limits) (a .zone) (a .clock) (a .accepted) (a .c) (c .before .if1 .left)) (c .zero-ok .ensures)
 
 pub slot-ok-spec : {M : Type 1} → statement M
-slot-ok-spec = tie.close (tie.spec context-ok-requires returns zero-ok-requires returns-2)
+slot-ok-spec = tie.close (tie.spec (search needs) returns (search needs) returns-2)

@@ -7,17 +7,8 @@ use Rattle.context.proofs.sound.zero_ok.Tie as tie
 slice-aggregate-zeros : tie.Need-slice-aggregate-zeros
 slice-aggregate-zeros c = search needs
 
-zeros-requires : tie.Need-zeros-requires
-zeros-requires c κs = search needs
-
 slice-aggregate-zeros-2 : tie.Need-slice-aggregate-zeros-2
 slice-aggregate-zeros-2 c = search needs
-
-zeros-requires-2 : tie.Need-zeros-requires-2
-zeros-requires-2 c κs = search needs
-
-is-blank-requires : tie.Need-is-blank-requires
-is-blank-requires c κs = search needs
 
 returns : tie.Need-returns
 unfolding zeroOk
@@ -28,10 +19,4 @@ returns c =
 pub zero-ok-spec : {M : Type 1} → statement M
 zero-ok-spec =
     tie.close
-    (tie.spec
-    slice-aggregate-zeros
-    zeros-requires
-    slice-aggregate-zeros-2
-    zeros-requires-2
-    is-blank-requires
-    returns)
+    (tie.spec slice-aggregate-zeros (search needs) slice-aggregate-zeros-2 (search needs) (search needs) returns)

@@ -7,18 +7,6 @@ use Rattle.entries.proofs.Reading.{reads-none, reads-some}
 use Rattle.entries.proofs.read.read_entry.Statement.{statement}
 use Rattle.entries.proofs.read.read_entry.Tie as tie
 
-entry-at-requires : tie.Need-entry-at-requires
-entry-at-requires c κs = search needs
-
-enum-known-entry : tie.Need-enum-known-entry
-enum-known-entry c = search needs
-
-slice-aggregate-with-record : tie.Need-slice-aggregate-with-record
-slice-aggregate-with-record c = search needs
-
-with-record-requires : tie.Need-with-record-requires
-with-record-requires c κs = search needs
-
 returns : tie.Need-returns
 returns c =
     let a = c .before .before .before .before .before .args in
@@ -44,9 +32,6 @@ part-with-record-end c =
     let w = found-stands (a .s .now) (a .at) (c .before .entry .given .1) (c .before .before .before .entry-at .ensures) .1 in
     omega (arith, w .begins, w .long, w .inside)
 
-with-record-requires-2 : tie.Need-with-record-requires-2
-with-record-requires-2 c κs = search needs
-
 returns-2 : tie.Need-returns-2
 returns-2 c =
     let a = c .before .before .before .before .before .before .before .args in
@@ -57,14 +42,5 @@ returns-2 c =
 pub read-entry-spec : {M : Type 1} → statement M
 read-entry-spec =
     tie.close
-    (tie.spec
-    entry-at-requires
-    enum-known-entry
-    slice-aggregate-with-record
-    with-record-requires
-    returns
-    sub-with-record
-    part-with-record-start
-    part-with-record-end
-    with-record-requires-2
-    returns-2)
+    (tie.spec (search needs) (search needs) (search needs) (search needs) returns sub-with-record
+    part-with-record-start part-with-record-end (search needs) returns-2)

@@ -10,33 +10,18 @@ use Rattle.entries.proofs.step.entry_at.Tie as tie
 returns : tie.Need-returns
 returns c = let a = c .before .before .args in at-end (a .s .now) (a .at) (c .if1 .taken)
 
-shared-slice-read-if2 : tie.Need-shared-slice-read-if2
-shared-slice-read-if2 c = search needs
-
 returns-2 : tie.Need-returns-2
 returns-2 c = let a = c .before .before .before .before .args in other-first (a .s .now) (a .at) (omega arith) (c .if2 .taken)
-
-add-b : tie.Need-add-b
-add-b c = search needs
 
 returns-3 : tie.Need-returns-3
 returns-3 c =
     let a = c .before .before .before .before .before .args in
     half-mark (a .s .now) (a .at) (omega arith) (c .before .if2 .left) (c .if3 .taken)
 
-shared-slice-read-if4 : tie.Need-shared-slice-read-if4
-shared-slice-read-if4 c = search needs
-
 returns-4 : tie.Need-returns-4
 returns-4 c =
     let a = c .before .before .before .before .before .before .before .args in
     other-second (a .s .now) (a .at) (omega arith) (c .before .before .before .if2 .left) (omega arith) (c .if4 .taken)
-
-add-value-at : tie.Need-add-value-at
-add-value-at c = search needs
-
-value-at-requires : tie.Need-value-at-requires
-value-at-requires c κs = search needs
 
 returns-5 : tie.Need-returns-5
 returns-5 c =
@@ -47,14 +32,5 @@ returns-5 c =
 pub entry-at-spec : {M : Type 1} → statement M
 entry-at-spec =
     tie.close
-    (tie.spec
-    returns
-    shared-slice-read-if2
-    returns-2
-    add-b
-    returns-3
-    shared-slice-read-if4
-    returns-4
-    add-value-at
-    value-at-requires
-    returns-5)
+    (tie.spec returns (search needs) returns-2 (search needs) returns-3 (search needs) returns-4 (search needs)
+    (search needs) returns-5)

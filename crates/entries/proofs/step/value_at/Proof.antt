@@ -12,31 +12,10 @@ use Rattle.entries.proofs.step.value_at.Tie as tie
 returns : tie.Need-returns
 returns c = let a = c .before .before .args in no-tag (a .s .now) (a .from) (a .at) (c .if1 .taken)
 
-shared-slice-read-is-tag : tie.Need-shared-slice-read-is-tag
-shared-slice-read-is-tag c = search needs
-
-is-tag-requires : tie.Need-is-tag-requires
-is-tag-requires c κs = search needs
-
 returns-2 : tie.Need-returns-2
 returns-2 c =
     let a = c .before .before .before .before .before .args in
     other-tag (a .s .now) (a .from) (a .at) (omega arith) (sym (c .before .is-tag .ensures) ∙ not-true _ (c .if2 .taken))
-
-add-b : tie.Need-add-b
-add-b c = search needs
-
-len-at-requires : tie.Need-len-at-requires
-len-at-requires c κs = search needs
-
-enum-known-n : tie.Need-enum-known-n
-enum-known-n c = search needs
-
-enum-told : tie.Need-enum-told
-enum-told c = search needs
-
-sub-if3 : tie.Need-sub-if3
-sub-if3 c = search needs
 
 returns-3 : tie.Need-returns-3
 returns-3 c =
@@ -56,9 +35,6 @@ sub-if4 : tie.Need-sub-if4
 sub-if4 c =
     let a = c .before .before .before .before .before .before .before .before .before .args in
     len-some (a .s .now) (a .at + 1) (omega arith) (sym (c .before .n .given .1) ∙ c .before .before .before .len-at .ensures) .0
-
-add-t17 : tie.Need-add-t17
-add-t17 c = search needs
 
 returns-5 : tie.Need-returns-5
 returns-5 c =
@@ -88,20 +64,5 @@ returns-7 c =
 pub value-at-spec : {M : Type 1} → statement M
 value-at-spec =
     tie.close
-    (tie.spec
-    returns
-    shared-slice-read-is-tag
-    is-tag-requires
-    returns-2
-    add-b
-    len-at-requires
-    enum-known-n
-    enum-told
-    sub-if3
-    returns-3
-    returns-4
-    sub-if4
-    add-t17
-    returns-5
-    returns-6
-    returns-7)
+    (tie.spec returns (search needs) (search needs) returns-2 (search needs) (search needs) (search needs)
+    (search needs) (search needs) returns-3 returns-4 sub-if4 (search needs) returns-5 returns-6 returns-7)

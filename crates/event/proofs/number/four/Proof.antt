@@ -3,11 +3,8 @@ use borrow.Author.Needs.{needs}
 use Rattle.event.proofs.number.four.Statement.{statement}
 use Rattle.event.proofs.number.four.Tie as tie
 
-number-in-requires : tie.Need-number-in-requires
-number-in-requires c κs = search needs
-
 returns : tie.Need-returns
 returns c = c .number-in .ensures .0
 
 pub four-spec : {M : Type 1} → statement M
-four-spec = tie.close (tie.spec number-in-requires returns)
+four-spec = tie.close (tie.spec (search needs) returns)

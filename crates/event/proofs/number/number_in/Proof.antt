@@ -18,23 +18,8 @@ loop-holds c = spelling-none _ _ _
 mul-n : tie.Need-mul-n Inv-loop μ-loop
 mul-n c = omega (arith, spelling-room (c .before .loop .inv) (omega arith))
 
-add-octet : tie.Need-add-octet Inv-loop μ-loop
-add-octet c = search needs
-
-octet-requires : tie.Need-octet-requires Inv-loop μ-loop
-octet-requires c κs = search needs
-
-wide-requires : tie.Need-wide-requires Inv-loop μ-loop
-wide-requires c κs = search needs
-
 add-n : tie.Need-add-n Inv-loop μ-loop
 add-n c = omega (arith, spelling-room (c .before .before .before .loop .inv) (omega arith))
-
-add-i : tie.Need-add-i Inv-loop μ-loop
-add-i c = search needs
-
-loop-less : tie.Need-loop-less Inv-loop μ-loop
-loop-less c = search needs
 
 loop-again : tie.Need-loop-again Inv-loop μ-loop
 loop-again c =
@@ -47,16 +32,5 @@ returns c = spelling-end (c .before .loop .inv) (c .loop-test .left)
 pub number-in-spec : {M : Type 1} → statement M
 number-in-spec =
     tie.close
-    (tie.spec
-    Inv-loop
-    μ-loop
-    loop-holds
-    mul-n
-    add-octet
-    octet-requires
-    wide-requires
-    add-n
-    add-i
-    loop-less
-    loop-again
-    returns)
+    (tie.spec Inv-loop μ-loop loop-holds mul-n (search needs) (search needs) (search needs) add-n (search needs)
+    (search needs) loop-again returns)

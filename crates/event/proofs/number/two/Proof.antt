@@ -3,14 +3,8 @@ use borrow.Author.Needs.{needs}
 use Rattle.event.proofs.number.two.Statement.{statement}
 use Rattle.event.proofs.number.two.Tie as tie
 
-number-in-requires : tie.Need-number-in-requires
-number-in-requires c κs = search needs
-
-cast-result : tie.Need-cast-result
-cast-result c = search needs
-
 returns : tie.Need-returns
 returns c = c .number-in .ensures .0
 
 pub two-spec : {M : Type 1} → statement M
-two-spec = tie.close (tie.spec number-in-requires cast-result returns)
+two-spec = tie.close (tie.spec (search needs) (search needs) returns)

@@ -47,9 +47,6 @@ after-closing-requires c κs =
 goes-on-requires : tie.Need-goes-on-requires
 goes-on-requires c κs = let s = c .before .before .before .before .before .before in apt-grows (s .args .p) (s .args .t) (s .args .c) (s .pre .0)
 
-same-length : tie.Need-same-length
-same-length c = search needs
-
 returns : tie.Need-returns
 returns c =
     let s = c .before .before .before .before .before .before .before .before .before .before .before .before .before in
@@ -73,5 +70,5 @@ returns-2 c =
 pub hear-spec : {M : Type 1} → statement M
 hear-spec =
     tie.close
-    (tie.spec cause-of-requires (λ c. search needs) closed-by-requires put-record-requires after-closing-requires (λ c. search needs) goes-on-requires
-    same-length returns returns-2)
+    (tie.spec cause-of-requires (λ c. search needs) closed-by-requires put-record-requires after-closing-requires
+    (λ c. search needs) goes-on-requires (search needs) returns returns-2)

@@ -11,9 +11,6 @@ hear-requires c κs =
       (s .pre .1 .0, rw (← slot-active (s .args .p) (s .args .t) (s .args .m) (s .args .c) (c .before .if1 .taken) .1) (s .pre .1 .1)),
     )
 
-same-length : tie.Need-same-length
-same-length c = search needs
-
 returns : tie.Need-returns
 returns c =
     let s = c .before .before .before .before .before .before .before in
@@ -25,4 +22,4 @@ returns-2 c =
     free-turns (s .args .p) (s .args .t) (s .args .m) (s .args .c) (c .if1 .left) (s .pre .1 .1)
 
 pub hear-slot-spec : {M : Type 1} → statement M
-hear-slot-spec = tie.close (tie.spec hear-requires same-length returns returns-2)
+hear-slot-spec = tie.close (tie.spec hear-requires (search needs) returns returns-2)

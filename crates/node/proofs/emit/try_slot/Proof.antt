@@ -21,9 +21,6 @@ hear-slot-requires c κs = (
   ),
 )
 
-same-length : tie.Need-same-length
-same-length c = search needs
-
 returns-2 : tie.Need-returns-2
 returns-2 c =
     let a = c .before .before .before .before .before .before .before .before .args in tries-done (a .p) (a .t) (a .m) (a .c) (a .out .now)
@@ -31,5 +28,4 @@ returns-2 c =
     (c .before .before .before .hear-slot .ensures)
 
 pub try-slot-spec : {M : Type 1} → statement M
-try-slot-spec =
-    tie.close (tie.spec slot-size-requires returns hear-slot-requires same-length returns-2)
+try-slot-spec = tie.close (tie.spec slot-size-requires returns hear-slot-requires (search needs) returns-2)

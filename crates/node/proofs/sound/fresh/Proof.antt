@@ -5,23 +5,13 @@ use borrow.Author.Needs.{needs}
 use Rattle.node.proofs.sound.fresh.Statement.{statement}
 use Rattle.node.proofs.sound.fresh.Tie as tie
 
-profile-ok-requires : tie.Need-profile-ok-requires
-profile-ok-requires c κs = search needs
-
-no-context-requires : tie.Need-no-context-requires
-no-context-requires c κs = search needs
-
 returns : tie.Need-returns
 unfolding freshOf
 returns c = record { is = rw (sym (c .before .before .profile-ok .ensures) ∙ c .before .if1 .taken, c .no-context .ensures) }
-
-no-node-requires : tie.Need-no-node-requires
-no-node-requires c κs = search needs
 
 returns-2 : tie.Need-returns-2
 unfolding freshOf
 returns-2 c = record { is = rw (sym (c .before .before .profile-ok .ensures) ∙ c .before .if1 .left, c .no-node .ensures) }
 
 pub fresh-spec : {M : Type 1} → statement M
-fresh-spec =
-    tie.close (tie.spec profile-ok-requires no-context-requires returns no-node-requires returns-2)
+fresh-spec = tie.close (tie.spec (search needs) (search needs) returns (search needs) returns-2)

@@ -3,14 +3,8 @@ use borrow.Author.Needs.{needs}
 use Rattle.node.proofs.sound.keeps_rules.Statement.{statement}
 use Rattle.node.proofs.sound.keeps_rules.Tie as tie
 
-profile-ok-requires : tie.Need-profile-ok-requires
-profile-ok-requires c κs = search needs
-
-all-distinct-requires : tie.Need-all-distinct-requires
-all-distinct-requires c κs = search needs
-
 returns : tie.Need-returns
 returns c = rw (c .before .profile-ok .ensures, c .all-distinct .ensures)
 
 pub keeps-rules-spec : {M : Type 1} → statement M
-keeps-rules-spec = tie.close (tie.spec profile-ok-requires all-distinct-requires returns)
+keeps-rules-spec = tie.close (tie.spec (search needs) (search needs) returns)

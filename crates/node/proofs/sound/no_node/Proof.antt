@@ -3,14 +3,8 @@ use borrow.Author.Needs.{needs}
 use Rattle.node.proofs.sound.no_node.Statement.{statement}
 use Rattle.node.proofs.sound.no_node.Tie as tie
 
-no-context-requires : tie.Need-no-context-requires
-no-context-requires c κs = search needs
-
-no-profile-requires : tie.Need-no-profile-requires
-no-profile-requires c κs = search needs
-
 returns : tie.Need-returns
 returns c = rw (c .before .no-context .ensures, c .no-profile .ensures)
 
 pub no-node-spec : {M : Type 1} → statement M
-no-node-spec = tie.close (tie.spec no-context-requires no-profile-requires returns)
+no-node-spec = tie.close (tie.spec (search needs) (search needs) returns)

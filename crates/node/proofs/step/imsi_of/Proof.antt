@@ -6,21 +6,6 @@ use borrow.Author.Needs.{needs}
 use Rattle.node.proofs.step.imsi_of.Statement.{statement}
 use Rattle.node.proofs.step.imsi_of.Tie as tie
 
-sub-copy : tie.Need-sub-copy
-sub-copy c = search needs
-
-part-copy-start : tie.Need-part-copy-start
-part-copy-start c = search needs
-
-part-copy-end : tie.Need-part-copy-end
-part-copy-end c = search needs
-
-slice-aggregate-copy : tie.Need-slice-aggregate-copy
-slice-aggregate-copy c = search needs
-
-copy-requires : tie.Need-copy-requires
-copy-requires c κs = search needs
-
 returns : tie.Need-returns
 returns c =
     copied-imsi (c .before .before .before .before .before .args .event .now) _ _ (omega (arith, c .before .before .before .before .before .pre)) refl
@@ -29,4 +14,4 @@ returns c =
 pub imsi-of-spec : {M : Type 1} → statement M
 imsi-of-spec =
     tie.close
-    (tie.spec sub-copy part-copy-start part-copy-end slice-aggregate-copy copy-requires returns)
+    (tie.spec (search needs) (search needs) (search needs) (search needs) (search needs) returns)

@@ -15,9 +15,6 @@ apn-of-requires c κs = let l = c .before .before .before .pre in (omega (arith,
 shared-slice-read-flags : tie.Need-shared-slice-read-flags
 shared-slice-read-flags c = omega (arith, c .before .before .before .before .before .before .pre .long)
 
-opened-requires : tie.Need-opened-requires
-opened-requires c κs = search needs
-
 returns : tie.Need-returns
 unfolding activated
 returns c =
@@ -30,11 +27,4 @@ returns c =
     )
 
 pub opening-spec : {M : Type 1} → statement M
-opening-spec =
-    tie.close
-    (tie.spec
-    imsi-of-requires
-    apn-of-requires
-    shared-slice-read-flags
-    opened-requires
-    returns)
+opening-spec = tie.close (tie.spec imsi-of-requires apn-of-requires shared-slice-read-flags (search needs) returns)

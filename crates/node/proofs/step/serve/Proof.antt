@@ -8,9 +8,6 @@ use Rattle.node.proofs.step.serve.Tie as tie
 size-all-requires : tie.Need-size-all-requires
 size-all-requires c κs = search needs
 
-refused-requires : tie.Need-refused-requires
-refused-requires c κs = search needs
-
 returns : tie.Need-returns
 returns c =
     let s = c .before .before .before .before .before .before in
@@ -21,12 +18,6 @@ hear-all-requires : tie.Need-hear-all-requires
 hear-all-requires c κs =
     let s = c .before .before .before .before .before .before in
     (s .pre .0, (s .pre .1 .0, omega (arith, c .before .before .size-all .ensures, c .before .if1 .left)))
-
-accepted-requires : tie.Need-accepted-requires
-accepted-requires c κs = search needs
-
-same-length : tie.Need-same-length
-same-length c = search needs
 
 returns-2 : tie.Need-returns-2
 returns-2 c =
@@ -42,11 +33,4 @@ returns-2 c =
 pub serve-spec : {M : Type 1} → statement M
 serve-spec =
     tie.close
-    (tie.spec
-    size-all-requires
-    refused-requires
-    returns
-    hear-all-requires
-    accepted-requires
-    same-length
-    returns-2)
+    (tie.spec size-all-requires (search needs) returns hear-all-requires (search needs) (search needs) returns-2)

@@ -48,47 +48,11 @@ the-task c k e =
 loop-holds : tie.Need-loop-holds Inv-loop μ-loop
 loop-holds c = let s = c .before .before .before .before in let w = whole s in looking-none (omega arith)
 
-mul-c : tie.Need-mul-c Inv-loop μ-loop
-mul-c c = search needs
-
-element-copy-out-c : tie.Need-element-copy-out-c Inv-loop μ-loop
-element-copy-out-c c = search needs
-
-slot-ok-requires : tie.Need-slot-ok-requires Inv-loop μ-loop
-slot-ok-requires c κs = search needs
-
-mul-names : tie.Need-mul-names Inv-loop μ-loop
-mul-names c = search needs
-
-array-set-from-names : tie.Need-array-set-from-names Inv-loop μ-loop
-array-set-from-names c = search needs
-
-add-i : tie.Need-add-i Inv-loop μ-loop
-add-i c = search needs
-
-loop-less : tie.Need-loop-less Inv-loop μ-loop
-loop-less c = search needs
-
 loop-again : tie.Need-loop-again Inv-loop μ-loop
 loop-again c =
     let s = c .before .before .before .before .before .before .before .before .before in
     let w = whole s in
     looking-more (slots-ask _ _ _ _) (c .before .before .before .before .loop .inv) _ (omega arith) (c .before .slot-ok .ensures)
-
-keeps-rules-requires : tie.Need-keeps-rules-requires Inv-loop μ-loop
-keeps-rules-requires c κs = search needs
-
-task-for-requires : tie.Need-task-for-requires Inv-loop μ-loop
-task-for-requires c κs = search needs
-
-enum-known-k : tie.Need-enum-known-k Inv-loop μ-loop
-enum-known-k c = search needs
-
-refused-requires : tie.Need-refused-requires Inv-loop μ-loop
-refused-requires c κs = search needs
-
-enum-known-k-2 : tie.Need-enum-known-k-2 Inv-loop μ-loop
-enum-known-k-2 c = search needs
 
 mul-c-2 : tie.Need-mul-c-2 Inv-loop μ-loop
 mul-c-2 c = let t = the-task (c .before .before .before) _ (c .before .k2 .given .1) in omega (arith, t .fit .0)
@@ -111,17 +75,11 @@ placed-requires c κs =
     let t = the-task (c .before .before .before .before .before .before .before .before) _ (c .before .before .before .before .before .before .k2 .given .1)
     in (t .fit .0, t .fit .1 .few)
 
-enum-known-k-3 : tie.Need-enum-known-k-3 Inv-loop μ-loop
-enum-known-k-3 c = search needs
-
 serve-requires : tie.Need-serve-requires Inv-loop μ-loop
 serve-requires c κs =
     let s = c .before .before .before .before .before .before .before .before .before .before .before .before in let t = the-task
     (c .before .before .before .before) _ (c .before .before .k3 .given .1) in
     (ready (s .args .t1) _ (t .fit), (rw (c .before .before .k3 .given .1) at (c .before .before .before .before .task-for .ensures .1), t .fit .few))
-
-enum-known-k-4 : tie.Need-enum-known-k-4 Inv-loop μ-loop
-enum-known-k-4 c = search needs
 
 opened-requires : tie.Need-opened-requires Inv-loop μ-loop
 opened-requires c κs = the-task (c .before .before .before) _ (c .before .k4 .given .1) .fit .1 .1
@@ -137,9 +95,6 @@ returns c =
     (the-task (c .before .before .before .before) _ (c .before .before .k .given .1)) (c .refused .ensures .0) (c .refused .ensures .1 .0)
     (c .refused .ensures .1 .1)
 
-same-length : tie.Need-same-length Inv-loop μ-loop
-same-length c = search needs
-
 returns-2 : tie.Need-returns-2 Inv-loop μ-loop
 returns-2 c =
     steps-one
@@ -150,9 +105,6 @@ returns-2 c =
     (c .before .before .before .before .before .before .before .before .before .before .before .before .before .before .before .before .before))
     (the-task (c .before .before .before .before .before .before .before .before .before) _
     (c .before .before .before .before .before .before .before .k2 .given .1)) (c .before .before .before .try-slot .ensures) (c .placed .ensures)
-
-same-length-2 : tie.Need-same-length-2 Inv-loop μ-loop
-same-length-2 c = search needs
 
 returns-3 : tie.Need-returns-3 Inv-loop μ-loop
 returns-3 c =
@@ -172,35 +124,8 @@ returns-4 c =
 pub step-spec : {M : Type 1} → statement M
 step-spec =
     tie.close
-    (tie.spec
-    Inv-loop
-    μ-loop
-    loop-holds
-    mul-c
-    element-copy-out-c
-    slot-ok-requires
-    mul-names
-    array-set-from-names
-    add-i
-    loop-less
-    loop-again
-    keeps-rules-requires
-    task-for-requires
-    enum-known-k
-    refused-requires
-    enum-known-k-2
-    mul-c-2
-    element-copy-out-c-2
-    try-slot-requires
-    placed-requires
-    enum-known-k-3
-    serve-requires
-    enum-known-k-4
-    opened-requires
-    placed-requires-2
-    returns
-    same-length
-    returns-2
-    same-length-2
-    returns-3
+    (tie.spec Inv-loop μ-loop loop-holds (search needs) (search needs) (search needs) (search needs) (search needs)
+    (search needs) (search needs) loop-again (search needs) (search needs) (search needs) (search needs)
+    (search needs) mul-c-2 element-copy-out-c-2 try-slot-requires placed-requires (search needs) serve-requires
+    (search needs) opened-requires placed-requires-2 returns (search needs) returns-2 (search needs) returns-3
     returns-4)

@@ -24,12 +24,6 @@ whole c = search (needs, length-of-map)
 loop-holds : tie.Need-loop-holds Inv-loop μ-loop
 loop-holds c = let a = c .before .args in hearing-none puts (slotNext (a .p) (a .t) (a .m)) (slotOut (a .p) (a .t) (a .m)) 0 16 (a .cs) (omega arith)
 
-mul-c : tie.Need-mul-c Inv-loop μ-loop
-mul-c c = search needs
-
-array-copy-out-c : tie.Need-array-copy-out-c Inv-loop μ-loop
-array-copy-out-c c = search needs
-
 hear-slot-requires : tie.Need-hear-slot-requires Inv-loop μ-loop
 hear-slot-requires c κs =
     let s = c .before .before .before .before .before in
@@ -42,18 +36,6 @@ hear-slot-requires c κs =
       (s .pre .1 .0, rw e (room puts (slotNext (a .p) (a .t) (a .m)) (slotOut (a .p) (a .t) (a .m)) 0 16 (a .cs) (l .inv) _ q n (s .pre .1 .1))),
     )
 
-mul-contexts : tie.Need-mul-contexts Inv-loop μ-loop
-mul-contexts c = search needs
-
-array-set-from-contexts : tie.Need-array-set-from-contexts Inv-loop μ-loop
-array-set-from-contexts c = search needs
-
-add-i : tie.Need-add-i Inv-loop μ-loop
-add-i c = search needs
-
-loop-less : tie.Need-loop-less Inv-loop μ-loop
-loop-less c = search needs
-
 loop-again : tie.Need-loop-again Inv-loop μ-loop
 loop-again c =
     let s = c .before .before .before .before .before .before .before .before .before in
@@ -65,9 +47,6 @@ loop-again c =
     hearing-more puts (slotNext (a .p) (a .t) (a .m)) (slotOut (a .p) (a .t) (a .m)) 0 16 (a .cs) (l .inv) _
     (c .before .before .before .before .before .before .loop-test .taken) n (w .value) (w .written)
 
-same-length : tie.Need-same-length Inv-loop μ-loop
-same-length c = search needs
-
 returns : tie.Need-returns Inv-loop μ-loop
 returns c =
     let s = c .before .before .before in
@@ -78,17 +57,5 @@ returns c =
 pub hear-all-spec : {M : Type 1} → statement M
 hear-all-spec =
     tie.close
-    (tie.spec
-    Inv-loop
-    μ-loop
-    loop-holds
-    mul-c
-    array-copy-out-c
-    hear-slot-requires
-    mul-contexts
-    array-set-from-contexts
-    add-i
-    loop-less
-    loop-again
-    same-length
-    returns)
+    (tie.spec Inv-loop μ-loop loop-holds (search needs) (search needs) hear-slot-requires (search needs)
+    (search needs) (search needs) (search needs) loop-again (search needs) returns)

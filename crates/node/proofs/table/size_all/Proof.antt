@@ -24,12 +24,6 @@ whole c = search (needs, length-of-map)
 loop-holds : tie.Need-loop-holds Inv-loop μ-loop
 loop-holds c = let a = c .args in sizing-none (slotOut (a .p) (a .t) (a .m)) 0 16 (a .t2) 1026 (omega arith)
 
-mul-c : tie.Need-mul-c Inv-loop μ-loop
-mul-c c = search needs
-
-array-copy-out-c : tie.Need-array-copy-out-c Inv-loop μ-loop
-array-copy-out-c c = search needs
-
 slot-size-requires : tie.Need-slot-size-requires Inv-loop μ-loop
 slot-size-requires c κs =
     let s = c .before .before .before in
@@ -38,12 +32,6 @@ slot-size-requires c κs =
 
 add-n : tie.Need-add-n Inv-loop μ-loop
 add-n c = omega (arith, c .before .before .before .loop .inv .few, c .slot-size .ensures .most)
-
-add-i : tie.Need-add-i Inv-loop μ-loop
-add-i c = search needs
-
-loop-less : tie.Need-loop-less Inv-loop μ-loop
-loop-less c = search needs
 
 loop-again : tie.Need-loop-again Inv-loop μ-loop
 loop-again c =
@@ -62,15 +50,5 @@ returns c =
 pub size-all-spec : {M : Type 1} → statement M
 size-all-spec =
     tie.close
-    (tie.spec
-    Inv-loop
-    μ-loop
-    loop-holds
-    mul-c
-    array-copy-out-c
-    slot-size-requires
-    add-n
-    add-i
-    loop-less
-    loop-again
-    returns)
+    (tie.spec Inv-loop μ-loop loop-holds (search needs) (search needs) slot-size-requires add-n (search needs)
+    (search needs) loop-again returns)

@@ -5,15 +5,6 @@ use borrow.Author.Needs.{needs}
 use Rattle.node.proofs.task.named.Statement.{statement}
 use Rattle.node.proofs.task.named.Tie as tie
 
-find-requires : tie.Need-find-requires
-find-requires c κs = search needs
-
-enum-known-found : tie.Need-enum-known-found
-enum-known-found c = search needs
-
-enum-told : tie.Need-enum-told
-enum-told c = search needs
-
 returns : tie.Need-returns
 unfolding namedTask
 returns c = (rw (sym (c .before .before .before .find .ensures) ∙ c .before .found .given .1), c .before .before .before .before .pre)
@@ -23,4 +14,4 @@ unfolding namedTask
 returns-2 c = (rw (sym (c .before .before .find .ensures) ∙ c .enum-told .given .1), tt)
 
 pub named-spec : {M : Type 1} → statement M
-named-spec = tie.close (tie.spec find-requires enum-known-found enum-told returns returns-2)
+named-spec = tie.close (tie.spec (search needs) (search needs) (search needs) returns returns-2)

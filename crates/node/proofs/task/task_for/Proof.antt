@@ -11,15 +11,6 @@ returns : tie.Need-returns
 unfolding taskFor
 returns c = (rw (not-true (c .before .before .args .sound) (c .if1 .taken)), tt)
 
-decode-requires : tie.Need-decode-requires
-decode-requires c κs = search needs
-
-enum-known-d : tie.Need-enum-known-d
-enum-known-d c = search needs
-
-enum-known-d-2 : tie.Need-enum-known-d-2
-enum-known-d-2 c = search needs
-
 timely-requires : tie.Need-timely-requires
 timely-requires c κs =
     fair-meaning (c .before .before .before .before .before .before .args .event .now) _
@@ -48,11 +39,4 @@ returns-3 c =
 pub task-for-spec : {M : Type 1} → statement M
 task-for-spec =
     tie.close
-    (tie.spec
-    returns
-    decode-requires
-    enum-known-d
-    enum-known-d-2
-    timely-requires
-    returns-2
-    returns-3)
+    (tie.spec returns (search needs) (search needs) (search needs) timely-requires returns-2 returns-3)

@@ -42,9 +42,6 @@ array-copy-out-last c = omega (
       (c .before .before .before .before .before .before .before),
 )
 
-lasted-requires : tie.Need-lasted-requires
-lasted-requires c κs = search needs
-
 put-front-requires : tie.Need-put-front-requires
 put-front-requires c κs = withins (c .before .before .before .before .before .before .before .before .before .before .args .r)
     (c .before .before .before .before .before .before .before .before .before .before .pre) .imsi
@@ -53,9 +50,6 @@ put-pdp-requires : tie.Need-put-pdp-requires
 put-pdp-requires c κs = let r = c .before .before .before .before .before .before .before .before .before .before .before .before .before .before .args .r in
     apn-rules (r .apn) (r .apnlen) (withins r
     (c .before .before .before .before .before .before .before .before .before .before .before .before .before .before .pre) .apn) .most
-
-put-list-requires : tie.Need-put-list-requires
-put-list-requires c κs = search needs
 
 put-end-requires : tie.Need-put-end-requires
 put-end-requires c κs = withins (c .before .before .before .before .before .before .before .before .before .before .before .before .before .before .before
@@ -67,12 +61,6 @@ slice-aggregate-put-opt-text : tie.Need-slice-aggregate-put-opt-text
 slice-aggregate-put-opt-text c = sym (node-known
     (c .before .before .before .before .before .before .before .before .before .before .before .before .before .before .before .before .before .before
     .before .before .before .before .before .before .before .before .before))
-
-put-opt-text-requires : tie.Need-put-opt-text-requires
-put-opt-text-requires c κs = search needs
-
-same-length : tie.Need-same-length
-same-length c = search needs
 
 returns : tie.Need-returns
 unfolding duration
@@ -102,16 +90,5 @@ returns c =
 pub put-body-spec : {M : Type 1} → statement M
 put-body-spec =
     tie.close
-    (tie.spec
-    sub-last
-    mul-last
-    array-copy-out-last
-    lasted-requires
-    put-front-requires
-    put-pdp-requires
-    put-list-requires
-    put-end-requires
-    slice-aggregate-put-opt-text
-    put-opt-text-requires
-    same-length
-    returns)
+    (tie.spec sub-last mul-last array-copy-out-last (search needs) put-front-requires put-pdp-requires (search needs)
+    put-end-requires slice-aggregate-put-opt-text (search needs) (search needs) returns)

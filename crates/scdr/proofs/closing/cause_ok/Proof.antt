@@ -4,12 +4,9 @@ use Rattle.scdr.specs.Rules.{causeOk}
 use Rattle.scdr.proofs.closing.cause_ok.Statement.{statement}
 use Rattle.scdr.proofs.closing.cause_ok.Tie as tie
 
-is-release-requires : tie.Need-is-release-requires
-is-release-requires c κs = search needs
-
 returns : tie.Need-returns
 unfolding causeOk
 returns c = rw (c .is-release .ensures)
 
 pub cause-ok-spec : {M : Type 1} → statement M
-cause-ok-spec = tie.close (tie.spec is-release-requires returns)
+cause-ok-spec = tie.close (tie.spec (search needs) returns)

@@ -5,9 +5,6 @@ use Rattle.scdr.specs.Rules.{numberOk}
 use Rattle.scdr.proofs.closing.number_ok.Statement.{statement}
 use Rattle.scdr.proofs.closing.number_ok.Tie as tie
 
-is-release-requires : tie.Need-is-release-requires
-is-release-requires c κs = search needs
-
 returns : tie.Need-returns
 unfolding numberOk
 returns c = let e = sym (c .before .is-release .ensures) ∙ c .if1 .taken in rw e
@@ -17,4 +14,4 @@ unfolding numberOk
 returns-2 c = let e = sym (c .before .is-release .ensures) ∙ c .if1 .left in rw e
 
 pub number-ok-spec : {M : Type 1} → statement M
-number-ok-spec = tie.close (tie.spec is-release-requires returns returns-2)
+number-ok-spec = tie.close (tie.spec (search needs) returns returns-2)

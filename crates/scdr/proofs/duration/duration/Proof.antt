@@ -11,18 +11,6 @@ use Rattle.scdr.proofs.duration.duration.Tie as tie
 returns : tie.Need-returns
 returns c = duration-none _ (c .before .args .t1) (c .before .args .n) (c .if1 .taken)
 
-sub-c : tie.Need-sub-c
-sub-c c = search needs
-
-mul-c : tie.Need-mul-c
-mul-c c = search needs
-
-array-copy-out-c : tie.Need-array-copy-out-c
-array-copy-out-c c = search needs
-
-lasted-requires : tie.Need-lasted-requires
-lasted-requires c κs = search needs
-
 returns-2 : tie.Need-returns-2
 returns-2 c =
     let a = c .before .before .before .args in
@@ -30,4 +18,4 @@ returns-2 c =
     c .lasted .ensures ∙ duration-is (a .opening .seconds) (a .t1) (a .n) noContainer (omega arith) (omega (arith, c .before .before .before .pre))
 
 pub duration-spec : {M : Type 1} → statement M
-duration-spec = tie.close (tie.spec returns sub-c mul-c array-copy-out-c lasted-requires returns-2)
+duration-spec = tie.close (tie.spec returns (search needs) (search needs) (search needs) (search needs) returns-2)

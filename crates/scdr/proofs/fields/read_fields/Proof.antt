@@ -13,60 +13,6 @@ use Rattle.scdr.proofs.fields.read_fields.Tie as tie
 short : (c : tie.Start) → length (c .args .s .now) < nowhere
 short c = omega arith
 
-const-at-requires : tie.Need-const-at-requires
-const-at-requires c κs = search needs
-
-flag-at-requires : tie.Need-flag-at-requires
-flag-at-requires c κs = search needs
-
-imsi-at-requires : tie.Need-imsi-at-requires
-imsi-at-requires c κs = search needs
-
-address-at-requires : tie.Need-address-at-requires
-address-at-requires c κs = search needs
-
-word-at-requires : tie.Need-word-at-requires
-word-at-requires c κs = search needs
-
-address-at-requires-2 : tie.Need-address-at-requires-2
-address-at-requires-2 c κs = search needs
-
-slice-aggregate-octets-at : tie.Need-slice-aggregate-octets-at
-slice-aggregate-octets-at c = search needs
-
-octets-at-requires : tie.Need-octets-at-requires
-octets-at-requires c κs = search needs
-
-two-octets-at-requires : tie.Need-two-octets-at-requires
-two-octets-at-requires c κs = search needs
-
-address-in-at-requires : tie.Need-address-in-at-requires
-address-in-at-requires c κs = search needs
-
-list-at-requires : tie.Need-list-at-requires
-list-at-requires c κs = search needs
-
-stamp-at-requires : tie.Need-stamp-at-requires
-stamp-at-requires c κs = search needs
-
-int-at-requires : tie.Need-int-at-requires
-int-at-requires c κs = search needs
-
-flag-at-requires-2 : tie.Need-flag-at-requires-2
-flag-at-requires-2 c κs = search needs
-
-octet-at-requires : tie.Need-octet-at-requires
-octet-at-requires c κs = search needs
-
-count-at-requires : tie.Need-count-at-requires
-count-at-requires c κs = search needs
-
-slice-aggregate-text-at : tie.Need-slice-aggregate-text-at
-slice-aggregate-text-at c = search needs
-
-text-at-requires : tie.Need-text-at-requires
-text-at-requires c κs = search needs
-
 returns : tie.Need-returns
 returns c =
     let node = c .before .before .before .before .before in
@@ -107,23 +53,6 @@ returns c =
 pub read-fields-spec : {M : Type 1} → statement M
 read-fields-spec =
     tie.close
-    (tie.spec
-    const-at-requires
-    flag-at-requires
-    imsi-at-requires
-    address-at-requires
-    word-at-requires
-    address-at-requires-2
-    slice-aggregate-octets-at
-    octets-at-requires
-    two-octets-at-requires
-    address-in-at-requires
-    list-at-requires
-    stamp-at-requires
-    int-at-requires
-    flag-at-requires-2
-    octet-at-requires
-    count-at-requires
-    slice-aggregate-text-at
-    text-at-requires
-    returns)
+    (tie.spec (search needs) (search needs) (search needs) (search needs) (search needs) (search needs) (search needs)
+    (search needs) (search needs) (search needs) (search needs) (search needs) (search needs) (search needs)
+    (search needs) (search needs) (search needs) (search needs) returns)

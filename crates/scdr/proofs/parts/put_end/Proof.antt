@@ -9,24 +9,6 @@ use Rattle.scdr.specs.Table.{Opening}
 use Rattle.scdr.proofs.parts.put_end.Statement.{statement}
 use Rattle.scdr.proofs.parts.put_end.Tie as tie
 
-put-stamp-requires : tie.Need-put-stamp-requires
-put-stamp-requires c κs = search needs
-
-put-int-requires : tie.Need-put-int-requires
-put-int-requires c κs = search needs
-
-put-flag-requires : tie.Need-put-flag-requires
-put-flag-requires c κs = search needs
-
-put-octet-requires : tie.Need-put-octet-requires
-put-octet-requires c κs = search needs
-
-put-count-requires : tie.Need-put-count-requires
-put-count-requires c κs = search needs
-
-same-length : tie.Need-same-length
-same-length c = search needs
-
 returns : tie.Need-returns
 returns c =
     let caused = c .before .before .before .before .before .before in
@@ -44,11 +26,4 @@ returns c =
 pub put-end-spec : {M : Type 1} → statement M
 put-end-spec =
     tie.close
-    (tie.spec
-    put-stamp-requires
-    put-int-requires
-    put-flag-requires
-    put-octet-requires
-    put-count-requires
-    same-length
-    returns)
+    (tie.spec (search needs) (search needs) (search needs) (search needs) (search needs) (search needs) returns)

@@ -9,24 +9,6 @@ use Rattle.scdr.specs.Table.{Imsi}
 use Rattle.scdr.proofs.parts.put_front.Statement.{statement}
 use Rattle.scdr.proofs.parts.put_front.Tie as tie
 
-put-octet-requires : tie.Need-put-octet-requires
-put-octet-requires c κs = search needs
-
-put-flag-requires : tie.Need-put-flag-requires
-put-flag-requires c κs = search needs
-
-put-imsi-requires : tie.Need-put-imsi-requires
-put-imsi-requires c κs = search needs
-
-put-address-requires : tie.Need-put-address-requires
-put-address-requires c κs = search needs
-
-put-int-requires : tie.Need-put-int-requires
-put-int-requires c κs = search needs
-
-same-length : tie.Need-same-length
-same-length c = search needs
-
 returns : tie.Need-returns
 returns c =
     let homed = c .before .before .before .before .before .before in
@@ -44,11 +26,4 @@ returns c =
 pub put-front-spec : {M : Type 1} → statement M
 put-front-spec =
     tie.close
-    (tie.spec
-    put-octet-requires
-    put-flag-requires
-    put-imsi-requires
-    put-address-requires
-    put-int-requires
-    same-length
-    returns)
+    (tie.spec (search needs) (search needs) (search needs) (search needs) (search needs) (search needs) returns)

@@ -13,24 +13,6 @@ use Rattle.scdr.proofs.parts.put_pdp.Tie as tie
 name-known : (c : tie.Start) → length (c .args .t4) ≡ 63
 name-known c = search needs
 
-put-address-requires : tie.Need-put-address-requires
-put-address-requires c κs = search needs
-
-slice-aggregate-put-text : tie.Need-slice-aggregate-put-text
-slice-aggregate-put-text c = search needs
-
-put-text-requires : tie.Need-put-text-requires
-put-text-requires c κs = search needs
-
-put-two-octets-requires : tie.Need-put-two-octets-requires
-put-two-octets-requires c κs = search needs
-
-put-address-in-requires : tie.Need-put-address-in-requires
-put-address-in-requires c κs = search needs
-
-same-length : tie.Need-same-length
-same-length c = search needs
-
 returns : tie.Need-returns
 returns c =
     let typed = c .before .before .before .before .before .before in
@@ -48,11 +30,4 @@ returns c =
 pub put-pdp-spec : {M : Type 1} → statement M
 put-pdp-spec =
     tie.close
-    (tie.spec
-    put-address-requires
-    slice-aggregate-put-text
-    put-text-requires
-    put-two-octets-requires
-    put-address-in-requires
-    same-length
-    returns)
+    (tie.spec (search needs) (search needs) (search needs) (search needs) (search needs) (search needs) returns)

@@ -6,12 +6,9 @@ use Rattle.octets.specs.Filled.{fillTo}
 use Rattle.scdr.proofs.read.no_record.Statement.{statement}
 use Rattle.scdr.proofs.read.no_record.Tie as tie
 
-no-container-requires : tie.Need-no-container-requires
-no-container-requires c κs = search needs
-
 returns : tie.Need-returns
 unfolding fillTo noContainers
 returns c = record { number = refl; blank = rw (c .no-container .ensures); start = refl; end = refl }
 
 pub no-record-spec : {M : Type 1} → statement M
-no-record-spec = tie.close (tie.spec no-container-requires returns)
+no-record-spec = tie.close (tie.spec (search needs) returns)

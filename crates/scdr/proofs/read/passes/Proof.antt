@@ -10,9 +10,6 @@ use Rattle.scdr.proofs.Accepting.{and-no, and-yes}
 use Rattle.scdr.proofs.read.passes.Statement.{statement}
 use Rattle.scdr.proofs.read.passes.Tie as tie
 
-within-requires : tie.Need-within-requires
-within-requires c κs = search needs
-
 returns : tie.Need-returns
 returns c = and-no (eqb (c .before .before .args .lasts) (duration (c .before .before .args .r))) (sym (c .before .within .ensures) ∙ not-true _
     (c .if1 .taken))
@@ -22,9 +19,6 @@ duration-requires c κs =
     let r = c .before .before .before .before .args .r in
     places-rules r (withins r (true-T (within r) (sym (c .before .before .before .within .ensures) ∙ not-false _ (c .before .before .if1 .left))) .list) .most
 
-cast-result : tie.Need-cast-result
-cast-result c = search needs
-
 returns-2 : tie.Need-returns-2
 unfolding duration
 returns-2 c =
@@ -33,4 +27,4 @@ returns-2 c =
     ∙ not-false _ (c .before .before .before .if1 .left))
 
 pub passes-spec : {M : Type 1} → statement M
-passes-spec = tie.close (tie.spec within-requires returns duration-requires cast-result returns-2)
+passes-spec = tie.close (tie.spec (search needs) returns duration-requires (search needs) returns-2)

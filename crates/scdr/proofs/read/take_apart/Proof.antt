@@ -9,27 +9,12 @@ use Rattle.scdr.proofs.Accepting.{record-not, record-is, record-inside,
 use Rattle.scdr.proofs.read.take_apart.Statement.{statement}
 use Rattle.scdr.proofs.read.take_apart.Tie as tie
 
-part-at-requires : tie.Need-part-at-requires
-part-at-requires c κs = search needs
-
-no-record-requires : tie.Need-no-record-requires
-no-record-requires c κs = search needs
-
 returns : tie.Need-returns
 returns c =
     let cut = c .before in
     let part = cut .before .before in
     let start = part .before .before in
     taken-nothing (start .args .s .now) (record-not (part .part-at .ensures) (omega arith) (cut .if1 .taken)) (c .no-record .ensures)
-
-contents-requires : tie.Need-contents-requires
-contents-requires c κs = search needs
-
-read-fields-requires : tie.Need-read-fields-requires
-read-fields-requires c κs = search needs
-
-passes-requires : tie.Need-passes-requires
-passes-requires c κs = search needs
 
 add-to : tie.Need-add-to
 add-to c =
@@ -74,9 +59,6 @@ returns-2 c =
     let asked = rw (passes .passes .ensures) at (asks .if2 .taken) in
     taken-record l h k (omega arith) (wire-ends _ v asked) (record-is l h k (omega arith) ∙ wire-yes _ v asked)
 
-no-record-requires-2 : tie.Need-no-record-requires-2
-no-record-requires-2 c κs = search needs
-
 returns-3 : tie.Need-returns-3
 returns-3 c =
     let asks = c .before in
@@ -95,15 +77,5 @@ returns-3 c =
 pub take-apart-spec : {M : Type 1} → statement M
 take-apart-spec =
     tie.close
-    (tie.spec
-    part-at-requires
-    no-record-requires
-    returns
-    contents-requires
-    read-fields-requires
-    passes-requires
-    add-to
-    sub-t10
-    returns-2
-    no-record-requires-2
-    returns-3)
+    (tie.spec (search needs) (search needs) returns (search needs) (search needs) (search needs) add-to sub-t10
+    returns-2 (search needs) returns-3)

@@ -12,33 +12,6 @@ use Rattle.scdr.proofs.rules.within.Tie as tie
 slice-aggregate-imsi-size : tie.Need-slice-aggregate-imsi-size
 slice-aggregate-imsi-size c = search needs
 
-imsi-size-requires : tie.Need-imsi-size-requires
-imsi-size-requires c κs = search needs
-
-apn-ok-requires : tie.Need-apn-ok-requires
-apn-ok-requires c κs = search needs
-
-stamp-within-requires : tie.Need-stamp-within-requires
-stamp-within-requires c κs = search needs
-
-list-ok-requires : tie.Need-list-ok-requires
-list-ok-requires c κs = search needs
-
-unused-blank-requires : tie.Need-unused-blank-requires
-unused-blank-requires c κs = search needs
-
-cause-ok-requires : tie.Need-cause-ok-requires
-cause-ok-requires c κs = search needs
-
-number-ok-requires : tie.Need-number-ok-requires
-number-ok-requires c κs = search needs
-
-change-ok-requires : tie.Need-change-ok-requires
-change-ok-requires c κs = search needs
-
-node-ok-requires : tie.Need-node-ok-requires
-node-ok-requires c κs = search needs
-
 returns : tie.Need-returns
 returns c =
     let unused = c .before .before .before .before in
@@ -52,15 +25,5 @@ returns c =
 pub within-spec : {M : Type 1} → statement M
 within-spec =
     tie.close
-    (tie.spec
-    slice-aggregate-imsi-size
-    imsi-size-requires
-    apn-ok-requires
-    stamp-within-requires
-    list-ok-requires
-    unused-blank-requires
-    cause-ok-requires
-    number-ok-requires
-    change-ok-requires
-    node-ok-requires
-    returns)
+    (tie.spec slice-aggregate-imsi-size (search needs) (search needs) (search needs) (search needs) (search needs)
+    (search needs) (search needs) (search needs) (search needs) returns)

@@ -15,14 +15,8 @@ known c =
     true-T (shaped r)
     (shaped-is r (search needs) (search (needs, length-of-map)) (search needs) (omega arith) (omega arith) (omega arith) (omega arith) (omega arith))
 
-slice-aggregate-write-record : tie.Need-slice-aggregate-write-record
-slice-aggregate-write-record c = search needs
-
-write-record-requires : tie.Need-write-record-requires
-write-record-requires c κs = search needs
-
 returns : tie.Need-returns
 returns c = sizes (c .before .before .before .args .r) (known (c .before .before .before)) (search needs) (c .before .write-record .ensures)
 
 pub record-size-spec : {M : Type 1} → statement M
-record-size-spec = tie.close (tie.spec slice-aggregate-write-record write-record-requires returns)
+record-size-spec = tie.close (tie.spec (search needs) (search needs) returns)

@@ -25,14 +25,8 @@ known c =
 passed : (c : tie.Start) → within (c .args .r) ≡ true → T (rules (c .args .r))
 passed c w = and-i (shaped (c .args .r)) (within (c .args .r)) (known c) (true-T (within (c .args .r)) w)
 
-within-requires : tie.Need-within-requires
-within-requires c κs = search needs
-
 returns : tie.Need-returns
 returns c = writes-outside (c .before .before .before .args .r) _ (sym (c .before .within .ensures) ∙ not-true _ (c .if1 .taken))
-
-slice-aggregate-put-body : tie.Need-slice-aggregate-put-body
-slice-aggregate-put-body c = search needs
 
 put-body-requires : tie.Need-put-body-requires
 put-body-requires c κs = true-T (within (c .before .before .before .before .args .r)) (sym (c .before .before .within .ensures) ∙ not-false _
@@ -51,12 +45,6 @@ slice-aggregate-put-tlv c =
     let f = filled (c .before .before .before .put-body .ensures) (body-short (c .before .before .before .before .before .before .before .before .args .r) t) in
     f .1 ∙ ap length (sym (f .0))
 
-put-tlv-requires : tie.Need-put-tlv-requires
-put-tlv-requires c κs = search needs
-
-same-length : tie.Need-same-length
-same-length c = search needs
-
 returns-2 : tie.Need-returns-2
 returns-2 c =
     let r = c .before .before .before .before .before .before .before .before .before .before .before .before .args .r in
@@ -65,9 +53,6 @@ returns-2 c =
     let t = passed (c .before .before .before .before .before .before .before .before .before .before .before .before) w in
     let f = filled (c .before .before .before .before .before .before .before .put-body .ensures) (body-short r t) in
     writes-full r t w (puts-is (octets-form r t (f .0)) (c .before .before .before .put-tlv .ensures)) (c .if2 .taken)
-
-same-length-2 : tie.Need-same-length-2
-same-length-2 c = search needs
 
 returns-3 : tie.Need-returns-3
 returns-3 c =
@@ -81,15 +66,5 @@ returns-3 c =
 pub write-record-spec : {M : Type 1} → statement M
 write-record-spec =
     tie.close
-    (tie.spec
-    within-requires
-    returns
-    slice-aggregate-put-body
-    put-body-requires
-    array-share-prefix-b
-    slice-aggregate-put-tlv
-    put-tlv-requires
-    same-length
-    returns-2
-    same-length-2
-    returns-3)
+    (tie.spec (search needs) returns (search needs) put-body-requires array-share-prefix-b slice-aggregate-put-tlv
+    (search needs) (search needs) returns-2 (search needs) returns-3)
