@@ -1,10 +1,8 @@
 -- `host::charging_fresh` meets its contract. Its own are: which parameters, which fields, and where each local stands in the context. The rest of the
 -- walk is Thin's. All that the proof knows of `begin` is that it meets its contract.
-use Rattle.host.proofs.Thin.{refl, List, [], _∷_, URA, named, SProp, emp, id⊢, ftrue, Memory, Routine, Heap, Calls, Loops, WpFn, Atoms, Fun, Lfts}
-use Rattle.host.proofs.Thin.{givenOf, Given, _$_, !, move, keep, init, and-then, no-more, params1, pass1, pass0, FmC, RattleType, Denots, Valss}
-use Rattle.host.proofs.Thin.{Spells, u8, ptr-vals, mut-tells, slice-vals, ShrSlice, shr-slice-tells, shr-slice-copy, plain, typesAt, heard, vals}
-use Rattle.host.proofs.Thin.{Triple, alive, Stays, stay-ref, stay-none-slice, goes-ref, goes-none-slice, ends-at, yes, called, Walking, holds}
-use Rattle.host.proofs.Thin.{begins, takes, ownsThen, asks, held, leaves, field-of, releases, ends}
+use Rattle.host.proofs.Thin.{refl, List, [], _∷_, named, emp, id⊢, ftrue, _$_, !, move, keep, init, and-then, no-more, params1, pass1, pass0}
+use Rattle.host.proofs.Thin.{RattleType, Valss, u8, ptr-vals, slice-vals, ShrSlice, shr-slice-copy, heard, vals, alive, ends-at, held, field-of}
+use Rattle.host.proofs.Thin.{ownsThen, takes, leaves, asks, ends, releases, begins, node, slice, Knowns, stays, Walk, holds}
 use Rattle.host.specs.Begin.{Begins}
 use Rattle.node.proofs.Node as T
 use Rattle.node.proofs.Node.Laws as T′
@@ -20,44 +18,35 @@ use Rattle.host.proofs.charging_fresh as f
 use Rattle.host.proofs.charging_fresh.Statement as stated
 use Rattle.host.proofs.charging_fresh.Code as code
 
-abbrev stayed : Stays (f.ended .signature .params) (f.ended .kept)
-stayed = (stay-ref (0 ∷ []) tt (plain (λ _. T.the-row)), (stay-none-slice (1 ∷ []) tt (plain (λ _. u8)) yes, tt))
+abbrev params : Knowns (f.ended .signature .params) (f.ended .kept)
+params = (node 0 tt T.the-row, (slice 1 tt u8, tt))
 
-abbrev spelling : (κs : Lfts 2) → Spells (typesAt (f.signature .params) κs)
-spelling κs = (ptr-vals, (slice-vals, tt))
-
-module _ {M : Type 1} (𝓤 : URA M) (H : Heap 𝓤) (A : Atoms 𝓤) (W : Given 𝓤 H A) (at-mem : Memory → SProp 𝓤) (run : Routine → Fun 𝓤) (C : Calls 𝓤 H)
-    (Λ : Loops 𝓤 H) (fm : FmC 𝓤 H (W .laws) C) (known : Triple 𝓤 (C g-def.name) (called 𝓤 H A g.ended (g.clauses 𝓤 H A at-mem run))) where
-  walk : Walking 𝓤 H A f.ended stayed (f.clauses 𝓤 H A at-mem run) (WpFn 𝓤 H C Λ code.function) spelling
-  walk κs qs bounds a ghost are =
-      let Ts : List RattleType = ShrSlice (named 1) (κs .1 .0) u8 ∷ [] in
-      let us : Valss Ts = (slice-vals (a .1 .0), tt) in
-      begins W T.the-type (named 0) (a .0) (alive 𝓤 H A g.signature (κs .1) (qs .1)) (emp 𝓤) (ownsThen Ts (a .1) us ftrue) C Λ code.function _ _ (λ bs.
-      params1 ! $ pass1 ! (init ! 1 refl (tt, tt)) $ pass1 ! (init ! 2 refl (tt, (tt, (record { fits = are .1 .0 .0 .1 .0 }, tt)))) $ pass0 ! $
-      -- [_0 to _4 (0 to 4); deaths (5); said (6); lent (7); token (8); tokens (9); owned (10); required (11)]
-      move ! (6 ∷ 7 ∷ 8 ∷ 1 ∷ 4 ∷ []) $ takes ! T.the-type T′.the-laws (a .0) refl refl (λ was.
-      -- [open (0 to 3); _1 (4); _4 (5); _0 (6); _2 (7); _3 (8); deaths (9); tokens (10); owned (11); required (12)]
-      move ! (10 ∷ 11 ∷ []) $
-      asks ! fm g.ended (g.clauses 𝓤 H A at-mem run) known
-      ((κs .1, qs .1, tt, (a .0 .now, a .1), (vals T.the-type T′.the-laws (a .0 .now), us)), tt)
-      T.the-type T′.the-plain (a .0 .now) _ was Ts (shr-slice-copy 𝓤 H A W (named 1) (κs .1 .0) u8, tt) (a .1) us ftrue refl (id⊢ 𝓤 (emp 𝓤))
-      (and-then ! (held ! 7 refl) (and-then ! (held ! 9 refl) (no-more !))) (λ w r ws.
-      heard ! (Begins (a .1 .0 .now) (r .answer) (r .node) (r .line)) (λ e.
-      -- [lasts (0); had (1); own (2); tokens (3); open (4 to 7); _1 (8); _4 (9); _0 (10); _2 (11); _3 (12); deaths (13); required (14)]
-      move ! (2 ∷ 4 ∷ 5 ∷ 6 ∷ 7 ∷ 10 ∷ 8 ∷ 12 ∷ []) $
-      leaves ! T.the-type T′.the-laws T′.the-plain S.the-type S′.the-laws R.the-type R′.the-laws R′.the-plain (a .0) r (r .node)
-      (record { answer = r .answer; line = r .line }) refl refl refl refl refl (λ is. (is .1 .0, (is .0, (is .1 .1 .0, tt))))
-      (and-then ! (field-of ! 5 0 refl refl refl) (and-then ! (field-of ! 5 2 refl refl refl) (no-more !))) $
-      -- [answer (0); said (1); lent (2); token (3); _0 (4); _1 (5); _3 (6); lasts (7); had (8); tokens (9); _4 (10); _2 (11); deaths (12)]
-      move ! (4 ∷ 5 ∷ 11 ∷ 6 ∷ 10 ∷ 12 ∷ []) $ releases ! _ _ $ keep ! (0 ∷ 1 ∷ 2 ∷ 3 ∷ 6 ∷ 5 ∷ []) $
-      ends ! T.the-type (named 0) (a .0) (r .node) e (ends-at 𝓤 H A f.ended stayed (f.clauses 𝓤 H A at-mem run) W
-      ((κs, qs, bounds, a, (ptr-vals (a .0), us)), ghost) _ (record { answer = r .answer; line = r .line }) (r .node, (tt, tt)) (tt, (tt, tt)))))))
+walk : Walk f.ended params (λ M. f.clauses) g.ended (λ M. g.clauses) g-def.name code.function
+walk M 𝓤 H A W m run C Λ fm known κs qs bounds a ghost are =
+    let Ts : List RattleType = ShrSlice (named 1) (κs .1 .0) u8 ∷ [] in
+    let us : Valss Ts = (slice-vals (a .1 .0), tt) in
+    begins W T.the-type (named 0) (a .0) (alive 𝓤 H A g.signature (κs .1) (qs .1)) (emp 𝓤) (ownsThen Ts (a .1) us ftrue) C Λ code.function _ _ (λ bs.
+    params1 ! $ pass1 ! (init ! 1 refl (tt, tt)) $ pass1 ! (init ! 2 refl (tt, (tt, (record { fits = are .1 .0 .0 .1 .0 }, tt)))) $ pass0 ! $
+    -- [_0 to _4 (0 to 4); deaths (5); said (6); lent (7); token (8); tokens (9); owned (10); required (11)]
+    move ! (6 ∷ 7 ∷ 8 ∷ 1 ∷ 4 ∷ []) $ takes ! T.the-type T′.the-laws (a .0) refl refl (λ was.
+    -- [open (0 to 3); _1 (4); _4 (5); _0 (6); _2 (7); _3 (8); deaths (9); tokens (10); owned (11); required (12)]
+    move ! (10 ∷ 11 ∷ []) $
+    asks ! fm g.ended (g.clauses 𝓤 H A m run) known
+    ((κs .1, qs .1, tt, (a .0 .now, a .1), (vals T.the-type T′.the-laws (a .0 .now), us)), tt)
+    T.the-type T′.the-plain (a .0 .now) _ was Ts (shr-slice-copy 𝓤 H A W (named 1) (κs .1 .0) u8, tt) (a .1) us ftrue refl (id⊢ 𝓤 (emp 𝓤))
+    (and-then ! (held ! 7 refl) (and-then ! (held ! 9 refl) (no-more !))) (λ w r ws.
+    heard ! (Begins (a .1 .0 .now) (r .answer) (r .node) (r .line)) (λ e.
+    -- [lasts (0); had (1); own (2); tokens (3); open (4 to 7); _1 (8); _4 (9); _0 (10); _2 (11); _3 (12); deaths (13); required (14)]
+    move ! (2 ∷ 4 ∷ 5 ∷ 6 ∷ 7 ∷ 10 ∷ 8 ∷ 12 ∷ []) $
+    leaves ! T.the-type T′.the-laws T′.the-plain S.the-type S′.the-laws R.the-type R′.the-laws R′.the-plain (a .0) r (r .node)
+    (record { answer = r .answer; line = r .line }) refl refl refl refl refl (λ is. (is .1 .0, (is .0, (is .1 .1 .0, tt))))
+    (and-then ! (field-of ! 5 0 refl refl refl) (and-then ! (field-of ! 5 2 refl refl refl) (no-more !))) $
+    -- [answer (0); said (1); lent (2); token (3); _0 (4); _1 (5); _3 (6); lasts (7); had (8); tokens (9); _4 (10); _2 (11); deaths (12)]
+    move ! (4 ∷ 5 ∷ 11 ∷ 6 ∷ 10 ∷ 12 ∷ []) $ releases ! _ _ $ keep ! (0 ∷ 1 ∷ 2 ∷ 3 ∷ 6 ∷ 5 ∷ []) $
+    ends ! T.the-type (named 0) (a .0) (r .node) e (ends-at 𝓤 H A f.ended (stays (f.signature .params) (f.ended .kept) params) (f.clauses 𝓤 H A m run) W
+    ((κs, qs, bounds, a, (ptr-vals (a .0), us)), ghost) _ (record { answer = r .answer; line = r .line }) (r .node, (tt, tt)) (tt, (tt, tt)))))))
 
 pub charging-fresh-spec : {M : Type 1} → stated.statement M
 unfolding code.routine
-charging-fresh-spec 𝓤 H 𝓜 𝓖 𝓡 =
-    let W : Given 𝓤 H (𝓖 .A) = givenOf 𝓤 H 𝓜 𝓖 in
-    holds 𝓤 H 𝓜 𝓖 𝓡 f.ended stayed (f.clauses 𝓤 H (𝓖 .A) (𝓜 .mem) (𝓡 .run)) g.ended (g.clauses 𝓤 H (𝓖 .A) (𝓜 .mem) (𝓡 .run)) code.env
-    (goes-ref 𝓤 H (𝓖 .A) W 2 0 tt (plain (λ _. T.the-row)), (goes-none-slice 𝓤 H (𝓖 .A) W 2 (1 ∷ []) tt (plain (λ _. u8)) yes, tt))
-    key.name code.function (code.unfolded 𝓤 H 𝓜 𝓡) g-def.name g-def.routine code.calls-host·begin (g-thm.met 𝓤 H 𝓜 𝓖 𝓡) spelling
-    (λ κs. (mut-tells (named 0) (κs .0) T.the-row, (shr-slice-tells (named 1) (κs .1 .0) u8, tt))) (walk 𝓤 H (𝓖 .A) W (𝓜 .mem) (𝓡 .run))
+charging-fresh-spec 𝓤 H 𝓜 𝓖 𝓡 = holds f.ended params (λ M. f.clauses) g.ended (λ M. g.clauses) g-def.name code.function walk 𝓤 H 𝓜 𝓖 𝓡 code.env key.name
+    (code.unfolded 𝓤 H 𝓜 𝓡) g-def.routine code.calls-host·begin (g-thm.met 𝓤 H 𝓜 𝓖 𝓡)

@@ -1,11 +1,9 @@
 -- `host::charging_step` meets its contract. Its own are: which parameters, which fields, and where each local stands in the context. The rest of the
 -- walk is Thin's. All that the proof knows of `step` is that it meets its contract.
-use Rattle.host.proofs.Thin.{refl, List, [], _∷_, URA, named, SProp, emp, id⊢, Fml, fsep, ftrue, Memory, Routine, Heap, Calls, Loops, WpFn, Atoms}
-use Rattle.host.proofs.Thin.{Fun, Lfts, givenOf, Given, _$_, !, move, keep, init, and-then, no-more, params1, pass1, pass0, FmC, RattleType, Denots}
-use Rattle.host.proofs.Thin.{Valss, Spells, u8, ptr-vals, mut-tells, slice-vals, MutSlice, ShrSlice, finally, mut-slice-tells, shr-slice-tells}
-use Rattle.host.proofs.Thin.{shr-slice-copy, plain, typesAt, heard, vals, Triple, alive, Stays, stay-ref, stay-none-slice, gave-slice, goes-ref}
-use Rattle.host.proofs.Thin.{goes-none-slice, goes-gave-slice, ends-at, yes, called, Walking, holds, begins, takes, lends, ownsThen, asks, held}
-use Rattle.host.proofs.Thin.{regains, leaves, field-of, releases, ends}
+use Rattle.host.proofs.Thin.{refl, List, [], _∷_, named, emp, id⊢, Fml, fsep, ftrue, _$_, !, move, keep, init, and-then, no-more, params1, pass1}
+use Rattle.host.proofs.Thin.{pass0, RattleType, Denots, Valss, u8, ptr-vals, slice-vals, MutSlice, ShrSlice, finally, shr-slice-copy, heard, vals}
+use Rattle.host.proofs.Thin.{alive, ends-at, held, field-of, ownsThen, takes, leaves, lends, asks, regains, ends, releases, begins, node, slice}
+use Rattle.host.proofs.Thin.{buffer, Knowns, stays, Walk, holds}
 use Rattle.node.specs.Step.{Steps}
 use Rattle.node.proofs.Node as T
 use Rattle.node.proofs.Node.Laws as T′
@@ -21,58 +19,40 @@ use Rattle.host.proofs.charging_step as f
 use Rattle.host.proofs.charging_step.Statement as stated
 use Rattle.host.proofs.charging_step.Code as code
 
-abbrev stayed : Stays (f.ended .signature .params) (f.ended .kept)
-stayed = (
-  stay-ref (0 ∷ []) tt (plain (λ _. T.the-row)),
-  (stay-none-slice (1 ∷ []) tt (plain (λ _. u8)) yes, (gave-slice (2 ∷ []) tt (plain (λ _. u8)), tt)),
-)
+abbrev params : Knowns (f.ended .signature .params) (f.ended .kept)
+params = (node 0 tt T.the-row, (slice 1 tt u8, (buffer 2 tt u8, tt)))
 
-abbrev spelling : (κs : Lfts 3) → Spells (typesAt (f.signature .params) κs)
-spelling κs = (ptr-vals, (slice-vals, (slice-vals, tt)))
-
-module _ {M : Type 1} (𝓤 : URA M) (H : Heap 𝓤) (A : Atoms 𝓤) (W : Given 𝓤 H A) (at-mem : Memory → SProp 𝓤) (run : Routine → Fun 𝓤) (C : Calls 𝓤 H)
-    (Λ : Loops 𝓤 H) (fm : FmC 𝓤 H (W .laws) C) (known : Triple 𝓤 (C g-def.name) (called 𝓤 H A g.ended (g.clauses 𝓤 H A at-mem run))) where
-  walk : Walking 𝓤 H A f.ended stayed (f.clauses 𝓤 H A at-mem run) (WpFn 𝓤 H C Λ code.function) spelling
-  walk κs qs bounds a ghost are =
-      let Ts : List RattleType = ShrSlice (named 1) (κs .1 .0) u8 ∷ [] in
-      let b : Denots Ts = (a .1 .0, tt) in
-      let us : Valss Ts = (slice-vals (a .1 .0), tt) in
-      let Out : Fml = fsep (MutSlice (named 2) (κs .1 .1 .0) u8 .own (a .1 .1 .0) (slice-vals (a .1 .1 .0))) ftrue in
-      begins W T.the-type (named 0) (a .0) (alive 𝓤 H A g.signature (κs .1) (qs .1)) (emp 𝓤) (ownsThen Ts b us Out) C Λ code.function _ _ (λ bs.
-      params1 ! $ pass1 ! (init ! 1 refl (tt, tt)) $ pass1 ! (init ! 2 refl (tt, (tt, (record { fits = are .1 .0 .0 .1 .0 }, tt)))) $
-      pass1 ! (init ! 3 refl (tt, (tt, (record { fits = are .1 .1 .0 .0 .1 .0 }, tt)))) $ pass0 ! $
-      -- [_0 to _7 (0 to 7); deaths (8); said (9); lent (10); token (11); tokens (12); owned (13); required (14)]
-      move ! (9 ∷ 10 ∷ 11 ∷ 1 ∷ 5 ∷ []) $ takes ! T.the-type T′.the-laws (a .0) refl refl (λ was.
-      -- [open (0 to 3); _1 (4); _5 (5); _0 (6); _2 (7); _3 (8); _4 (9); _6 (10); _7 (11); deaths (12); tokens (13); owned (14); required (15)]
-      lends ! 8 10 11 refl refl refl refl refl refl refl refl (tt, tt) (tt, (tt, (record { fits = are .1 .1 .0 .0 .1 .0 }, tt))) $ move ! (13 ∷ 14 ∷ []) $
-      asks ! fm g.ended (g.clauses 𝓤 H A at-mem run) known
-      ((κs .1, qs .1, tt, (a .0 .now, a .1), (vals T.the-type T′.the-laws (a .0 .now), (slice-vals (a .1 .0), (slice-vals (a .1 .1 .0), tt)))), tt)
-      T.the-type T′.the-plain (a .0 .now) _ was Ts (shr-slice-copy 𝓤 H A W (named 1) (κs .1 .0) u8, tt) b us Out refl (id⊢ 𝓤 (emp 𝓤))
-      (and-then ! (held ! 7 refl) (and-then ! (held ! 9 refl) (and-then ! (held ! 13 refl) (no-more !)))) (λ w r ws.
-      heard ! (Steps (a .0 .now) (a .1 .0 .now) (a .1 .1 .0 .now) (ws .1 .1 .0) (r .answer) (r .node) (r .written)) (λ e.
-      regains ! Ts b us (finally u8 (a .1 .1 .0 .name) (ws .1 .1 .0)) (λ same.
-      -- [had (0); own (1); tokens (2); open (3 to 6); _1 (7); _5 (8); _0 (9); _2 (10); _3 (11); _4 (12); _6 (13); _7 (14); deaths (15); required (16)]
-      move ! (1 ∷ 3 ∷ 4 ∷ 5 ∷ 6 ∷ 9 ∷ 7 ∷ 12 ∷ []) $
-      leaves ! T.the-type T′.the-laws T′.the-plain S.the-type S′.the-laws R.the-type R′.the-laws R′.the-plain (a .0) r (r .node)
-      (record { answer = r .answer; written = r .written }) refl refl refl refl refl (λ is. (is .1 .0, (is .0, (is .1 .1 .0, tt))))
-      (and-then ! (field-of ! 5 0 refl refl refl) (and-then ! (field-of ! 5 2 refl refl refl) (no-more !))) $
-      -- [answer (0); said (1); lent (2); token (3); _0 (4); _1 (5); _4 (6); had (7); tokens (8); _5 (9); _2 (10); _3 (11); _6 (12); _7 (13); deaths (14)]
-      move ! (4 ∷ 5 ∷ 10 ∷ 11 ∷ 6 ∷ 9 ∷ 12 ∷ 13 ∷ 14 ∷ []) $ releases ! _ _ $ keep ! (0 ∷ 1 ∷ 2 ∷ 3 ∷ 5 ∷ 4 ∷ []) $
-      ends ! T.the-type (named 0) (a .0) (r .node) e (ends-at 𝓤 H A f.ended stayed (f.clauses 𝓤 H A at-mem run) W
-      ((κs, qs, bounds, a, (ptr-vals (a .0), (slice-vals (a .1 .0), (slice-vals (a .1 .1 .0), tt)))), ghost) _
-      (record { answer = r .answer; written = r .written }) (r .node, (tt, (ws .1 .1 .0, tt))) (tt, (tt, (same, tt)))))))))
+walk : Walk f.ended params (λ M. f.clauses) g.ended (λ M. g.clauses) g-def.name code.function
+walk M 𝓤 H A W m run C Λ fm known κs qs bounds a ghost are =
+    let Ts : List RattleType = ShrSlice (named 1) (κs .1 .0) u8 ∷ [] in
+    let b : Denots Ts = (a .1 .0, tt) in
+    let us : Valss Ts = (slice-vals (a .1 .0), tt) in
+    let Out : Fml = fsep (MutSlice (named 2) (κs .1 .1 .0) u8 .own (a .1 .1 .0) (slice-vals (a .1 .1 .0))) ftrue in
+    begins W T.the-type (named 0) (a .0) (alive 𝓤 H A g.signature (κs .1) (qs .1)) (emp 𝓤) (ownsThen Ts b us Out) C Λ code.function _ _ (λ bs.
+    params1 ! $ pass1 ! (init ! 1 refl (tt, tt)) $ pass1 ! (init ! 2 refl (tt, (tt, (record { fits = are .1 .0 .0 .1 .0 }, tt)))) $
+    pass1 ! (init ! 3 refl (tt, (tt, (record { fits = are .1 .1 .0 .0 .1 .0 }, tt)))) $ pass0 ! $
+    -- [_0 to _7 (0 to 7); deaths (8); said (9); lent (10); token (11); tokens (12); owned (13); required (14)]
+    move ! (9 ∷ 10 ∷ 11 ∷ 1 ∷ 5 ∷ []) $ takes ! T.the-type T′.the-laws (a .0) refl refl (λ was.
+    -- [open (0 to 3); _1 (4); _5 (5); _0 (6); _2 (7); _3 (8); _4 (9); _6 (10); _7 (11); deaths (12); tokens (13); owned (14); required (15)]
+    lends ! 8 10 11 refl refl refl refl refl refl refl refl (tt, tt) (tt, (tt, (record { fits = are .1 .1 .0 .0 .1 .0 }, tt))) $ move ! (13 ∷ 14 ∷ []) $
+    asks ! fm g.ended (g.clauses 𝓤 H A m run) known
+    ((κs .1, qs .1, tt, (a .0 .now, a .1), (vals T.the-type T′.the-laws (a .0 .now), (slice-vals (a .1 .0), (slice-vals (a .1 .1 .0), tt)))), tt)
+    T.the-type T′.the-plain (a .0 .now) _ was Ts (shr-slice-copy 𝓤 H A W (named 1) (κs .1 .0) u8, tt) b us Out refl (id⊢ 𝓤 (emp 𝓤))
+    (and-then ! (held ! 7 refl) (and-then ! (held ! 9 refl) (and-then ! (held ! 13 refl) (no-more !)))) (λ w r ws.
+    heard ! (Steps (a .0 .now) (a .1 .0 .now) (a .1 .1 .0 .now) (ws .1 .1 .0) (r .answer) (r .node) (r .written)) (λ e.
+    regains ! Ts b us (finally u8 (a .1 .1 .0 .name) (ws .1 .1 .0)) (λ same.
+    -- [had (0); own (1); tokens (2); open (3 to 6); _1 (7); _5 (8); _0 (9); _2 (10); _3 (11); _4 (12); _6 (13); _7 (14); deaths (15); required (16)]
+    move ! (1 ∷ 3 ∷ 4 ∷ 5 ∷ 6 ∷ 9 ∷ 7 ∷ 12 ∷ []) $
+    leaves ! T.the-type T′.the-laws T′.the-plain S.the-type S′.the-laws R.the-type R′.the-laws R′.the-plain (a .0) r (r .node)
+    (record { answer = r .answer; written = r .written }) refl refl refl refl refl (λ is. (is .1 .0, (is .0, (is .1 .1 .0, tt))))
+    (and-then ! (field-of ! 5 0 refl refl refl) (and-then ! (field-of ! 5 2 refl refl refl) (no-more !))) $
+    -- [answer (0); said (1); lent (2); token (3); _0 (4); _1 (5); _4 (6); had (7); tokens (8); _5 (9); _2 (10); _3 (11); _6 (12); _7 (13); deaths (14)]
+    move ! (4 ∷ 5 ∷ 10 ∷ 11 ∷ 6 ∷ 9 ∷ 12 ∷ 13 ∷ 14 ∷ []) $ releases ! _ _ $ keep ! (0 ∷ 1 ∷ 2 ∷ 3 ∷ 5 ∷ 4 ∷ []) $
+    ends ! T.the-type (named 0) (a .0) (r .node) e (ends-at 𝓤 H A f.ended (stays (f.signature .params) (f.ended .kept) params) (f.clauses 𝓤 H A m run) W
+    ((κs, qs, bounds, a, (ptr-vals (a .0), (slice-vals (a .1 .0), (slice-vals (a .1 .1 .0), tt)))), ghost) _
+    (record { answer = r .answer; written = r .written }) (r .node, (tt, (ws .1 .1 .0, tt))) (tt, (tt, (same, tt)))))))))
 
 pub charging-step-spec : {M : Type 1} → stated.statement M
 unfolding code.routine
-charging-step-spec 𝓤 H 𝓜 𝓖 𝓡 =
-    let W : Given 𝓤 H (𝓖 .A) = givenOf 𝓤 H 𝓜 𝓖 in
-    holds 𝓤 H 𝓜 𝓖 𝓡 f.ended stayed (f.clauses 𝓤 H (𝓖 .A) (𝓜 .mem) (𝓡 .run)) g.ended (g.clauses 𝓤 H (𝓖 .A) (𝓜 .mem) (𝓡 .run)) code.env (
-      goes-ref 𝓤 H (𝓖 .A) W 3 0 tt (plain (λ _. T.the-row)),
-      (
-        goes-none-slice 𝓤 H (𝓖 .A) W 3 (1 ∷ []) tt (plain (λ _. u8)) yes,
-        (goes-gave-slice 𝓤 H (𝓖 .A) W 3 2 tt (plain (λ _. u8)), tt),
-      ),
-    ) key.name code.function (code.unfolded 𝓤 H 𝓜 𝓡)
-    g-def.name g-def.routine code.calls-node·step·step (g-thm.met 𝓤 H 𝓜 𝓖 𝓡) spelling
-    (λ κs. (mut-tells (named 0) (κs .0) T.the-row, (shr-slice-tells (named 1) (κs .1 .0) u8, (mut-slice-tells (named 2) (κs .1 .1 .0) u8, tt))))
-    (walk 𝓤 H (𝓖 .A) W (𝓜 .mem) (𝓡 .run))
+charging-step-spec 𝓤 H 𝓜 𝓖 𝓡 = holds f.ended params (λ M. f.clauses) g.ended (λ M. g.clauses) g-def.name code.function walk 𝓤 H 𝓜 𝓖 𝓡 code.env key.name
+    (code.unfolded 𝓤 H 𝓜 𝓡) g-def.routine code.calls-node·step·step (g-thm.met 𝓤 H 𝓜 𝓖 𝓡)
