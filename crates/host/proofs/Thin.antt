@@ -90,39 +90,34 @@ module _ (S : Declared) (L : Laws S) (r : S .D) where
 beside : {M : Type 1} (𝓤 : URA M) (P Q : SProp 𝓤) → ent 𝓤 (emp 𝓤) Q → ent 𝓤 P (sep 𝓤 P Q)
 beside 𝓤 P Q h = via 𝓤 (sep 𝓤 (emp 𝓤) P) (emp∗ 𝓤 P) (via 𝓤 (sep 𝓤 Q P) (monoL 𝓤 P h) (comm∗ 𝓤 Q P))
 
+-- a local that holds v, and what a reference is in the machine
+abbrev pub cell : Ty → ℕ → Val → Fml
+cell τ l v = fat fullShare τ l zero v
+
+abbrev pub ptr-val : {X : Type 0} → RefT X → Val
+ptr-val x = vptr (x .ptr .0) (x .ptr .1)
+
 -- a callee's contract
 abbrev pub called : {M : Type 1} (𝓤 : URA M) (H : Heap 𝓤) (A : Atoms 𝓤) (T : Ended) → Clauses 𝓤 T → Contract 𝓤
 called 𝓤 H A T c = tripleOf 𝓤 H A (T .signature) (closing 𝓤 H A T c)
 
--- a node behind a `&mut`: what says its value, the borrow, the borrow while it is open, what tracks the value, where it lies, and the local that points there
-module _ (T : Declared) where
-  abbrev pub said : RefT (T .D) → T .D → Fml
-  said x h = fobs (x .name) (row T .coded .code h)
+-- a node behind a `&mut`: what says its value, its borrow, and the borrow while it is open, with v where the node lies
+module _ (T : Declared) (x : RefT (T .D)) where
+  abbrev pub said : T .D → Fml
+  said h = fobs (x .name) (row T .coded .code h)
 
-  abbrev pub lent : Lft → RefT (T .D) → Fml
-  lent κ x = fbor κ (Borrowed (mem (row T)) (x .ptr .0) (x .ptr .1) (x .name))
+  abbrev pub lent : Lft → Fml
+  lent κ = fbor κ (Borrowed (mem (row T)) (x .ptr .0) (x .ptr .1) (x .name))
 
-  abbrev pub opened : Lft → Share → RefT (T .D) → Fml
-  opened κ s x = fobor κ s (Borrowed (mem (row T)) (x .ptr .0) (x .ptr .1) (x .name))
-
-  abbrev pub tracked : RefT (T .D) → Fml
-  tracked x = fauth (x .name) (row T .coded .code (x .now))
-
-  abbrev pub lies : RefT (T .D) → Val → Fml
-  lies x v = fat fullShare (raw-form (layout (shape T))) (x .ptr .0) (x .ptr .1) v
-
-abbrev pub points : {X : Type 0} → Ty → ℕ → RefT X → Fml
-points τ l x = fat fullShare τ l zero (vptr (x .ptr .0) (x .ptr .1))
+  abbrev pub opened : Lft → Share → Val → Fml
+  opened κ s v = fsep (fat fullShare (raw-form (layout (shape T))) (x .ptr .0) (x .ptr .1) v)
+      (fsep (fobor κ s (Borrowed (mem (row T)) (x .ptr .0) (x .ptr .1) (x .name))) (fsep (said (x .now)) (fauth (x .name) (row T .coded .code (x .now)))))
 
 module _ {M : Type 1} {𝓤 : URA M} {H : Heap 𝓤} {A : Atoms 𝓤} {K : Type 0} {W : Given 𝓤 H A} {Γ : List (Item 𝓤)} where
   -- a place that begins at a local, whose type and block are known
   at : K → {E : Env 𝓤 H} {i : ℕ} {st : List PStep} {sp sp′ : Spot 𝓤 H} → spotOf 𝓤 H E i ≡ sp → Walks K W Γ E sp st sp′
       → Finds K W Γ E (place i st) sp′
   at t {E} {i} {st} {sp} {sp′} e w = from t (subst (λ (s : Spot 𝓤 H). Walks K W Γ E s st sp′) (sym e) w)
-
-  read-at : K → (E : Env 𝓤 H) (i : ℕ) {τ : Ty} {l : ℕ} {v : Val} → spotOf 𝓤 H E i ≡ (τ, l, zero) → Reads K W Γ τ l zero v
-      → Reads K W Γ (spotOf 𝓤 H E i .0) (spotOf 𝓤 H E i .1) zero v
-  read-at t E i {v = v} e r = subst (λ (s : Spot 𝓤 H). Reads K W Γ (s .0) (s .1) zero v) (sym e) r
 
   -- a call's result, and an operand's value, written another way
   lands-as : K → {E : Env 𝓤 H} {C : Calls 𝓤 H} {Λ : Loops 𝓤 H} {q : Post 𝓤 H} {d : Place} {rest : Body} {u v : Val} → u ≡ v
@@ -138,14 +133,14 @@ module _ {M : Type 1} {𝓤 : URA M} {H : Heap 𝓤} {A : Atoms 𝓤} {K : Type 
   held t n e = load t (from t (stop t)) (look t n e)
 
   -- a field of a struct, whose cell is the entry n: the field is read
-  look-at : K → (n : ℕ) {ν : Sym} {τs : Tys} {l : ℕ} {vs : Vals} → nth 𝓤 H A n Γ ≡ ‵ (fat fullShare (tyStruct ν τs) l zero (vstruct vs))
+  look-at : K → (n : ℕ) {ν : Sym} {τs : Tys} {l : ℕ} {vs : Vals} → nth 𝓤 H A n Γ ≡ ‵ (cell (tyStruct ν τs) l (vstruct vs))
       → (k : ℕ) {τ : Ty} {d : ℕ} → fieldAt zero τs k ≡ has-one (τ, d) → Reads K W Γ τ l (zero + d) (getV vs k)
   look-at t n {ν} {τs} {l} {vs} at-n k has = look-in t n (sub t k has (subst (λ (j : Item 𝓤). Part K W j fullShare (tyStruct ν τs) l zero (vstruct vs)
-      (λ u. ‵ (fat fullShare (tyStruct ν τs) l zero u))) (sym at-n) (whole t)))
+      (λ u. ‵ (cell (tyStruct ν τs) l u))) (sym at-n) (whole t)))
 
   -- and as an operand, where the struct is a local
   pub field-of : K → {E : Env 𝓤 H} {i : ℕ} (n k : ℕ) {ν : Sym} {τs : Tys} {l : ℕ} {vs : Vals} {τ : Ty} {d : ℕ}
-      → spotOf 𝓤 H E i ≡ (tyStruct ν τs, l, zero) → nth 𝓤 H A n Γ ≡ ‵ (fat fullShare (tyStruct ν τs) l zero (vstruct vs))
+      → spotOf 𝓤 H E i ≡ (tyStruct ν τs, l, zero) → nth 𝓤 H A n Γ ≡ ‵ (cell (tyStruct ν τs) l (vstruct vs))
       → fieldAt zero τs k ≡ has-one (τ, d) → Opd K W Γ E (copy (place i (field k ∷ []))) (getV vs k)
   field-of t {E} {i} n k {ν} {τs} {l} {vs} {τ} {d} e at-n has = load t (at t e (fld t has (stop t)))
       (look-at t n at-n k has)
@@ -182,58 +177,59 @@ module _ {M : Type 1} (𝓤 : URA M) (H : Heap 𝓤) (A : Atoms 𝓤) (W : Given
 
 module _ {M : Type 1} {𝓤 : URA M} {H : Heap 𝓤} {A : Atoms 𝓤} {K : Type 0} {W : Given 𝓤 H A} {Γ : List (Item 𝓤)} where
   -- the borrow is opened, and the node is read whole into a local
-  pub takes : K → (T : Declared) (L : Laws T) {κ : Lft} {s : Share} (x : RefT (T .D)) {E : Env 𝓤 H} {C : Calls 𝓤 H} {Λ : Loops 𝓤 H} {q : Post 𝓤 H}
-      {τ : Ty} {i l₁ l : ℕ} {rest : Body} → spotOf 𝓤 H E 1 ≡ (τ, l₁, zero) → spotOf 𝓤 H E i ≡ (layout (shape T), l, zero)
-      → (Is (row T) (x .now) (LL.vals T L (x .now)) → Seq K W (‵ (lies T x (LL.val T L (x .now))) ∷ ‵ (opened T κ s x) ∷ ‵ (said T x (x .now)) ∷
-      ‵ (tracked T x) ∷ ‵ (points τ l₁ x) ∷ ‵ (fat fullShare (layout (shape T)) l zero (LL.val T L (x .now))) ∷ Γ) (runs C Λ E rest q))
-      → Seq K W (‵ (said T x (x .now)) ∷ ‵ (lent T κ x) ∷ ‵ (flft κ s) ∷ ‵ (points τ l₁ x) ∷ ‵ (froom (layout (shape T)) l zero) ∷ Γ)
-      (runs C Λ E (seq (assign (place i []) (rvOpd (copy (place 1 (deref (layout (shape T)) ∷ []))))) rest) q)
-  takes t T L x is₁ is k =
+  pub takes : K → (T : Declared) (L : Laws T) {κ : Lft} {s : Share} (x : RefT (T .D)) {e : Ty × ℕ} {τ : Ty} {l₁ : ℕ} {E : Env 𝓤 H} {C : Calls 𝓤 H}
+      {Λ : Loops 𝓤 H} {q : Post 𝓤 H} {i l : ℕ} {rest : Body} → spotOf 𝓤 H (e ∷ (τ, l₁) ∷ E) i ≡ (layout (shape T), l, zero)
+      → (Is (row T) (x .now) (LL.vals T L (x .now)) → Seq K W (‵ (opened T x κ s (LL.val T L (x .now))) ∷ ‵ (cell τ l₁ (ptr-val x)) ∷
+      ‵ (cell (layout (shape T)) l (LL.val T L (x .now))) ∷ Γ) (runs C Λ (e ∷ (τ, l₁) ∷ E) rest q))
+      → Seq K W (‵ (said T x (x .now)) ∷ ‵ (lent T x κ) ∷ ‵ (flft κ s) ∷ ‵ (cell τ l₁ (ptr-val x)) ∷ ‵ (froom (layout (shape T)) l zero) ∷ Γ)
+      (runs C Λ (e ∷ (τ, l₁) ∷ E) (seq (assign (place i []) (rvOpd (copy (place 1 (deref (layout (shape T)) ∷ []))))) rest) q)
+  takes t T L x is k =
       opens t tt (row T) {h = x .now} (x .ptr .0) (x .ptr .1) (λ vs.
       spelt t (row T) (Is (row T)) (shows 𝓤 H A (row T)) (LL.vals T L) (LL.tells T L) fullShare (x .now) vs (x .ptr .0) (x .ptr .1) $ move t (1 ∷ []) $
       peeks t (row T) (Is (row T)) (shows 𝓤 H A (row T)) (x .now) (LL.vals T L (x .now)) (λ was. drop t $
-      assigns t (of-opd t (load t (at t is₁ (hop t (look t 4 refl) (stop t))) (look-raw t 0 refl))) (at t is (stop t))
-      (init t 5 refl (LL.lawful T L 𝓤 H A W .typed (x .now) _ was .0)) $ k was))
+      assigns t (of-opd t (load t (from t (hop t (look t 4 refl) (stop t))) (look-raw t 0 refl))) (at t is (stop t))
+      (init t 5 refl (LL.lawful T L 𝓤 H A W .typed (x .now) _ was .0)) $
+      move t (2 ∷ 3 ∷ []) $ fjoin t $ move t (2 ∷ 0 ∷ []) $ fjoin t $ move t (1 ∷ 0 ∷ []) $ fjoin t $ k was))
 
   -- The callee's result is stored, the node within it, field k, is stored where the node lies, the borrow is closed at that node, and the
   -- answer z is made of fields of the result.
   pub leaves : K → (T : Declared) (L : Laws T) → Plains (fields T) → (S : Declared) (LS : Laws S) (R : Declared) (LR : Laws R) → Plains (fields R)
-      → {κ : Lft} {s : Share} (x : RefT (T .D)) (r : S .D) (n : T .D) (z : R .D) {w v : Val} {E : Env 𝓤 H} {C : Calls 𝓤 H} {Λ : Loops 𝓤 H}
-      {τ : Ty} {l₀ l₁ l i k d : ℕ} {os : List Operand} {Kf : Val → SProp 𝓤}
-      → spotOf 𝓤 H E 0 ≡ (layout (shape R), l₀, zero) → spotOf 𝓤 H E 1 ≡ (τ, l₁, zero) → spotOf 𝓤 H E i ≡ (layout (shape S), l, zero)
+      → {κ : Lft} {s : Share} (x : RefT (T .D)) (r : S .D) (n : T .D) (z : R .D) {w v : Val} {l₀ l₁ : ℕ} {τ : Ty} {E : Env 𝓤 H} {C : Calls 𝓤 H}
+      {Λ : Loops 𝓤 H} {l i k d : ℕ} {os : List Operand} {Kf : Val → SProp 𝓤}
+      → spotOf 𝓤 H ((layout (shape R), l₀) ∷ (τ, l₁) ∷ E) i ≡ (layout (shape S), l, zero)
       → fieldAt zero (toTys (mirs (fields S))) k ≡ has-one (layout (shape T), d) → getV (ofList (flat (fields S) (spelled S LS r))) k ≡ LL.val T L n
       → (Holds S LS r → Is (row T) n (LL.vals T L n) × Holds R LR z)
-      → Opds K W (‵ (said T x n) ∷ ‵ (lent T κ x) ∷ ‵ (flft κ s) ∷ ‵ (froom (layout (shape R)) l₀ zero) ∷ ‵ (points τ l₁ x) ∷
-      ‵ (fat fullShare (layout (shape S)) l zero (LL.val S LS r)) ∷ Γ) E os (flat (fields R) (spelled R LR z))
-      → Step K W (‵ (row R .own z (LL.vals R LR z)) ∷ ‵ (said T x n) ∷ ‵ (lent T κ x) ∷ ‵ (flft κ s) ∷
-      ‵ (fat fullShare (layout (shape R)) l₀ zero (LL.val R LR z)) ∷ ‵ (points τ l₁ x) ∷ ‵ (fat fullShare (layout (shape S)) l zero (LL.val S LS r)) ∷ Γ)
-      (frees E (prop (Kf (LL.val R LR z))))
-      (‵ (row S .own r (w ∷ [])) ∷ ‵ (lies T x v) ∷ ‵ (opened T κ s x) ∷ ‵ (said T x (x .now)) ∷ ‵ (tracked T x) ∷
-      ‵ (froom (layout (shape R)) l₀ zero) ∷ ‵ (points τ l₁ x) ∷ ‵ (froom (layout (shape S)) l zero) ∷ Γ)
-      (lands C Λ E (place i []) w (seq (assign (place 1 (deref (layout (shape T)) ∷ [])) (rvOpd (copy (place i (field k ∷ [])))))
-      (seq (assign (place 0 []) (aggregate os)) return)) (atRet E Kf))
-  leaves t T L pT S LS R LR pR x r n z {w} {v} {E} {C} {Λ} {τ} {l₀} {l₁} {l} {i} {k} {d} {os} {Kf} is₀ is₁ is has got fits answers = step (λ s.
+      → Opds K W (‵ (said T x n) ∷ ‵ (lent T x κ) ∷ ‵ (flft κ s) ∷ ‵ (froom (layout (shape R)) l₀ zero) ∷ ‵ (cell τ l₁ (ptr-val x)) ∷
+      ‵ (cell (layout (shape S)) l (LL.val S LS r)) ∷ Γ) ((layout (shape R), l₀) ∷ (τ, l₁) ∷ E) os (flat (fields R) (spelled R LR z))
+      → Step K W (‵ (row R .own z (LL.vals R LR z)) ∷ ‵ (said T x n) ∷ ‵ (lent T x κ) ∷ ‵ (flft κ s) ∷
+      ‵ (cell (layout (shape R)) l₀ (LL.val R LR z)) ∷ ‵ (cell τ l₁ (ptr-val x)) ∷ ‵ (cell (layout (shape S)) l (LL.val S LS r)) ∷ Γ)
+      (frees ((layout (shape R), l₀) ∷ (τ, l₁) ∷ E) (prop (Kf (LL.val R LR z))))
+      (‵ (row S .own r (w ∷ [])) ∷ ‵ (opened T x κ s v) ∷ ‵ (froom (layout (shape R)) l₀ zero) ∷ ‵ (cell τ l₁ (ptr-val x)) ∷
+      ‵ (froom (layout (shape S)) l zero) ∷ Γ)
+      (lands C Λ ((layout (shape R), l₀) ∷ (τ, l₁) ∷ E) (place i []) w (seq (assign (place 1 (deref (layout (shape T)) ∷ []))
+      (rvOpd (copy (place i (field k ∷ []))))) (seq (assign (place 0 []) (aggregate os)) return)) (atRet ((layout (shape R), l₀) ∷ (τ, l₁) ∷ E) Kf))
+  leaves t T L pT S LS R LR pR x r n z {w} {k = k} {Kf = Kf} is has got fits answers = step (λ s.
       peeks t (row S) (Is (row S)) (shows 𝓤 H A (row S)) r (w ∷ []) (λ p.
       let all : Holds S LS r = LL.owed S LS r (w ∷ []) p in
       let new : Is (row T) n (LL.vals T L n) = fits all .0 in
-      let said : Is (row R) z (LL.vals R LR z) = LL.owes R LR z (fits all .1) in
-      drop t $ lands-as t (ap only (LL.tells S LS r (w ∷ []) p)) $
+      let done : Is (row R) z (LL.vals R LR z) = LL.owes R LR z (fits all .1) in
+      drop t $ fsplit t $ move t (1 ∷ []) $ fsplit t $ move t (1 ∷ []) $ fsplit t $ move t (3 ∷ 2 ∷ 0 ∷ 1 ∷ []) $
+      lands-as t (ap only (LL.tells S LS r (w ∷ []) p)) $
       land t (at t is (stop t)) (init t 6 refl (LL.lawful S LS 𝓤 H A W .typed r _ (LL.owes S LS r all) .0)) $
       assigns t (of-opd t (worth t got (field-of t 6 k is refl has)))
-      (at t is₁ (hop t (look t 5 refl) (stop t))) (store-raw t 0 refl (LL.lawful T L 𝓤 H A W .typed n _ new .0)) $
+      (from t (hop t (look t 5 refl) (stop t))) (store-raw t 0 refl (LL.lawful T L 𝓤 H A W .typed n _ new .0)) $
       owned t (row T) (Is (row T)) (LL.makes T pT 𝓤 H A) n (LL.vals T L n) new $ move t (1 ∷ 0 ∷ []) $
       closes t tt (row T) {v = row T .coded .code (x .now)} n (LL.vals T L n) (x .ptr .0) (x .ptr .1) $
-      assigns t (agg t answers) (at t is₀ (stop t)) (init t 3 refl (LL.lawful R LR 𝓤 H A W .typed z _ said .0)) $
-      owned t (row R) (Is (row R)) (LL.makes R pR 𝓤 H A) z (LL.vals R LR z) said $
-      returns t {Kf = Kf} (read-at t E 0 is₀ (look t 4 refl)) $ s))
+      assigns t (agg t answers) (from t (stop t)) (init t 3 refl (LL.lawful R LR 𝓤 H A W .typed z _ done .0)) $
+      owned t (row R) (Is (row R)) (LL.makes R pR 𝓤 H A) z (LL.vals R LR z) done $ returns t {Kf = Kf} (look t 4 refl) $ s))
 
   -- a `&mut` slice is lent on: a pointer to its first element, and a slice of that and the count
-  pub lends : K → {E : Env 𝓤 H} {C : Calls 𝓤 H} {Λ : Loops 𝓤 H} {q : Post 𝓤 H} {i j k l l₁ l₂ : ℕ} {τ σ ρ : Ty} {ℓ : Lifetime} {m : Mutability} {p : ℕ × ℕ}
-      {len : ℕ} {rest : Body} → spotOf 𝓤 H E i ≡ (sliceTy τ, l, zero) → spotOf 𝓤 H E j ≡ (tyRef ℓ m ρ, l₁, zero)
+  pub lends : K → {E : Env 𝓤 H} {C : Calls 𝓤 H} {Λ : Loops 𝓤 H} {q : Post 𝓤 H} {i j k l l₁ l₂ : ℕ} {τ σ ρ : Ty} {ℓ : Lifetime} {m : Mutability}
+      {p : ℕ × ℕ} {len : ℕ} {rest : Body} → spotOf 𝓤 H E i ≡ (sliceTy τ, l, zero) → spotOf 𝓤 H E j ≡ (tyRef ℓ m ρ, l₁, zero)
       → spotOf 𝓤 H E k ≡ (sliceTy (tyRef ℓ m ρ), l₂, zero) → len < 2 ^ 64
-      → Step K W (‵ (fat fullShare (sliceTy τ) l zero (sliceVal p len)) ∷ ‵ (fat fullShare (tyRef ℓ m ρ) l₁ zero (vptr (p .0) (p .1))) ∷
-      ‵ (fat fullShare (sliceTy (tyRef ℓ m ρ)) l₂ zero (sliceVal p len)) ∷ Γ) (runs C Λ E rest q)
-      (‵ (fat fullShare (sliceTy τ) l zero (sliceVal p len)) ∷ ‵ (froom (tyRef ℓ m ρ) l₁ zero) ∷ ‵ (froom (sliceTy (tyRef ℓ m ρ)) l₂ zero) ∷ Γ)
+      → Step K W (‵ (cell (sliceTy τ) l (sliceVal p len)) ∷ ‵ (cell (tyRef ℓ m ρ) l₁ (vptr (p .0) (p .1))) ∷
+      ‵ (cell (sliceTy (tyRef ℓ m ρ)) l₂ (sliceVal p len)) ∷ Γ) (runs C Λ E rest q)
+      (‵ (cell (sliceTy τ) l (sliceVal p len)) ∷ ‵ (froom (tyRef ℓ m ρ) l₁ zero) ∷ ‵ (froom (sliceTy (tyRef ℓ m ρ)) l₂ zero) ∷ Γ)
       (runs C Λ E (seq (assign (place j []) (addrOf (place i (field 0 ∷ deref σ ∷ []))))
       (seq (assign (place k []) (aggregate (copy (place j []) ∷ copy (place i (field 1 ∷ [])) ∷ []))) rest)) q)
   lends t isᵢ isⱼ isₖ small = step (λ s.
@@ -281,7 +277,7 @@ module _ {M : Type 1} {𝓤 : URA M} {H : Heap 𝓤} {A : Atoms 𝓤} {K : Type 
   pub ends : K → (T : Declared) (ℓ : Lifetime) {κ : Lft} {s : Share} (x : RefT (T .D)) (n : T .D) {P toks : SProp 𝓤} {rest own : Fml} {φ : Type 0} → φ
       → ent 𝓤 (sep 𝓤 (sep 𝓤 (sep 𝓤 (A .lft κ s) toks)
       (sep 𝓤 (sem 𝓤 H A (fsep (MutRef ℓ κ (row T) .own (at-last x n) (ptr-vals x)) rest)) (sem 𝓤 H A own))) (fact 𝓤 φ)) P
-      → Seq K W (‵ own ∷ ‵ (said T x n) ∷ ‵ (lent T κ x) ∷ ‵ (flft κ s) ∷ raw toks ∷ ‵ rest ∷ []) (prop P)
+      → Seq K W (‵ own ∷ ‵ (said T x n) ∷ ‵ (lent T x κ) ∷ ‵ (flft κ s) ∷ raw toks ∷ ‵ rest ∷ []) (prop P)
   ends t T ℓ x n e h = suffices t _ h $ says t e $ move t (3 ∷ 4 ∷ []) $ join t $ frame t $ move t (1 ∷ 2 ∷ []) $
       feqI t (List Val) (ptr-vals x) (ptr-vals x) refl $ fjoin3 t $ move t (0 ∷ 2 ∷ []) $ fjoin t $ done t
 
@@ -314,7 +310,7 @@ module _ {M : Type 1} (𝓤 : URA M) (H : Heap 𝓤) where
 
   abbrev pub cells : (E : Env 𝓤 H) → Held E → List (Item 𝓤) → List (Item 𝓤)
   cells [] vs Γ = Γ
-  cells (e ∷ E) vs Γ = ‵ (fat fullShare (e .0) (e .1) zero (vs .0)) ∷ cells E (vs .1) Γ
+  cells (e ∷ E) vs Γ = ‵ (cell (e .0) (e .1) (vs .0)) ∷ cells E (vs .1) Γ
 
 module _ {M : Type 1} {𝓤 : URA M} {H : Heap 𝓤} {A : Atoms 𝓤} {K : Type 0} {W : Given 𝓤 H A} where
   -- all of a function's locals are allocated, and all are freed
@@ -342,7 +338,7 @@ module _ {M : Type 1} {𝓤 : URA M} {H : Heap 𝓤} {A : Atoms 𝓤} (W : Given
   pub begins : (T : Declared) (ℓ : Lifetime) {κ : Lft} {s : Share} (x : RefT (T .D)) (toks R : SProp 𝓤) (rest : Fml) (C : Calls 𝓤 H) (Λ : Loops 𝓤 H)
       (f : Fn) (vs : List Val) (Kf : Val → SProp 𝓤)
       → ((bs : Blocks (f .locals)) → Seq (Go {0}) W (‵ (deaths 𝓤 H (envOf 𝓤 H (f .locals) bs)) ∷ rooms 𝓤 H (f .locals) bs
-      (‵ (said T x (x .now)) ∷ ‵ (lent T κ x) ∷ ‵ (flft κ s) ∷ raw toks ∷ ‵ rest ∷ raw R ∷ []))
+      (‵ (said T x (x .now)) ∷ ‵ (lent T x κ) ∷ ‵ (flft κ s) ∷ raw toks ∷ ‵ rest ∷ raw R ∷ []))
       (params′ (envOf 𝓤 H (f .locals) bs) vs (runs C Λ (envOf 𝓤 H (f .locals) bs) (f .body) (atRet (envOf 𝓤 H (f .locals) bs) Kf))))
       → ent 𝓤 (sep 𝓤 (sep 𝓤 (sep 𝓤 (A .lft κ s) toks) (sem 𝓤 H A (fsep (MutRef ℓ κ (row T) .own x (ptr-vals x)) rest))) R) (WpFn 𝓤 H C Λ f vs Kf)
   begins T ℓ {κ} {s} x toks R rest C Λ f vs Kf k =

@@ -28,18 +28,18 @@ walk M 𝓤 H A W m run C Λ fm known κs qs bounds a ghost are =
     begins W T.the-type (named 0) (a .0) (alive 𝓤 H A g.signature (κs .1) (qs .1)) (emp 𝓤) (ownsThen Ts (a .1) us ftrue) C Λ code.function _ _ (λ bs.
     params1 ! $ pass1 ! (init ! 4 refl (tt, tt)) $ pass1 ! (init ! 3 refl (tt, (tt, (record { fits = are .1 .0 .0 .1 .0 }, tt)))) $ pass0 ! $
     -- [deaths (0); _4 to _0 (1 to 5); said (6); lent (7); token (8); tokens (9); owned (10); required (11)]
-    move ! (6 ∷ 7 ∷ 8 ∷ 4 ∷ 1 ∷ []) $ takes ! T.the-type T′.the-laws (a .0) refl refl (λ was.
-    -- [open (0 to 3); _1 (4); _4 (5); deaths (6); _3 (7); _2 (8); _0 (9); tokens (10); owned (11); required (12)]
-    move ! (10 ∷ 11 ∷ []) $
+    move ! (6 ∷ 7 ∷ 8 ∷ 4 ∷ 1 ∷ []) $ takes ! T.the-type T′.the-laws (a .0) refl (λ was.
+    -- [open (0); _1 (1); _4 (2); deaths (3); _3 (4); _2 (5); _0 (6); tokens (7); owned (8); required (9)]
+    move ! (7 ∷ 8 ∷ []) $
     asks ! fm g.ended (g.clauses 𝓤 H A m run) known
     ((κs .1, qs .1, tt, (a .0 .now, a .1), (vals T.the-type T′.the-laws (a .0 .now), us)), tt)
     T.the-type T′.the-plain (a .0 .now) _ was Ts (shr-slice-copy 𝓤 H A W (named 1) (κs .1 .0) u8, tt) (a .1) us ftrue refl (id⊢ 𝓤 (emp 𝓤))
-    (and-then ! (held ! 7 refl) (and-then ! (held ! 10 refl) (no-more !))) (λ w r ws.
+    (and-then ! (held ! 4 refl) (and-then ! (held ! 7 refl) (no-more !))) (λ w r ws.
     heard ! (Begins (a .1 .0 .now) (r .answer) (r .node) (r .line)) (λ e.
-    -- [lasts (0); had (1); own (2); tokens (3); open (4 to 7); _1 (8); _4 (9); deaths (10); _3 (11); _2 (12); _0 (13); required (14)]
-    move ! (2 ∷ 4 ∷ 5 ∷ 6 ∷ 7 ∷ 13 ∷ 8 ∷ 11 ∷ []) $
+    -- [lasts (0); had (1); own (2); tokens (3); open (4); _1 (5); _4 (6); deaths (7); _3 (8); _2 (9); _0 (10); required (11)]
+    move ! (2 ∷ 4 ∷ 10 ∷ 5 ∷ 8 ∷ []) $
     leaves ! T.the-type T′.the-laws T′.the-plain S.the-type S′.the-laws R.the-type R′.the-laws R′.the-plain (a .0) r (r .node)
-    (record { answer = r .answer; line = r .line }) refl refl refl refl refl (λ is. (is .1 .0, (is .0, (is .1 .1 .0, tt))))
+    (record { answer = r .answer; line = r .line }) refl refl refl (λ is. (is .1 .0, (is .0, (is .1 .1 .0, tt))))
     (and-then ! (field-of ! 5 0 refl refl refl) (and-then ! (field-of ! 5 2 refl refl refl) (no-more !))) $
     -- [answer (0); said (1); lent (2); token (3); _0 (4); _1 (5); _3 (6); lasts (7); had (8); tokens (9); _4 (10); deaths (11); _2 (12)]
     move ! (11 ∷ 4 ∷ 5 ∷ 12 ∷ 6 ∷ 10 ∷ []) $ releases ! _ _ $ keep ! (0 ∷ 1 ∷ 2 ∷ 3 ∷ 6 ∷ 5 ∷ []) $

@@ -32,19 +32,19 @@ walk M 𝓤 H A W m run C Λ fm known κs qs bounds a ghost are =
     params1 ! $ pass1 ! (init ! 7 refl (tt, tt)) $ pass1 ! (init ! 6 refl (tt, (tt, (record { fits = are .1 .0 .0 .1 .0 }, tt)))) $
     pass1 ! (init ! 5 refl (tt, (tt, (record { fits = are .1 .1 .0 .0 .1 .0 }, tt)))) $ pass0 ! $
     -- [deaths (0); _7 to _0 (1 to 8); said (9); lent (10); token (11); tokens (12); owned (13); required (14)]
-    move ! (9 ∷ 10 ∷ 11 ∷ 7 ∷ 3 ∷ []) $ takes ! T.the-type T′.the-laws (a .0) refl refl (λ was.
-    -- [open (0 to 3); _1 (4); _5 (5); deaths (6); _7 (7); _6 (8); _4 (9); _3 (10); _2 (11); _0 (12); tokens (13); owned (14); required (15)]
-    move ! (10 ∷ 8 ∷ 7 ∷ []) $ lends ! refl refl refl (are .1 .1 .0 .0 .1 .0) $ move ! (13 ∷ 14 ∷ []) $
+    move ! (9 ∷ 10 ∷ 11 ∷ 7 ∷ 3 ∷ []) $ takes ! T.the-type T′.the-laws (a .0) refl (λ was.
+    -- [open (0); _1 (1); _5 (2); deaths (3); _7 (4); _6 (5); _4 (6); _3 (7); _2 (8); _0 (9); tokens (10); owned (11); required (12)]
+    move ! (7 ∷ 5 ∷ 4 ∷ []) $ lends ! refl refl refl (are .1 .1 .0 .0 .1 .0) $ move ! (10 ∷ 11 ∷ []) $
     asks ! fm g.ended (g.clauses 𝓤 H A m run) known
     ((κs .1, qs .1, tt, (a .0 .now, a .1), (vals T.the-type T′.the-laws (a .0 .now), (slice-vals (a .1 .0), (slice-vals (a .1 .1 .0), tt)))), tt)
     T.the-type T′.the-plain (a .0 .now) _ was Ts (shr-slice-copy 𝓤 H A W (named 1) (κs .1 .0) u8, tt) b us Out refl (id⊢ 𝓤 (emp 𝓤))
-    (and-then ! (held ! 10 refl) (and-then ! (held ! 13 refl) (and-then ! (held ! 4 refl) (no-more !)))) (λ w r ws.
+    (and-then ! (held ! 7 refl) (and-then ! (held ! 10 refl) (and-then ! (held ! 4 refl) (no-more !)))) (λ w r ws.
     heard ! (Steps (a .0 .now) (a .1 .0 .now) (a .1 .1 .0 .now) (ws .1 .1 .0) (r .answer) (r .node) (r .written)) (λ e.
     regains ! Ts b us (finally u8 (a .1 .1 .0 .name) (ws .1 .1 .0)) (λ same.
-    -- [had (0); own (1); tokens (2); _3 (3); _6 (4); _7 (5); open (6 to 9); _1 (10); _5 (11); deaths (12); _4 (13); _2 (14); _0 (15); required (16)]
-    move ! (1 ∷ 6 ∷ 7 ∷ 8 ∷ 9 ∷ 15 ∷ 10 ∷ 13 ∷ []) $
+    -- [had (0); own (1); tokens (2); _3 (3); _6 (4); _7 (5); open (6); _1 (7); _5 (8); deaths (9); _4 (10); _2 (11); _0 (12); required (13)]
+    move ! (1 ∷ 6 ∷ 12 ∷ 7 ∷ 10 ∷ []) $
     leaves ! T.the-type T′.the-laws T′.the-plain S.the-type S′.the-laws R.the-type R′.the-laws R′.the-plain (a .0) r (r .node)
-    (record { answer = r .answer; written = r .written }) refl refl refl refl refl (λ is. (is .1 .0, (is .0, (is .1 .1 .0, tt))))
+    (record { answer = r .answer; written = r .written }) refl refl refl (λ is. (is .1 .0, (is .0, (is .1 .1 .0, tt))))
     (and-then ! (field-of ! 5 0 refl refl refl) (and-then ! (field-of ! 5 2 refl refl refl) (no-more !))) $
     -- [answer (0); said (1); lent (2); token (3); _0 (4); _1 (5); _4 (6); had (7); tokens (8); _3 (9); _6 (10); _7 (11); _5 (12); deaths (13); _2 (14)]
     move ! (13 ∷ 4 ∷ 5 ∷ 14 ∷ 9 ∷ 6 ∷ 12 ∷ 10 ∷ 11 ∷ []) $ releases ! _ _ $ keep ! (0 ∷ 1 ∷ 2 ∷ 3 ∷ 5 ∷ 4 ∷ []) $
