@@ -48,5 +48,6 @@ walk M 𝓤 H A W m run C Λ fm known κs qs bounds a ghost are =
 
 pub charging-fresh-spec : {M : Type 1} → stated.statement M
 unfolding code.routine
-charging-fresh-spec 𝓤 H 𝓜 𝓖 𝓡 = holds f.ended params (λ M. f.clauses) g.ended (λ M. g.clauses) g-def.name code.function walk 𝓤 H 𝓜 𝓖 𝓡 code.env key.name
-    (code.unfolded 𝓤 H 𝓜 𝓡) g-def.routine code.calls-host·begin (g-thm.met 𝓤 H 𝓜 𝓖 𝓡)
+charging-fresh-spec 𝓤 H 𝓜 𝓖 𝓡 =
+    holds f.ended params (λ M. f.clauses) g.ended (λ M. g.clauses) g-def.name code.function walk 𝓤 H 𝓜 𝓖 𝓡 code.env
+    key.name (code.unfolded 𝓤 H 𝓜 𝓡) g-def.routine code.calls-host·begin (g-thm.met 𝓤 H 𝓜 𝓖 𝓡)
