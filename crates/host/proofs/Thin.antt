@@ -343,45 +343,35 @@ module _ {M : Type 1} {𝓤 : URA M} {H : Heap 𝓤} {A : Atoms 𝓤} (W : Given
       split ! $ move ! (1 ∷ []) $ drop ! $ k bs)
 
 -- ---- what the proof knows of a parameter: what it has of it at exit, the law of that, how its machine values are spelled, and that they are those
-abbrev pub Known : {n : ℕ} (s : Slot n) → Kept → Type 2
-Known {n} s k =
-    (h : Stay s k) × ((M : Type 1) (𝓤 : URA M) (H : Heap 𝓤) (A : Atoms 𝓤) (W : Given 𝓤 H A) → Goes 𝓤 H A W n s k h) ×
-    (v : (κs : Lfts n) → s .row κs .Denot → List Val) × ((κs : Lfts n) → Tells (s .row κs) (Is (s .row κs)) (v κs))
+pub record Known {n : ℕ} (s : Slot n) (k : Kept) : Type 2 where
+  pub stay : Stay s k
+  pub goes : (M : Type 1) (𝓤 : URA M) (H : Heap 𝓤) (A : Atoms 𝓤) (W : Given 𝓤 H A) → Goes 𝓤 H A W n s k stay
+  pub spell : (κs : Lfts n) → s .row κs .Denot → List Val
+  pub tells : (κs : Lfts n) → Tells (s .row κs) (Is (s .row κs)) (spell κs)
 
 module _ {n : ℕ} where
+  abbrev known : {s : Slot n} {k : Kept} (h : Stay s k)
+      → ((M : Type 1) (𝓤 : URA M) (H : Heap 𝓤) (A : Atoms 𝓤) (W : Given 𝓤 H A) → Goes 𝓤 H A W n s k h)
+      → (v : (κs : Lfts n) → s .row κs .Denot → List Val) → ((κs : Lfts n) → Tells (s .row κs) (Is (s .row κs)) (v κs)) → Known s k
+  known h g v tl = record { stay = h; goes = g; spell = v; tells = tl }
+
   -- the node, a `&[T]`, a `&mut [T]` that is lent on, and a number
   module _ (j : ℕ) (ok : AllWithin n (j ∷ [])) (R : RattleType) where
     abbrev pub node : Known {n = n} (mutRefTo (j ∷ []) ok (plain (λ _. R))) yes
-    node = (
-      stay-ref (j ∷ []) ok (plain (λ _. R)),
-      (λ M 𝓤 H A W. goes-ref 𝓤 H A W n j ok (plain (λ _. R))),
-      (λ κs. ptr-vals),
-      (λ κs. mut-tells (named j) (meetAt n (j ∷ []) ok κs) R),
-    )
+    node = known (stay-ref (j ∷ []) ok (plain (λ _. R))) (λ M 𝓤 H A W. goes-ref 𝓤 H A W n j ok (plain (λ _. R))) (λ κs. ptr-vals)
+        (λ κs. mut-tells (named j) (meetAt n (j ∷ []) ok κs) R)
 
     abbrev pub slice : Known {n = n} (shrSliceOf (j ∷ []) ok (plain (λ _. R))) yes
-    slice = (
-      stay-none-slice (j ∷ []) ok (plain (λ _. R)) yes,
-      (λ M 𝓤 H A W. goes-none-slice 𝓤 H A W n (j ∷ []) ok (plain (λ _. R)) yes),
-      (λ κs. slice-vals),
-      (λ κs. shr-slice-tells (named j) (meetAt n (j ∷ []) ok κs) R),
-    )
+    slice = known (stay-none-slice (j ∷ []) ok (plain (λ _. R)) yes) (λ M 𝓤 H A W. goes-none-slice 𝓤 H A W n (j ∷ []) ok (plain (λ _. R)) yes)
+        (λ κs. slice-vals) (λ κs. shr-slice-tells (named j) (meetAt n (j ∷ []) ok κs) R)
 
     abbrev pub buffer : Known {n = n} (mutSliceOf (j ∷ []) ok (plain (λ _. R))) yes
-    buffer = (
-      gave-slice (j ∷ []) ok (plain (λ _. R)),
-      (λ M 𝓤 H A W. goes-gave-slice 𝓤 H A W n j ok (plain (λ _. R))),
-      (λ κs. slice-vals),
-      (λ κs. mut-slice-tells (named j) (meetAt n (j ∷ []) ok κs) R),
-    )
+    buffer = known (gave-slice (j ∷ []) ok (plain (λ _. R))) (λ M 𝓤 H A W. goes-gave-slice 𝓤 H A W n j ok (plain (λ _. R))) (λ κs. slice-vals)
+        (λ κs. mut-slice-tells (named j) (meetAt n (j ∷ []) ok κs) R)
 
   abbrev pub number : (w : Width) → Known {n = n} (plain (λ _. UInt w)) yes
-  number w = (
-    stay-none (λ _. UInt w) yes,
-    (λ M 𝓤 H A W. goes-none 𝓤 H A W n (λ _. UInt w) yes (λ κs x f. refl)),
-    (λ κs. uint-vals w),
-    (λ κs. uint-tells w),
-  )
+  number w = known (stay-none (λ _. UInt w) yes) (λ M 𝓤 H A W. goes-none 𝓤 H A W n (λ _. UInt w) yes (λ κs x f. refl)) (λ κs. uint-vals w)
+      (λ κs. uint-tells w)
 
   abbrev pub Knowns : (ss : List (Slot n)) → Kepts ss → Type 2
   Knowns [] ks = Unit {2}
@@ -389,43 +379,43 @@ module _ {n : ℕ} where
 
   abbrev pub stays : (ss : List (Slot n)) (ks : Kepts ss) → Knowns ss ks → Stays ss ks
   stays [] ks ps = tt
-  stays (s ∷ ss) ks ps = (ps .0 .0, stays ss (ks .1) (ps .1))
+  stays (s ∷ ss) ks ps = (ps .0 .stay, stays ss (ks .1) (ps .1))
 
   all-go : {M : Type 1} (𝓤 : URA M) (H : Heap 𝓤) (A : Atoms 𝓤) (W : Given 𝓤 H A) (ss : List (Slot n)) (ks : Kepts ss) (ps : Knowns ss ks)
       → AllGo 𝓤 H A W n ss ks (stays ss ks ps)
   all-go 𝓤 H A W [] ks ps = tt
-  all-go {M} 𝓤 H A W (s ∷ ss) ks ps = (ps .0 .1 M 𝓤 H A W, all-go 𝓤 H A W ss (ks .1) (ps .1))
+  all-go {M} 𝓤 H A W (s ∷ ss) ks ps = (ps .0 .goes M 𝓤 H A W, all-go 𝓤 H A W ss (ks .1) (ps .1))
 
   abbrev pub spelling : (ss : List (Slot n)) (ks : Kepts ss) → Knowns ss ks → (κs : Lfts n) → Spells (typesAt ss κs)
   spelling [] ks ps κs = tt
-  spelling (s ∷ ss) ks ps κs = (ps .0 .2 κs, spelling ss (ks .1) (ps .1) κs)
+  spelling (s ∷ ss) ks ps κs = (ps .0 .spell κs, spelling ss (ks .1) (ps .1) κs)
 
   telling : (ss : List (Slot n)) (ks : Kepts ss) (ps : Knowns ss ks) (κs : Lfts n) → Tellss (typesAt ss κs) (Ises (typesAt ss κs)) (spelling ss ks ps κs)
   telling [] ks ps κs = tt
-  telling (s ∷ ss) ks ps κs = (ps .0 .3 κs, telling ss (ks .1) (ps .1) κs)
+  telling (s ∷ ss) ks ps κs = (ps .0 .tells κs, telling ss (ks .1) (ps .1) κs)
 
 -- ---- from the walk of a function that calls one other to its contract
+-- `passed` is the machine values of its arguments
 abbrev pub Contracted : Ended → Type 2
 Contracted T = (M : Type 1) (𝓤 : URA M) (H : Heap 𝓤) → Atoms 𝓤 → (Memory → SProp 𝓤) → (Routine → Fun 𝓤) → Clauses 𝓤 T
 
-module _ (T : Ended) (ps : Knowns (T .signature .params) (T .kept)) (c : Contracted T) (S : Ended) (d : Contracted S) (k : Name) (e : Fn) where
-  abbrev Ps : (κs : Lfts (T .signature .lifetimes)) → List RattleType
-  Ps κs = typesAt (T .signature .params) κs
-
+module _ (T : Ended) (ps : Knowns (T .signature .params) (T .kept)) where
   abbrev pub stayed : Stays (T .signature .params) (T .kept)
   stayed = stays (T .signature .params) (T .kept) ps
 
-  abbrev pub spelt-at : (κs : Lfts (T .signature .lifetimes)) → Args (T .signature) κs → Valss (Ps κs)
-  spelt-at κs a = valss (Ps κs) (spelling (T .signature .params) (T .kept) ps κs) a
+  abbrev pub passed : (κs : Lfts (T .signature .lifetimes)) → Args (T .signature) κs → Valss (typesAt (T .signature .params) κs)
+  passed κs a = valss (typesAt (T .signature .params) κs) (spelling (T .signature .params) (T .kept) ps κs) a
 
+module _ (T : Ended) (ps : Knowns (T .signature .params) (T .kept)) (c : Contracted T) (S : Ended) (d : Contracted S) (k : Name) (e : Fn) where
   abbrev pub Walk : Type 2
   Walk = (M : Type 1) (𝓤 : URA M) (H : Heap 𝓤) (A : Atoms 𝓤) (W : Given 𝓤 H A) (m : Memory → SProp 𝓤) (run : Routine → Fun 𝓤)
       (C : Calls 𝓤 H) (Λ : Loops 𝓤 H) → FmC 𝓤 H (W .laws) C → Triple 𝓤 (C k) (called 𝓤 H A S (d M 𝓤 H A m run))
       → (κs : Lfts (T .signature .lifetimes)) (qs : Shares (T .signature .lifetimes))
       (bounds : AllOutlive (T .signature .lifetimes) (T .signature .outlives) κs) (a : Args (T .signature) κs)
-      (g : c M 𝓤 H A m run κs a .ghost) → Are (Ps κs) (Ises (Ps κs)) a (spelt-at κs a)
-      → ent 𝓤 (sep 𝓤 (onEntry 𝓤 H A (T .signature) κs qs a (spelt-at κs a)) (c M 𝓤 H A m run κs a .requires g))
-      (WpFn 𝓤 H C Λ e (flat (Ps κs) (spelt-at κs a)) (walkOf 𝓤 H A T stayed (c M 𝓤 H A m run) .post ((κs, qs, bounds, a, spelt-at κs a), g)))
+      (g : c M 𝓤 H A m run κs a .ghost) → Are (typesAt (T .signature .params) κs) (Ises (typesAt (T .signature .params) κs)) a (passed T ps κs a)
+      → ent 𝓤 (sep 𝓤 (onEntry 𝓤 H A (T .signature) κs qs a (passed T ps κs a)) (c M 𝓤 H A m run κs a .requires g))
+      (WpFn 𝓤 H C Λ e (flat (typesAt (T .signature .params) κs) (passed T ps κs a))
+      (walkOf 𝓤 H A T (stayed T ps) (c M 𝓤 H A m run) .post ((κs, qs, bounds, a, passed T ps κs a), g)))
 
   pub holds : Walk → {M : Type 1} (𝓤 : URA M) (H : Heap 𝓤) (𝓜 : Model 𝓤 H) (𝓖 : GhostRules 𝓤 H) (𝓡 : Running 𝓤 H 𝓜) (γ : Names)
       (key : Name) → Closed 𝓤 H (tables 𝓤 H 𝓜 𝓡 γ .C) (tables 𝓤 H 𝓜 𝓡 γ .Λ) key e → (r : Routine) → γ k ≡ r
@@ -438,8 +428,8 @@ module _ (T : Ended) (ps : Knowns (T .signature .params) (T .kept)) (c : Contrac
       let cs : Clauses 𝓤 T = c M 𝓤 H (𝓖 .A) (𝓜 .mem) (𝓡 .run) in
       let ds : Clauses 𝓤 S = d M 𝓤 H (𝓖 .A) (𝓜 .mem) (𝓡 .run) in
       entered 𝓤 H (called 𝓤 H (𝓖 .A) T cs) (𝓣 .C) (𝓣 .Λ) key e closed
-      (walk-meets 𝓤 H (𝓖 .A) T stayed W (all-go 𝓤 H (𝓖 .A) W (T .signature .params) (T .kept) ps) cs (WpFn 𝓤 H (𝓣 .C) (𝓣 .Λ) e)
-      (WpFn-mono 𝓤 H (W .laws) 𝓣 e) (walked 𝓤 H (𝓖 .A) T stayed cs (WpFn 𝓤 H (𝓣 .C) (𝓣 .Λ) e)
+      (walk-meets 𝓤 H (𝓖 .A) T (stayed T ps) W (all-go 𝓤 H (𝓖 .A) W (T .signature .params) (T .kept) ps) cs (WpFn 𝓤 H (𝓣 .C) (𝓣 .Λ) e)
+      (WpFn-mono 𝓤 H (W .laws) 𝓣 e) (walked 𝓤 H (𝓖 .A) T (stayed T ps) cs (WpFn 𝓤 H (𝓣 .C) (𝓣 .Λ) e)
       (spelling (T .signature .params) (T .kept) ps) (telling (T .signature .params) (T .kept) ps)
       (walk M 𝓤 H (𝓖 .A) W (𝓜 .mem) (𝓡 .run) (𝓣 .C) (𝓣 .Λ) (fmOf 𝓤 H (W .laws) 𝓣)
       (cited 𝓤 H (called 𝓤 H (𝓖 .A) S ds) 𝓜 𝓡 γ k r is met))))

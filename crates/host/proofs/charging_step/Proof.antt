@@ -1,9 +1,9 @@
 -- `host::charging_step` meets its contract. Its own are: which parameters, which fields, and where each local stands in the context. The rest of the
 -- walk is Thin's. All that the proof knows of `step` is that it meets its contract.
 use Rattle.host.proofs.Thin.{refl, List, [], _∷_, named, emp, id⊢, Fml, fsep, ftrue, _$_, !, move, keep, init, and-then, no-more, params1, pass1}
-use Rattle.host.proofs.Thin.{pass0, RattleType, Denots, Valss, u8, ptr-vals, slice-vals, MutSlice, ShrSlice, finally, shr-slice-copy, heard, vals}
-use Rattle.host.proofs.Thin.{alive, ends-at, held, field-of, ownsThen, takes, leaves, lends, asks, regains, ends, releases, begins, node, slice}
-use Rattle.host.proofs.Thin.{buffer, Knowns, stays, Walk, holds}
+use Rattle.host.proofs.Thin.{pass0, RattleType, Denots, Valss, u8, MutSlice, ShrSlice, finally, shr-slice-copy, heard, vals, alive, ends-at, held}
+use Rattle.host.proofs.Thin.{field-of, ownsThen, takes, leaves, lends, asks, regains, ends, releases, begins, node, slice, buffer, Knowns, stayed}
+use Rattle.host.proofs.Thin.{passed, Walk, holds}
 use Rattle.node.specs.Step.{Steps}
 use Rattle.node.proofs.Node as T
 use Rattle.node.proofs.Node.Laws as T′
@@ -24,10 +24,11 @@ params = (node 0 tt T.the-row, (slice 1 tt u8, (buffer 2 tt u8, tt)))
 
 walk : Walk f.ended params (λ M. f.clauses) g.ended (λ M. g.clauses) g-def.name code.function
 walk M 𝓤 H A W m run C Λ fm known κs qs bounds a ghost are =
+    let vs = passed f.ended params κs a in
     let Ts : List RattleType = ShrSlice (named 1) (κs .1 .0) u8 ∷ [] in
     let b : Denots Ts = (a .1 .0, tt) in
-    let us : Valss Ts = (slice-vals (a .1 .0), tt) in
-    let Out : Fml = fsep (MutSlice (named 2) (κs .1 .1 .0) u8 .own (a .1 .1 .0) (slice-vals (a .1 .1 .0))) ftrue in
+    let us : Valss Ts = (vs .1 .0, tt) in
+    let Out : Fml = fsep (MutSlice (named 2) (κs .1 .1 .0) u8 .own (a .1 .1 .0) (vs .1 .1 .0)) ftrue in
     begins W T.the-type (named 0) (a .0) (alive 𝓤 H A g.signature (κs .1) (qs .1)) (emp 𝓤) (ownsThen Ts b us Out) C Λ code.function _ _ (λ bs.
     params1 ! $ pass1 ! (init ! 7 refl (tt, tt)) $ pass1 ! (init ! 6 refl (tt, (tt, (record { fits = are .1 .0 .0 .1 .0 }, tt)))) $
     pass1 ! (init ! 5 refl (tt, (tt, (record { fits = are .1 .1 .0 .0 .1 .0 }, tt)))) $ pass0 ! $
@@ -36,7 +37,7 @@ walk M 𝓤 H A W m run C Λ fm known κs qs bounds a ghost are =
     -- [open (0); _1 (1); _5 (2); deaths (3); _7 (4); _6 (5); _4 (6); _3 (7); _2 (8); _0 (9); tokens (10); owned (11); required (12)]
     move ! (7 ∷ 5 ∷ 4 ∷ []) $ lends ! refl refl refl (are .1 .1 .0 .0 .1 .0) $ move ! (10 ∷ 11 ∷ []) $
     asks ! fm g.ended (g.clauses 𝓤 H A m run) known
-    ((κs .1, qs .1, tt, (a .0 .now, a .1), (vals T.the-type T′.the-laws (a .0 .now), (slice-vals (a .1 .0), (slice-vals (a .1 .1 .0), tt)))), tt)
+    ((κs .1, qs .1, tt, (a .0 .now, a .1), (vals T.the-type T′.the-laws (a .0 .now), vs .1)), tt)
     T.the-type T′.the-plain (a .0 .now) _ was Ts (shr-slice-copy 𝓤 H A W (named 1) (κs .1 .0) u8, tt) b us Out refl (id⊢ 𝓤 (emp 𝓤))
     (and-then ! (held ! 7 refl) (and-then ! (held ! 10 refl) (and-then ! (held ! 4 refl) (no-more !)))) (λ w r ws.
     heard ! (Steps (a .0 .now) (a .1 .0 .now) (a .1 .1 .0 .now) (ws .1 .1 .0) (r .answer) (r .node) (r .written)) (λ e.
@@ -48,8 +49,8 @@ walk M 𝓤 H A W m run C Λ fm known κs qs bounds a ghost are =
     (and-then ! (field-of ! 5 0 refl refl refl) (and-then ! (field-of ! 5 2 refl refl refl) (no-more !))) $
     -- [answer (0); said (1); lent (2); token (3); _0 (4); _1 (5); _4 (6); had (7); tokens (8); _3 (9); _6 (10); _7 (11); _5 (12); deaths (13); _2 (14)]
     move ! (13 ∷ 4 ∷ 5 ∷ 14 ∷ 9 ∷ 6 ∷ 12 ∷ 10 ∷ 11 ∷ []) $ releases ! _ _ $ keep ! (0 ∷ 1 ∷ 2 ∷ 3 ∷ 5 ∷ 4 ∷ []) $
-    ends ! T.the-type (named 0) (a .0) (r .node) e (ends-at 𝓤 H A f.ended (stays (f.signature .params) (f.ended .kept) params) (f.clauses 𝓤 H A m run) W
-    ((κs, qs, bounds, a, (ptr-vals (a .0), (slice-vals (a .1 .0), (slice-vals (a .1 .1 .0), tt)))), ghost) _
+    ends ! T.the-type (named 0) (a .0) (r .node) e (ends-at 𝓤 H A f.ended (stayed f.ended params) (f.clauses 𝓤 H A m run) W
+    ((κs, qs, bounds, a, vs), ghost) _
     (record { answer = r .answer; written = r .written }) (r .node, (tt, (ws .1 .1 .0, tt))) (tt, (tt, (same, tt)))))))))
 
 pub charging-step-spec : {M : Type 1} → stated.statement M
