@@ -233,28 +233,28 @@ module _ {M : Type 1} {𝓤 : URA M} {H : Heap 𝓤} {A : Atoms 𝓤} {K : Type 
   -- The callee is called with the tokens, the node and what comes after it: its result, what is said of its parameters' last values, and what it
   -- ensures. Of the parameters Ts, which are Copy, a copy is kept.
   pub asks : K → {E : Env 𝓤 H} {C : Calls 𝓤 H} {Λ : Loops 𝓤 H} {q : Post 𝓤 H} {d : Place} {rest : Body} {f : Name} {os : List Operand}
-      → FmC 𝓤 H (W .laws) C → (T : Ended) (c : Clauses 𝓤 T) → Triple 𝓤 (C f) (called 𝓤 H A T c) → (y : called 𝓤 H A T c .Ghost)
-      → (N : Declared) → Plains (fields N) → (h : N .D) (vs : List Val) → Is (row N) h vs
-      → (Ts : List RattleType) → Copies 𝓤 H A Ts → (b : Denots Ts) (us : Valss Ts) (P : Fml)
-      → owns (typesAt (T .signature .params) (y .0 .0)) (y .0 .3) (y .0 .4) ≡ fsep (row N .own h vs) (ownsThen Ts b us P)
-      → ent 𝓤 (emp 𝓤) (c (y .0 .0) (y .0 .3) .requires (y .1))
-      → Opds K W (raw (called 𝓤 H A T c .pre y) ∷ ‵ (ownsThen Ts b us ftrue) ∷ Γ) E os (called 𝓤 H A T c .args y)
-      → ((w : Val) (r : Res (T .signature) (y .0 .0)) (ws : Lasts T (y .0 .0) (y .0 .3))
-      → Seq K W (raw (c (y .0 .0) (y .0 .3) .ensures (y .1) r (atExit T (y .0 .0) (y .0 .3) ws)) ∷ ‵ (lasts T (y .0 .0) (y .0 .3) ws) ∷
-      ‵ (ownsThen Ts b us ftrue) ∷ ‵ (typeAt (T .signature .result) (y .0 .0) .own r (w ∷ [])) ∷
-      raw (alive 𝓤 H A (T .signature) (y .0 .0) (y .0 .1)) ∷ Γ) (lands C Λ E d w rest q))
-      → Seq K W (raw (alive 𝓤 H A (T .signature) (y .0 .0) (y .0 .1)) ∷ ‵ (ownsThen Ts b us P) ∷ Γ) (runs C Λ E (seq (call f os d) rest) q)
-  asks t fm T c known y N pN h vs was Ts cs b us P passed required operands k =
+      → FmC 𝓤 H (W .laws) C → (T : Ended) (c : Clauses 𝓤 T) → Triple 𝓤 (C f) (called 𝓤 H A T c) → (κs : Lfts (T .signature .lifetimes))
+      (qs : Shares (T .signature .lifetimes)) (o : AllOutlive (T .signature .lifetimes) (T .signature .outlives) κs) (a : Args (T .signature) κs)
+      (vss : Valss (typesAt (T .signature .params) κs)) (g : c κs a .ghost) (N : Declared) → Plains (fields N) → (h : N .D) (vs : List Val)
+      → Is (row N) h vs → (Ts : List RattleType) → Copies 𝓤 H A Ts → (b : Denots Ts) (us : Valss Ts) (P : Fml)
+      → owns (typesAt (T .signature .params) κs) a vss ≡ fsep (row N .own h vs) (ownsThen Ts b us P) → ent 𝓤 (emp 𝓤) (c κs a .requires g)
+      → Opds K W (raw (called 𝓤 H A T c .pre ((κs, qs, o, a, vss), g)) ∷ ‵ (ownsThen Ts b us ftrue) ∷ Γ) E os
+      (flat (typesAt (T .signature .params) κs) vss)
+      → ((w : Val) (r : Res (T .signature) κs) (ws : Lasts T κs a) → Seq K W (raw (c κs a .ensures g r (atExit T κs a ws)) ∷
+      ‵ (lasts T κs a ws) ∷ ‵ (ownsThen Ts b us ftrue) ∷ ‵ (typeAt (T .signature .result) κs .own r (w ∷ [])) ∷
+      raw (alive 𝓤 H A (T .signature) κs qs) ∷ Γ) (lands C Λ E d w rest q))
+      → Seq K W (raw (alive 𝓤 H A (T .signature) κs qs) ∷ ‵ (ownsThen Ts b us P) ∷ Γ) (runs C Λ E (seq (call f os d) rest) q)
+  asks t fm T c known κs qs o a vss g N pN h vs was Ts cs b us P passed required operands k =
+      let tokens : SProp 𝓤 = alive 𝓤 H A (T .signature) κs qs in
+      let own : Fml = owns (typesAt (T .signature .params) κs) a vss in
       move t (1 ∷ []) $ use1 W (‵ (ownsThen Ts b us P) ⊛ ‵ (ownsThen Ts b us ftrue)) (keeps 𝓤 H A W Ts cs b us P) $ split t $
       owned t (row N) (Is (row N)) (LL.makes N pN 𝓤 H A) h vs was $ fjoin t $ move t (2 ∷ 0 ∷ []) $
-      use2 W (raw (called 𝓤 H A T c .pre y)) (via 𝓤 (onEntry 𝓤 H A (T .signature) (y .0 .0) (y .0 .1) (y .0 .3) (y .0 .4))
-      (monoR 𝓤 (alive 𝓤 H A (T .signature) (y .0 .0) (y .0 .1)) (subst (λ (Q : Fml). ent 𝓤 (sem 𝓤 H A Q)
-      (sem 𝓤 H A (owns (typesAt (T .signature .params) (y .0 .0)) (y .0 .3) (y .0 .4)))) passed (id⊢ 𝓤 _)))
-      (beside 𝓤 (onEntry 𝓤 H A (T .signature) (y .0 .0) (y .0 .1) (y .0 .3) (y .0 .4)) (c (y .0 .0) (y .0 .3) .requires (y .1)) required)) $
-      calls-at t fm (called 𝓤 H A T c) known y operands (λ w.
-      use1 W (later (some (λ (r : Res (T .signature) (y .0 .0)). (raw (alive 𝓤 H A (T .signature) (y .0 .0) (y .0 .1)) ⊛
-      ‵ (typeAt (T .signature .result) (y .0 .0) .own r (w ∷ []))) ⊛ some (λ (ws : Lasts T (y .0 .0) (y .0 .3)). ‵ (lasts T (y .0 .0) (y .0 .3) ws) ⊛
-      raw (c (y .0 .0) (y .0 .3) .ensures (y .1) r (atExit T (y .0 .0) (y .0 .3) ws)))))) (id⊢ 𝓤 _) $ await t tt $
+      use2 W (raw (called 𝓤 H A T c .pre ((κs, qs, o, a, vss), g))) (via 𝓤 (sep 𝓤 tokens (sem 𝓤 H A own))
+      (monoR 𝓤 tokens (subst (λ (Q : Fml). ent 𝓤 (sem 𝓤 H A Q) (sem 𝓤 H A own)) passed (id⊢ 𝓤 _)))
+      (beside 𝓤 (sep 𝓤 tokens (sem 𝓤 H A own)) (c κs a .requires g) required)) $
+      calls-at t fm (called 𝓤 H A T c) known ((κs, qs, o, a, vss), g) operands (λ w.
+      use1 W (later (some (λ (r : Res (T .signature) κs). (raw tokens ⊛ ‵ (typeAt (T .signature .result) κs .own r (w ∷ []))) ⊛
+      some (λ (ws : Lasts T κs a). ‵ (lasts T κs a ws) ⊛ raw (c κs a .ensures g r (atExit T κs a ws)))))) (id⊢ 𝓤 _) $ await t tt $
       pick t (λ r. split t $ move t (1 ∷ []) $ pick t (λ ws. split t $ move t (2 ∷ []) $ split t $ move t (3 ∷ 2 ∷ 4 ∷ 1 ∷ 0 ∷ []) $ k w r ws)))
 
   -- what is had at exit of the parameters after the node: those that are Copy, and the last value of a `&mut` slice that was lent on

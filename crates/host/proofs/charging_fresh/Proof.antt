@@ -32,8 +32,7 @@ walk M 𝓤 H A W m run C Λ fm known κs qs bounds a ghost are =
     move ! (6 ∷ 7 ∷ 8 ∷ 4 ∷ 1 ∷ []) $ takes ! T.the-type T′.the-laws (a .0) refl (λ was.
     -- [open (0); _1 (1); _4 (2); deaths (3); _3 (4); _2 (5); _0 (6); tokens (7); owned (8); required (9)]
     move ! (7 ∷ 8 ∷ []) $
-    asks ! fm g.ended (g.clauses 𝓤 H A m run) known
-    ((κs .1, qs .1, tt, (a .0 .now, a .1), (vals T.the-type T′.the-laws (a .0 .now), vs .1)), tt)
+    asks ! fm g.ended (g.clauses 𝓤 H A m run) known (κs .1) (qs .1) tt (a .0 .now, a .1) (vals T.the-type T′.the-laws (a .0 .now), vs .1) tt
     T.the-type T′.the-plain (a .0 .now) _ was Ts (shr-slice-copy 𝓤 H A W (named 1) (κs .1 .0) u8, tt) (a .1) (vs .1) ftrue refl (id⊢ 𝓤 (emp 𝓤))
     (and-then ! (held ! 4 refl) (and-then ! (held ! 7 refl) (no-more !))) (λ w r ws.
     heard ! (Begins (a .1 .0 .now) (r .answer) (r .node) (r .line)) (λ e.

@@ -36,8 +36,7 @@ walk M 𝓤 H A W m run C Λ fm known κs qs bounds a ghost are =
     move ! (9 ∷ 10 ∷ 11 ∷ 7 ∷ 3 ∷ []) $ takes ! T.the-type T′.the-laws (a .0) refl (λ was.
     -- [open (0); _1 (1); _5 (2); deaths (3); _7 (4); _6 (5); _4 (6); _3 (7); _2 (8); _0 (9); tokens (10); owned (11); required (12)]
     move ! (7 ∷ 5 ∷ 4 ∷ []) $ lends ! refl refl refl (are .1 .1 .0 .0 .1 .0) $ move ! (10 ∷ 11 ∷ []) $
-    asks ! fm g.ended (g.clauses 𝓤 H A m run) known
-    ((κs .1, qs .1, tt, (a .0 .now, a .1), (vals T.the-type T′.the-laws (a .0 .now), vs .1)), tt)
+    asks ! fm g.ended (g.clauses 𝓤 H A m run) known (κs .1) (qs .1) tt (a .0 .now, a .1) (vals T.the-type T′.the-laws (a .0 .now), vs .1) tt
     T.the-type T′.the-plain (a .0 .now) _ was Ts (shr-slice-copy 𝓤 H A W (named 1) (κs .1 .0) u8, tt) b us Out refl (id⊢ 𝓤 (emp 𝓤))
     (and-then ! (held ! 7 refl) (and-then ! (held ! 10 refl) (and-then ! (held ! 4 refl) (no-more !)))) (λ w r ws.
     heard ! (Steps (a .0 .now) (a .1 .0 .now) (a .1 .1 .0 .now) (ws .1 .1 .0) (r .answer) (r .node) (r .written)) (λ e.
