@@ -1,2 +1,3 @@
 mod Starts
 pub mod Fixes
+pub mod Thin
