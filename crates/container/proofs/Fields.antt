@@ -32,6 +32,7 @@ use Rattle.container.specs.Qos.{qosOk, sameQos, Reliability, Delay, Prec
 use Rattle.container.specs.Container.{containerOk, isNew, told, isTold, formed, QosAfter, Uplink, Downlink, Condition, Time, containerTable}
 use Rattle.container.specs.Container.{container, toContainer, ofContainer, noStamp}
 use Rattle.container.specs.Private.NewForm.{newForm}
+use Rattle.container.specs.Private.Filled.{Filled}
 use Rattle.container.proofs.Formats.{qos-law, qos-good, told-none, told-some, container-law, container-good, within}
 
 -- ---- answers of readers
@@ -144,13 +145,7 @@ puts-not t x h = puts-is (rw h) puts-none
 pub ready : (t : Bool) (tag : ℕ) {x y : List ℕ} → t ≡ true → y ≡ x → length x < 65536 → tlvForm tag y ≡ guard t (tlvEnc tag x)
 ready t tag {x} {y} h e l = ap (tlvForm tag) e ∙ tlv-yes tag x l ∙ rw h
 
--- the front of an array that holds x, at most m octets
-pub record Filled (x : List ℕ) (m : ℕ) (b : List ℕ) (r : ℕ) : Type 0 where
-  pub front : take r b ≡ x
-  pub size : r ≡ length x
-  pub most : length x ≤ m
-  pub inside : r ≤ length b
-
+-- the front of an array holds what was written
 filled-of : {x b b′ : List ℕ} {m r : ℕ} → length b ≡ m → Wrote x b b′ 0 r → length x ≤ m → Filled x m b′ r
 filled-of e w h = let q = filled w (omega arith) in record { front = q .0; size = q .1; most = h; inside = q .2 }
 

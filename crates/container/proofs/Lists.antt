@@ -27,7 +27,7 @@ use Rattle.container.specs.declared.Container.{Container}
 use Rattle.container.specs.Container.{containerTag, formed, container, noContainer}
 use Rattle.container.specs.List.{allFormed, containers, noContainers, listed, Listed}
 use Rattle.container.proofs.Formats.{container-law, container-good, container-most, containers-law, containers-most, each-good}
-use Rattle.container.proofs.Fields.{Filled}
+use Rattle.container.specs.Private.Filled.{Filled}
 
 -- ---- reading
 

@@ -9,6 +9,8 @@ use ber::field;
 use ber::tlv;
 use calendar::Stamp;
 ghost use mathlib.Core.Path.{_≡_};
+ghost use lib.Dec.{T};
+ghost use lib.ListN.{length};
 ghost use Rattle.format.specs.Maybe.{guard};
 ghost use Rattle.ber.specs.Tlv.{tlvEnc};
 ghost use Rattle.ber.specs.Field.{first};
@@ -18,6 +20,7 @@ ghost use Rattle.ber.specs.Write.{Puts};
 ghost use Rattle.container.specs.Qos.{noQos};
 ghost use Rattle.container.specs.Container.{containerOk, isNew, isTold, formed, containerTag, QosAfter, container, noContainer};
 ghost use Rattle.container.specs.Private.NewForm.{newForm};
+ghost use Rattle.container.specs.Private.Filled.{Filled};
 
 // Is each value of a container as it must be?
 pub fn container_ok(c: Container) -> bool
@@ -140,13 +143,21 @@ pub fn put_container(out: &mut [u8], c: Container, last: Container) -> usize
     if !is_told(c, last) {
         return ber::NOWHERE;
     }
+    let mut b = [0u8; 53];
+    let end = put_fields(&mut b, c, last);
+    tlv::put_tlv(out, 0, tags::CONTAINER, &b[..end])
+}
+
+// Its fields, at the front of b: how many octets they are.
+fn put_fields(b: &mut [u8], c: Container, last: Container) -> usize
+    requires { ⌜ (length (now b) ≡ 53) × T (formed last c) ⌝ }
+    ensures { λ r. ⌜ Filled (container last .enc c) 53 (now (b .exit)) r ⌝ }
+{
     let q = c.qos;
     let t = c.time;
-    let mut b = [0u8; 53];
-    let uplink_at = put_qos_after(&mut b, q, last);
-    let downlink_at = field::put_int(&mut b, uplink_at, tags::UPLINK, c.uplink);
-    let condition_at = field::put_int(&mut b, downlink_at, tags::DOWNLINK, c.downlink);
-    let time_at = field::put_octet(&mut b, condition_at, tags::CONDITION, c.condition);
-    let end = stamp::put_stamp(&mut b, time_at, tags::TIME, t);
-    tlv::put_tlv(out, 0, tags::CONTAINER, &b[..end])
+    let uplink_at = put_qos_after(b, q, last);
+    let downlink_at = field::put_int(b, uplink_at, tags::UPLINK, c.uplink);
+    let condition_at = field::put_int(b, downlink_at, tags::DOWNLINK, c.downlink);
+    let time_at = field::put_octet(b, condition_at, tags::CONDITION, c.condition);
+    stamp::put_stamp(b, time_at, tags::TIME, t)
 }

@@ -4,12 +4,15 @@ use crate::tags;
 use ber::field;
 use ber::tlv;
 ghost use mathlib.Core.Path.{_≡_};
+ghost use lib.Dec.{T};
+ghost use lib.ListN.{length};
 ghost use Rattle.format.specs.Maybe.{guard};
 ghost use Rattle.ber.specs.Tlv.{tlvEnc};
 ghost use Rattle.ber.specs.Field.{first};
 ghost use Rattle.ber.specs.Read.{Reads};
 ghost use Rattle.ber.specs.Write.{Puts};
 ghost use Rattle.container.specs.Qos.{qosOk, sameQos, qos, noQos};
+ghost use Rattle.container.specs.Private.Filled.{Filled};
 
 // Is each of the five numbers in its range?
 pub fn qos_ok(q: Qos) -> bool
@@ -86,10 +89,18 @@ pub fn put_qos(out: &mut [u8], at: usize, tag: u8, q: Qos) -> usize
         return ber::NOWHERE;
     }
     let mut b = [0u8; 15];
-    let delay_at = field::put_octet(&mut b, 0, tags::RELIABILITY, q.reliability);
-    let precedence_at = field::put_octet(&mut b, delay_at, tags::DELAY, q.delay);
-    let peak_at = field::put_octet(&mut b, precedence_at, tags::PRECEDENCE, q.precedence);
-    let mean_at = field::put_octet(&mut b, peak_at, tags::PEAK, q.peak);
-    let end = field::put_octet(&mut b, mean_at, tags::MEAN, q.mean);
+    let end = put_fields(&mut b, q);
     tlv::put_tlv(out, at, tag, &b[..end])
+}
+
+// Its five fields, at the front of b: how many octets they are.
+fn put_fields(b: &mut [u8], q: Qos) -> usize
+    requires { ⌜ (length (now b) ≡ 15) × T (qosOk q) ⌝ }
+    ensures { λ r. ⌜ Filled (qos .enc q) 15 (now (b .exit)) r ⌝ }
+{
+    let delay_at = field::put_octet(b, 0, tags::RELIABILITY, q.reliability);
+    let precedence_at = field::put_octet(b, delay_at, tags::DELAY, q.delay);
+    let peak_at = field::put_octet(b, precedence_at, tags::PRECEDENCE, q.precedence);
+    let mean_at = field::put_octet(b, peak_at, tags::PEAK, q.peak);
+    field::put_octet(b, mean_at, tags::MEAN, q.mean)
 }

@@ -6,7 +6,7 @@ use borrow.Author.Tests.{not-true, not-false}
 use Rattle.format.proofs.Tests.{true-T}
 use Rattle.ber.proofs.Writers.{puts-is}
 use Rattle.container.specs.Container.{containerTag, formed}
-use Rattle.container.proofs.Fields.{puts-not, ready, filled-count, formed-yes, formed-bad, formed-untold, container-filled}
+use Rattle.container.proofs.Fields.{puts-not, ready, filled-count, formed-yes, formed-bad, formed-untold}
 use Rattle.container.proofs.one.put_container.Statement.{statement}
 use Rattle.container.proofs.one.put_container.Tie as tie
 
@@ -22,95 +22,37 @@ returns-2 c =
     (formed-untold (a .last) (a .c) (sym (c .before .before .before .container-ok .ensures) ∙ not-false _ (c .before .before .if1 .left))
     (sym (c .before .is-told .ensures) ∙ not-true _ (c .if2 .taken)))
 
+put-fields-requires : tie.Need-put-fields-requires
+put-fields-requires c κs =
+    let told = c .before .before in
+    let ok = told .before .before in
+    let a = ok .before .before .args in (
+      refl,
+      true-T _ (formed-yes (a .last) (a .c) (sym (ok .container-ok .ensures) ∙ not-false _ (told .before .if1 .left))
+          (sym (told .is-told .ensures) ∙ not-false _ (c .before .if2 .left))),
+    )
+
 array-share-prefix-b : tie.Need-array-share-prefix-b
-array-share-prefix-b c =
-    container-filled (c .before .before .before .before .before .before .before .before .before .before .before .before .before .before .before .before
-    .before .before .before .before .before .before .before .args .last)
-    (c .before .before .before .before .before .before .before .before .before .before .before .before .before .before .before .before .before .before
-    .before .before .before .before .before .args .c) refl
-    (c .before .before .before .before .before .before .before .before .before .before .before .before .before .before .put-qos-after .ensures)
-    (c .before .before .before .before .before .before .before .before .before .before .before .put-int .ensures)
-    (c .before .before .before .before .before .before .before .before .put-int2 .ensures)
-    (c .before .before .before .before .before .put-octet .ensures) (c .before .before .put-stamp .ensures)
-    (true-T _ (formed-yes (c .before .before .before .before .before .before .before .before .before .before .before .before .before .before .before
-    .before .before .before .before .before .before .before .before .args .last)
-    (c .before .before .before .before .before .before .before .before .before .before .before .before .before .before .before .before .before .before
-    .before .before .before .before .before .args .c)
-    (sym (c .before .before .before .before .before .before .before .before .before .before .before .before .before .before .before .before .before
-    .before .before .before .before .container-ok .ensures) ∙ not-false _
-    (c .before .before .before .before .before .before .before .before .before .before .before .before .before .before .before .before .before .before
-    .before .before .if1 .left)) (sym (c .before .before .before .before .before .before .before .before .before .before .before .before .before
-    .before .before .before .before .before .before .is-told .ensures) ∙ not-false _
-    (c .before .before .before .before .before .before .before .before .before .before .before .before .before .before .before .before .before .before
-    .if2 .left)))) .inside
+array-share-prefix-b c = c .before .before .put-fields .ensures .inside
 
 slice-aggregate-put-tlv : tie.Need-slice-aggregate-put-tlv
-slice-aggregate-put-tlv c =
-    filled-count
-    (container-filled (c .before .before .before .before .before .before .before .before .before .before .before .before .before .before .before .before
-    .before .before .before .before .before .before .before .before .args .last)
-    (c .before .before .before .before .before .before .before .before .before .before .before .before .before .before .before .before .before .before
-    .before .before .before .before .before .before .args .c) refl
-    (c .before .before .before .before .before .before .before .before .before .before .before .before .before .before .before .put-qos-after .ensures)
-    (c .before .before .before .before .before .before .before .before .before .before .before .before .put-int .ensures)
-    (c .before .before .before .before .before .before .before .before .before .put-int2 .ensures)
-    (c .before .before .before .before .before .before .put-octet .ensures) (c .before .before .before .put-stamp .ensures)
-    (true-T _ (formed-yes (c .before .before .before .before .before .before .before .before .before .before .before .before .before .before .before
-    .before .before .before .before .before .before .before .before .before .args .last)
-    (c .before .before .before .before .before .before .before .before .before .before .before .before .before .before .before .before .before .before
-    .before .before .before .before .before .before .args .c)
-    (sym (c .before .before .before .before .before .before .before .before .before .before .before .before .before .before .before .before .before
-    .before .before .before .before .before .container-ok .ensures) ∙ not-false _
-    (c .before .before .before .before .before .before .before .before .before .before .before .before .before .before .before .before .before .before
-    .before .before .before .if1 .left)) (sym
-    (c .before .before .before .before .before .before .before .before .before .before .before .before .before .before .before .before .before .before
-    .before .before .is-told .ensures) ∙ not-false _
-    (c .before .before .before .before .before .before .before .before .before .before .before .before .before .before .before .before .before .before
-    .before .if2 .left)))))
+slice-aggregate-put-tlv c = filled-count (c .before .before .before .put-fields .ensures)
 
 returns-3 : tie.Need-returns-3
 returns-3 c =
-    let a = c .before .before .before .before .before .before .before .before .before .before .before .before .before .before .before .before .before
-    .before .before .before .before .before .before .before .before .before .before .args in
-    let f =
-    container-filled (c .before .before .before .before .before .before .before .before .before .before .before .before .before .before .before .before
-    .before .before .before .before .before .before .before .before .before .before .before .args .last)
-    (c .before .before .before .before .before .before .before .before .before .before .before .before .before .before .before .before .before .before
-    .before .before .before .before .before .before .before .before .before .args .c) refl
-    (c .before .before .before .before .before .before .before .before .before .before .before .before .before .before .before .before .before .before
-    .put-qos-after .ensures) (c .before .before .before .before .before .before .before .before .before .before .before .before .before .before
-    .before .put-int .ensures) (c .before .before .before .before .before .before .before .before .before .before .before .before .put-int2 .ensures)
-    (c .before .before .before .before .before .before .before .before .before .put-octet .ensures)
-    (c .before .before .before .before .before .before .put-stamp .ensures)
-    (true-T _ (formed-yes (c .before .before .before .before .before .before .before .before .before .before .before .before .before .before .before
-    .before .before .before .before .before .before .before .before .before .before .before .before .args .last)
-    (c .before .before .before .before .before .before .before .before .before .before .before .before .before .before .before .before .before .before
-    .before .before .before .before .before .before .before .before .before .args .c)
-    (sym (c .before .before .before .before .before .before .before .before .before .before .before .before .before .before .before .before .before
-    .before .before .before .before .before .before .before .before .container-ok .ensures) ∙ not-false _
-    (c .before .before .before .before .before .before .before .before .before .before .before .before .before .before .before .before .before .before
-    .before .before .before .before .before .before .if1 .left))
-    (sym (c .before .before .before .before .before .before .before .before .before .before .before .before .before .before .before .before .before
-    .before .before .before .before .before .before .is-told .ensures) ∙ not-false _
-    (c .before .before .before .before .before .before .before .before .before .before .before .before .before .before .before .before .before .before
-    .before .before .before .before .if2 .left)))) in
-    puts-is (ready (formed (a .last) (a .c)) containerTag
-    (formed-yes (c .before .before .before .before .before .before .before .before .before .before .before .before .before .before .before .before
-    .before .before .before .before .before .before .before .before .before .before .before .args .last)
-    (c .before .before .before .before .before .before .before .before .before .before .before .before .before .before .before .before .before .before
-    .before .before .before .before .before .before .before .before .before .args .c)
-    (sym (c .before .before .before .before .before .before .before .before .before .before .before .before .before .before .before .before .before
-    .before .before .before .before .before .before .before .before .container-ok .ensures) ∙ not-false _
-    (c .before .before .before .before .before .before .before .before .before .before .before .before .before .before .before .before .before .before
-    .before .before .before .before .before .before .if1 .left))
-    (sym (c .before .before .before .before .before .before .before .before .before .before .before .before .before .before .before .before .before
-    .before .before .before .before .before .before .is-told .ensures) ∙ not-false _
-    (c .before .before .before .before .before .before .before .before .before .before .before .before .before .before .before .before .before .before
-    .before .before .before .before .if2 .left))) (f .front) (omega (arith, f .most))) (c .before .before .put-tlv .ensures)
+    let put = c .before .before in
+    let fields = put .before .before .before .before in
+    let told = fields .before .before .before in
+    let ok = told .before .before in
+    let a = ok .before .before .args in
+    let f = fields .put-fields .ensures in
+    let is-formed =
+    formed-yes (a .last) (a .c) (sym (ok .container-ok .ensures) ∙ not-false _ (told .before .if1 .left))
+    (sym (told .is-told .ensures) ∙ not-false _ (fields .before .before .if2 .left)) in
+    puts-is (ready (formed (a .last) (a .c)) containerTag is-formed (f .front) (omega (arith, f .most))) (put .put-tlv .ensures)
 
 pub put-container-spec : {M : Type 1} → statement M
 put-container-spec =
     tie.close
-    (tie.spec (search needs) returns (search needs) returns-2 (search needs) (search needs) (search needs)
-    (search needs) (search needs) (search needs) (search needs) (search needs) (search needs) (search needs)
-    array-share-prefix-b slice-aggregate-put-tlv (search needs) (search needs) returns-3)
+    (tie.spec (search needs) returns (search needs) returns-2 (search needs) put-fields-requires array-share-prefix-b
+    slice-aggregate-put-tlv (search needs) (search needs) returns-3)
