@@ -8,7 +8,7 @@
 use crate::refusal;
 use libc::STDERR_FILENO;
 use libc::STDOUT_FILENO;
-use node::Node;
+use profile::Profile;
 use std::num::wrapping_add_u64;
 use std::num::wrapping_sub_u64;
 use template::four;
@@ -32,11 +32,8 @@ fn fed(fd: i32, s: State, held: &mut [u8; 4096]) -> State {
     if s.ended | (291 <= window::left(p)) {
         return s;
     }
-    let f = window::fill(fd, held, p);
+    let f = setup::read_on(b"charge", b"the file of events", fd, held, p);
     let place = f.place;
-    if f.got < 0 {
-        setup::fail(b"charge", b"the file of events");
-    }
     State {
         place,
         ended: f.got == 0,
@@ -103,10 +100,10 @@ fn say_tally(s: State) {
 }
 
 // A proved loop has to end, and nothing says that a file does. So it counts its turns down, from a number that no run uses up.
-fn run(fd: i32, node: Node) {
+fn run(fd: i32, profile: Profile) {
     let mut held = io::buffer();
     let mut out = [0u8; 16416];
-    let mut now = node;
+    let mut now = setup::node_of(profile);
     let mut s = State {
         place: Place {
             at: 0,
@@ -138,13 +135,12 @@ fn run(fd: i32, node: Node) {
     say_tally(s);
 }
 
-// The events of the third argument, from the node of the second.
+// The events of the third argument, from a fresh node with the profile of the second.
 pub fn charge_file() {
-    let m = setup::node_of_profile(b"charge");
-    let fd = setup::open_after(m.answer, b"charge", 3);
+    let p = setup::profile_of_file(b"charge");
+    let fd = setup::open_after(p, b"charge", 3);
     if 0 <= fd {
-        let node = m.node;
-        run(fd, node);
+        run(fd, p);
         libc::close(fd);
     }
 }

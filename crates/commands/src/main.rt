@@ -22,7 +22,7 @@ fn run(command: &[u8]) {
     }
     if check::same(command, b"both") {
         charge::charge_file();
-        show::show_file(4, template::TEXT);
+        show::show_file(4, out::TEXT);
         return;
     }
     io::write_all(STDERR_FILENO, b"usage: commands charge|show ARGUMENT..\n");

@@ -3,10 +3,13 @@
 //
 // No contract can say what is read or written: each function is proved safe and ending.
 use libc::STDERR_FILENO;
-use node::sound::Made;
+use node::Node;
+use profile::Profile;
 use profile::text::Fault;
 use template::four;
 use template::say;
+use window::Filled;
+use window::Place;
 
 // Says what failed last, and why.
 pub fn fail(command: &[u8], what: &[u8]) {
@@ -30,12 +33,21 @@ pub fn open(command: &[u8], argument: usize) -> i32 {
     fd
 }
 
-// The same where the node was made; else -1.
-pub fn open_after(answer: u8, command: &[u8], argument: usize) -> i32 {
-    if answer != 0 {
-        return -1;
+// The same where the profile is in range; else -1.
+pub fn open_after(p: Profile, command: &[u8], argument: usize) -> i32 {
+    if profile::profile_ok(p) {
+        return open(command, argument);
     }
-    open(command, argument)
+    -1
+}
+
+// Reads on in a window of the file that a word names, and says so where that failed.
+pub fn read_on(command: &[u8], what: &[u8], fd: i32, held: &mut [u8], p: Place) -> Filled {
+    let f = window::fill(fd, held, p);
+    if f.got < 0 {
+        fail(command, what);
+    }
+    f
 }
 
 // The number of a fault, for the form below.
@@ -54,7 +66,7 @@ fn number_of(f: Fault) -> u64 {
 }
 
 // Says what is wrong with a profile, if anything is: a line of its text, or a value in it that is out of range.
-fn say_fault(command: &[u8], line: u8, fault: u64, answer: u8) {
+fn say_fault(command: &[u8], line: u8, fault: u64, ok: bool) {
     if line != 0 {
         say(
             b"%a: profile line %k: %Lnothing is wrong\
@@ -71,7 +83,7 @@ fn say_fault(command: &[u8], line: u8, fault: u64, answer: u8) {
         );
         return;
     }
-    if answer != 0 {
+    if !ok {
         say(
             b"%a: refused 12: the profile is out of range: volume-limit 1 to 1000000000000, time-limit 1 to 604800, \
 change-limit 1 to 15, offset -720 to 840, node-id of up to 20 characters from space to ~\n",
@@ -81,36 +93,30 @@ change-limit 1 to 15, offset -720 to 840, node-id of up to 20 characters from sp
     }
 }
 
-// No node.
-fn none() -> Made {
-    node::sound::fresh(profile::no_profile())
-}
-
-// The node that a text sets up.
-fn node_of_text(command: &[u8], s: &[u8]) -> Made {
+// The profile that a text has; one that is out of range after standard error has said what is wrong.
+fn profile_of_text(command: &[u8], s: &[u8]) -> Profile {
     let r = profile::text::read_profile(s);
     let f = r.fault;
     let p = r.profile;
-    let m = node::sound::fresh(p);
-    say_fault(command, r.line, number_of(f), m.answer);
-    m
+    say_fault(command, r.line, number_of(f), profile::profile_ok(p));
+    p
 }
 
 // The same of the first n octets of text, if that is not all of it: a text that fills the buffer may go on.
-fn node_of_front(command: &[u8], text: &[u8], n: usize) -> Made {
+fn profile_of_front(command: &[u8], text: &[u8], n: usize) -> Profile {
     if n < text.len() {
-        return node_of_text(command, window::front(text, n));
+        return profile_of_text(command, window::front(text, n));
     }
     say(
         b"%a: the profile has more than 4,095 octets\n",
         &four(0, 0, 0, 0),
         command,
     );
-    none()
+    profile::no_profile()
 }
 
 // Reads on from a place, to the end of the file or of the buffer, and answers the place after the last octet.
-fn read_on(fd: i32, text: &mut [u8], n: usize) -> usize {
+fn read_rest(fd: i32, text: &mut [u8], n: usize) -> usize {
     if n < text.len() {
         let more = io::read_full(fd, &mut text[n..]);
         return std::num::wrapping_add_usize(n, more);
@@ -118,22 +124,28 @@ fn read_on(fd: i32, text: &mut [u8], n: usize) -> usize {
     n
 }
 
-// The node that the file of the second argument sets up (the first is the command). Its answer is 0; or another, after standard error has
-// said what is wrong.
-pub fn node_of_profile(command: &[u8]) -> Made {
+// The profile in the file of the second argument (the first is the command); one that is out of range after standard error has said what is
+// wrong.
+pub fn profile_of_file(command: &[u8]) -> Profile {
     let fd = open(command, 2);
     if fd < 0 {
-        return none();
+        return profile::no_profile();
     }
     let mut text = io::buffer();
     let got = libc::read(fd, &mut text);
     if got < 0 {
         fail(command, b"the profile");
         libc::close(fd);
-        return none();
+        return profile::no_profile();
     }
     let n = io::count(got, &text);
-    let end = read_on(fd, &mut text, n);
+    let end = read_rest(fd, &mut text, n);
     libc::close(fd);
-    node_of_front(command, &text, end)
+    profile_of_front(command, &text, end)
+}
+
+// The node that a profile in range sets up.
+pub fn node_of(p: Profile) -> Node {
+    let m = node::sound::fresh(p);
+    m.node
 }

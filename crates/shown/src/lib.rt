@@ -4,13 +4,13 @@
 //
 // It only puts characters on their way to standard output, and no contract can say what is written: each function is proved safe and ending.
 mod numbers;
+mod parts;
 mod rows;
 
 use calendar::Stamp;
+use out::JSON;
+use out::PLAIN;
 use scdr::Record;
-use template::JSON;
-use template::PLAIN;
-use template::put_form;
 
 // Puts a whole record behind the characters that wait, and answers how many wait then: which it is, how many octets of the file lie before
 // its mark, how many it has without the mark. (The plain form says none of the three.)
@@ -30,11 +30,11 @@ pub fn put_record(
     let opening = r.opening;
     let list = r.containers;
     let time = octets_of(opening);
-    let a = put_part(text, waiting, style, 0, &v, &imsi);
-    let b = put_part(text, a, style, 1, &v, name_of(&apn, style, r.apnlen));
+    let a = parts::put_head(text, waiting, style, &v, &imsi);
+    let b = parts::put_name(text, a, style, &v, name_of(&apn, style, r.apnlen));
     let c = rows::put_rows(text, b, style, list, if_json(style, r.count, 0));
-    let d = put_part(text, c.waiting, style, 2, &v, &time);
-    let e = put_part(text, d, style, 3, &v, id_of(&id, style, r.nodelen));
+    let d = parts::put_opening(text, c.waiting, style, &v, &time);
+    let e = parts::put_id(text, d, style, &v, id_of(&id, style, r.nodelen));
     let f = rows::put_rows(
         text,
         e,
@@ -73,119 +73,4 @@ fn if_json(style: u8, yes: usize, no: usize) -> usize {
         return yes;
     }
     no
-}
-
-// A part of a record that has one word: 0 what stands before the access point name, with the IMSI; 1 from there to the PDP address, with the
-// name; 2 from the opening time on; 3 from the node ID on, with it.
-fn put_part(
-    text: &mut [u8; 4096],
-    waiting: usize,
-    style: u8,
-    part: u8,
-    v: &[u64; 27],
-    word: &[u8],
-) -> usize {
-    if style == JSON {
-        return put_json(text, waiting, part, v, word);
-    }
-    if style == PLAIN {
-        return put_plain(text, waiting, part, v, word);
-    }
-    put_text(text, waiting, part, v, word)
-}
-
-fn put_text(text: &mut [u8; 4096], waiting: usize, part: u8, v: &[u64; 27], word: &[u8]) -> usize {
-    match part {
-        0 => put_form(
-            text,
-            waiting,
-            0,
-            b"record %r (octet %o, %l octets)
-%W%;  networkInitiation     true
-%.  servedIMSI            %i
-  sgsnAddress           %s
-  chargingID            %c
-  ggsnAddressUsed       %g
-",
-            v,
-            word,
-        ),
-        1 => put_form(
-            text,
-            waiting,
-            0,
-            b"  accessPointName       %a
-  pdpType               %y %z
-  servedPDPAddress      %p
-",
-            v,
-            word,
-        ),
-        2 => put_form(
-            text,
-            waiting,
-            0,
-            b"  recordOpeningTime     20%0-%1-%2 %3:%4:%5 %6%7:%8
-  duration              %d s
-%H%;  sgsnChange            true
-%.  causeForRecClosing    %k (%Knormal release%;%;%;%;abnormal release%;%;%;%;%;%;%;%;%;%;%;%;volume limit%;time limit%;SGSN change%;\
-maximum number of changes in charging conditions%;management intervention%.)
-  recordSequenceNumber  %N%q%;-%.
-",
-            v,
-            word,
-        ),
-        _ => put_form(
-            text,
-            waiting,
-            0,
-            b"%M%;  nodeID                %a
-%.  listOfTrafficVolumes
-    until                               uplink        downlink  condition             reliability delay precedence peak mean
-",
-            v,
-            word,
-        ),
-    }
-}
-
-fn put_json(text: &mut [u8; 4096], waiting: usize, part: u8, v: &[u64; 27], word: &[u8]) -> usize {
-    match part {
-        0 => put_form(
-            text,
-            waiting,
-            JSON,
-            b"{\"recordType\":18%W%;,\"networkInitiation\":true%.,\"servedIMSI\":\"%i\"\
-,\"sgsnAddress\":\"%s\",\"chargingID\":%c,\"ggsnAddressUsed\":\"%g\"",
-            v,
-            word,
-        ),
-        1 => put_form(
-            text,
-            waiting,
-            JSON,
-            b",\"accessPointName\":\"%a\",\"pdpType\":\"%y%z\",\"servedPDPAddress\":\"%p\",\"listOfTrafficVolumes\":[",
-            v,
-            word,
-        ),
-        2 => put_form(
-            text,
-            waiting,
-            JSON,
-            b"],\"recordOpeningTime\":\"20%0-%1-%2T%3:%4:%5%6%7:%8\",\"duration\":%d%H%;,\"sgsnChange\":true%.\
-,\"causeForRecClosing\":%k%N,\"recordSequenceNumber\":%q%.",
-            v,
-            word,
-        ),
-        _ => put_form(text, waiting, JSON, b"%M%;,\"nodeID\":\"%a\"%.}\n", v, word),
-    }
-}
-
-fn put_plain(text: &mut [u8; 4096], waiting: usize, part: u8, v: &[u64; 27], word: &[u8]) -> usize {
-    match part {
-        0 => put_form(text, waiting, PLAIN, b"%w%a%s%c%g%j", v, word),
-        1 => put_form(text, waiting, PLAIN, b"%a%y%z%p", v, word),
-        2 => put_form(text, waiting, PLAIN, b"%f%t%h%k%q%b", v, word),
-        _ => put_form(text, waiting, PLAIN, b"%a%e", v, word),
-    }
 }

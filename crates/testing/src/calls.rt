@@ -6,12 +6,10 @@
 // call: the answer, the written length, the written octets in hex (docs/FORMATS.md). A call is a room and an event, after two lengths.
 use crate::records::block::number;
 use libc::STDERR_FILENO;
-use node::Node;
+use profile::Profile;
 use std::num::wrapping_add_u64;
 use std::num::wrapping_add_usize;
-use template::TEXT;
 use template::four;
-use template::put_form;
 use template::say;
 use window::Place;
 ghost use Prim.Native.Nat.{_≤_};
@@ -73,11 +71,8 @@ fn size_at(held: &[u8], at: usize) -> usize {
 // More of the file, or its end.
 fn read_on(fd: i32, s: State, held: &mut [u8; 4096]) -> State {
     let p = s.place;
-    let f = window::fill(fd, held, p);
+    let f = setup::read_on(b"calls", b"the file of calls", fd, held, p);
     let q = f.place;
-    if f.got < 0 {
-        setup::fail(b"calls", b"the file of calls");
-    }
     if (f.got == 0) & (0 < window::left(q)) {
         say(
             b"calls: call %k, at octet %l of the file: the file ends within the call\n",
@@ -145,20 +140,16 @@ fn told(s: State, answer: u8, written: usize, out: &[u8]) -> State {
 
 // Writes a line: the answer, how many octets were written, and these in hex. Answers whether it could be written.
 fn write_line(answer: u8, written: usize, octets: &[u8]) -> bool {
-    let mut text = [0u8; 4096];
     let v = four(answer as u64, written as u64, 0, 0);
-    let a = put_form(&mut text, 0, TEXT, b"%k %l ", &v, b"");
-    let b = out::put_hex(&mut text, a, octets);
-    let c = out::put(&mut text, b, b'\n');
-    out::write_out(&text, c)
+    template::write(b"%k %l %x\n", &v, octets)
 }
 
 // A proved loop has to end, and nothing says that a file does. So it counts its turns down, from a number that no run uses up. Where no whole
 // call is in the window the step is asked nothing, which it refuses.
-fn run(fd: i32, node: Node) {
+fn run(fd: i32, profile: Profile) {
     let mut held = io::buffer();
     let mut out = [0u8; 20000];
-    let mut now = node;
+    let mut now = setup::node_of(profile);
     let mut s = State {
         place: Place {
             at: 0,
@@ -188,11 +179,10 @@ fn run(fd: i32, node: Node) {
 
 // The file that an argument names, from a fresh node.
 pub fn run_file(argument: usize) {
-    let m = setup::node_of_profile(b"calls");
-    let fd = setup::open_after(m.answer, b"calls", argument);
+    let p = setup::profile_of_file(b"calls");
+    let fd = setup::open_after(p, b"calls", argument);
     if 0 <= fd {
-        let node = m.node;
-        run(fd, node);
+        run(fd, p);
         libc::close(fd);
     }
 }

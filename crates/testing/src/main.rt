@@ -21,7 +21,7 @@ fn all() {
         calls::run_file(i);
         i += 1;
     }
-    records::all_blocks(true);
+    records::all(records::BOTH);
     table::write_rows();
 }
 

@@ -1,30 +1,17 @@
 // The bench table of 01, row by row through the code. That the definitions give the same is one theorem (specs/Table.antt, proofs/Holds.antt).
 use calendar::Stamp;
+use libc::STDOUT_FILENO;
+use out::APART;
+use out::TEXT;
 
 // Writes a row: what it is of, and octets.
 fn row(what: &[u8], s: &[u8]) {
     let mut text = [0u8; 4096];
-    let w = out::put_all(&mut text, 0, what);
-    let w = out::put_all(&mut text, w, b" ->");
-    let w = put_apart(&mut text, w, s);
+    let w = out::put_all(&mut text, 0, TEXT, what);
+    let w = out::put_all(&mut text, w, TEXT, b" ->");
+    let w = out::put_all(&mut text, w, APART, s);
     let w = out::put(&mut text, w, b'\n');
-    out::write_out(&text, w);
-}
-
-// The octets of s in hex, a space before each.
-fn put_apart(text: &mut [u8; 4096], waiting: usize, s: &[u8]) -> usize {
-    let mut w = waiting;
-    let mut i: usize = 0;
-    while i < s.len() {
-        w = put_one(text, w, s[i]);
-        i += 1;
-    }
-    w
-}
-
-fn put_one(text: &mut [u8; 4096], waiting: usize, x: u8) -> usize {
-    let w = out::put(text, waiting, b' ');
-    out::put_octet(text, w, x)
+    out::write_out(STDOUT_FILENO, &text, w);
 }
 
 fn integer(what: &[u8], v: u64) {

@@ -7,19 +7,19 @@ use Rattle.out.proofs.put_all.Statement.{statement}
 use Rattle.out.proofs.put_all.Tie as tie
 
 abbrev Inv-loop : tie.InvT-loop
-Inv-loop text₀ waiting s w₀ i₀ text w i = i ≤ length s
+Inv-loop text₀ waiting style s w₀ i₀ text w i = i ≤ length s
 
 abbrev μ-loop : tie.MeasureT-loop
-μ-loop text₀ waiting s w₀ i₀ text w i = length s - i
+μ-loop text₀ waiting style s w₀ i₀ text w i = length s - i
 
 loop-holds : tie.Need-loop-holds Inv-loop μ-loop
 loop-holds c = omega arith
 
-shared-slice-read-put : tie.Need-shared-slice-read-put Inv-loop μ-loop
-shared-slice-read-put c = search needs
+shared-slice-read-put-one : tie.Need-shared-slice-read-put-one Inv-loop μ-loop
+shared-slice-read-put-one c = search needs
 
-put-requires : tie.Need-put-requires Inv-loop μ-loop
-put-requires c κs = search needs
+put-one-requires : tie.Need-put-one-requires Inv-loop μ-loop
+put-one-requires c κs = search needs
 
 add-i : tie.Need-add-i Inv-loop μ-loop
 add-i c = search needs
@@ -40,8 +40,8 @@ put-all-spec =
     Inv-loop
     μ-loop
     loop-holds
-    shared-slice-read-put
-    put-requires
+    shared-slice-read-put-one
+    put-one-requires
     add-i
     loop-less
     loop-again

@@ -28,8 +28,8 @@ loop-less c = search needs
 loop-again : tie.Need-loop-again Inv-loop μ-loop
 loop-again c = tt
 
-all-blocks-requires : tie.Need-all-blocks-requires Inv-loop μ-loop
-all-blocks-requires c κs = search needs
+all-requires : tie.Need-all-requires Inv-loop μ-loop
+all-requires c κs = search needs
 
 write-rows-requires : tie.Need-write-rows-requires Inv-loop μ-loop
 write-rows-requires c κs = search needs
@@ -49,6 +49,6 @@ all-spec =
     add-i
     loop-less
     loop-again
-    all-blocks-requires
+    all-requires
     write-rows-requires
     returns)

@@ -16,6 +16,9 @@ abbrev μ-loop : tie.MeasureT-loop
 buffer-requires : tie.Need-buffer-requires Inv-loop μ-loop
 buffer-requires c κs = search needs
 
+node-of-requires : tie.Need-node-of-requires Inv-loop μ-loop
+node-of-requires c κs = search needs
+
 loop-holds : tie.Need-loop-holds Inv-loop μ-loop
 loop-holds c = search needs
 
@@ -78,6 +81,7 @@ run-spec =
     Inv-loop
     μ-loop
     buffer-requires
+    node-of-requires
     loop-holds
     fed-requires
     at-most-requires

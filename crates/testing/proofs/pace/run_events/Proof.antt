@@ -6,16 +6,22 @@ use Rattle.testing.proofs.pace.run_events.Statement.{statement}
 use Rattle.testing.proofs.pace.run_events.Tie as tie
 
 abbrev Inv-loop : tie.InvT-loop
-Inv-loop fresh s out₀ node₀ sum₀ at₀ calls₀ out node sum at calls = length out ≡ 16416
+Inv-loop profile s out₀ node₀ sum₀ at₀ calls₀ out node sum at calls = length out ≡ 16416
 
 abbrev μ-loop : tie.MeasureT-loop
-μ-loop fresh s out₀ node₀ sum₀ at₀ calls₀ out node sum at calls = calls
+μ-loop profile s out₀ node₀ sum₀ at₀ calls₀ out node sum at calls = calls
+
+node-of-requires : tie.Need-node-of-requires Inv-loop μ-loop
+node-of-requires c κs = search needs
 
 loop-holds : tie.Need-loop-holds Inv-loop μ-loop
 loop-holds c = search needs
 
 around-requires : tie.Need-around-requires Inv-loop μ-loop
 around-requires c κs = search needs
+
+node-of-requires-2 : tie.Need-node-of-requires-2 Inv-loop μ-loop
+node-of-requires-2 c κs = search needs
 
 after-event-requires : tie.Need-after-event-requires Inv-loop μ-loop
 after-event-requires c κs = search needs
@@ -50,8 +56,10 @@ run-events-spec =
     (tie.spec
     Inv-loop
     μ-loop
+    node-of-requires
     loop-holds
     around-requires
+    node-of-requires-2
     after-event-requires
     part-requires
     slice-aggregate-step

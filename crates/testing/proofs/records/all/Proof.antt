@@ -1,19 +1,19 @@
--- `testing::records::all_blocks` is safe and ends: the turns that are left fall.
+-- `testing::records::all` is safe and ends: the turns that are left fall.
 use borrow.Author.Needs.{needs}
-use Rattle.testing.proofs.records.all_blocks.Statement.{statement}
-use Rattle.testing.proofs.records.all_blocks.Tie as tie
+use Rattle.testing.proofs.records.all.Statement.{statement}
+use Rattle.testing.proofs.records.all.Tie as tie
 
 abbrev Inv-loop : tie.InvT-loop
-Inv-loop back turns₀ turns = Unit {0}
+Inv-loop task turns₀ turns = Unit {0}
 
 abbrev μ-loop : tie.MeasureT-loop
-μ-loop back turns₀ turns = turns
+μ-loop task turns₀ turns = turns
 
 loop-holds : tie.Need-loop-holds Inv-loop μ-loop
 loop-holds c = tt
 
-one-block-requires : tie.Need-one-block-requires Inv-loop μ-loop
-one-block-requires c κs = search needs
+one-requires : tie.Need-one-requires Inv-loop μ-loop
+one-requires c κs = search needs
 
 sub-turns : tie.Need-sub-turns Inv-loop μ-loop
 sub-turns c = search needs
@@ -30,14 +30,14 @@ returns c = tt
 returns-2 : tie.Need-returns-2 Inv-loop μ-loop
 returns-2 c = tt
 
-pub all-blocks-spec : {M : Type 1} → statement M
-all-blocks-spec =
+pub all-spec : {M : Type 1} → statement M
+all-spec =
     tie.close
     (tie.spec
     Inv-loop
     μ-loop
     loop-holds
-    one-block-requires
+    one-requires
     sub-turns
     loop-less
     loop-again
