@@ -105,11 +105,7 @@ fn run(fd: i32, profile: Profile) {
     let mut out = [0u8; 16416];
     let mut now = setup::node_of(profile);
     let mut s = State {
-        place: Place {
-            at: 0,
-            end: 0,
-            offset: 0,
-        },
+        place: window::START,
         ended: false,
         events: 0,
         records: 0,

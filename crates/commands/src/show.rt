@@ -158,11 +158,7 @@ fn run(fd: i32, style: u8) {
     let mut held = io::large_buffer();
     let mut text = [0u8; 4096];
     let mut s = State {
-        place: Place {
-            at: 0,
-            end: 0,
-            offset: 0,
-        },
+        place: window::START,
         records: 0,
         waiting: 0,
         ended: false,
@@ -185,16 +181,9 @@ pub fn show_file(argument: usize, style: u8) {
     }
 }
 
-// Is the first argument after the command --json?
-fn asks_json() -> bool {
-    let mut word = [0u8; 16];
-    let n = os::arg(2, &mut word);
-    check::same(&word[..n], b"--json")
-}
-
 pub fn main() {
     let count = os::arg_count();
-    let json = asks_json();
+    let json = crate::is_word(2, b"--json");
     if (count == 3) & !json {
         show_file(2, TEXT);
         return;

@@ -124,6 +124,18 @@ fn read_rest(fd: i32, text: &mut [u8], n: usize) -> usize {
     n
 }
 
+// The profile in a file.
+fn profile_in(command: &[u8], fd: i32) -> Profile {
+    let mut text = io::buffer();
+    let f = read_on(command, b"the profile", fd, &mut text, window::START);
+    if f.got < 0 {
+        return profile::no_profile();
+    }
+    let p = f.place;
+    let end = read_rest(fd, &mut text, p.end);
+    profile_of_front(command, &text, end)
+}
+
 // The profile in the file of the second argument (the first is the command); one that is out of range after standard error has said what is
 // wrong.
 pub fn profile_of_file(command: &[u8]) -> Profile {
@@ -131,17 +143,9 @@ pub fn profile_of_file(command: &[u8]) -> Profile {
     if fd < 0 {
         return profile::no_profile();
     }
-    let mut text = io::buffer();
-    let got = libc::read(fd, &mut text);
-    if got < 0 {
-        fail(command, b"the profile");
-        libc::close(fd);
-        return profile::no_profile();
-    }
-    let n = io::count(got, &text);
-    let end = read_rest(fd, &mut text, n);
+    let p = profile_in(command, fd);
     libc::close(fd);
-    profile_of_front(command, &text, end)
+    p
 }
 
 // The node that a profile in range sets up.

@@ -26,23 +26,43 @@ pub fn put_record(
     let v = numbers::of_record(r, which, before, size);
     let imsi = r.imsi;
     let apn = r.apn;
-    let id = r.nodeid;
-    let opening = r.opening;
+    let a = put_front(text, waiting, style, &v, imsi, apn, r.apnlen);
     let list = r.containers;
+    let b = rows::put_rows(text, a, style, list, rows_at(style, false, r.count));
+    let opening = r.opening;
+    let id = r.nodeid;
+    let c = put_back(text, b.waiting, style, &v, opening, id, r.nodelen);
+    let d = rows::put_rows(text, c, style, list, rows_at(style, true, r.count));
+    rows::put_end(text, d, style)
+}
+
+// What stands before the opening time.
+fn put_front(
+    text: &mut [u8; 4096],
+    waiting: usize,
+    style: u8,
+    v: &[u64; 27],
+    imsi: [u8; 8],
+    apn: [u8; 63],
+    n: usize,
+) -> usize {
+    let a = parts::put_head(text, waiting, style, v, &imsi);
+    parts::put_name(text, a, style, v, window::front(&apn, shown(style, n)))
+}
+
+// From the opening time on.
+fn put_back(
+    text: &mut [u8; 4096],
+    waiting: usize,
+    style: u8,
+    v: &[u64; 27],
+    opening: Stamp,
+    id: [u8; 20],
+    n: usize,
+) -> usize {
     let time = octets_of(opening);
-    let a = parts::put_head(text, waiting, style, &v, &imsi);
-    let b = parts::put_name(text, a, style, &v, name_of(&apn, style, r.apnlen));
-    let c = rows::put_rows(text, b, style, list, if_json(style, r.count, 0));
-    let d = parts::put_opening(text, c.waiting, style, &v, &time);
-    let e = parts::put_id(text, d, style, &v, id_of(&id, style, r.nodelen));
-    let f = rows::put_rows(
-        text,
-        e,
-        style,
-        list,
-        if_json(style, 0, shown(style, r.count)),
-    );
-    rows::put_end(text, f, style)
+    let a = parts::put_opening(text, waiting, style, v, &time);
+    parts::put_id(text, a, style, v, window::front(&id, shown(style, n)))
 }
 
 // The nine octets of a time.
@@ -59,18 +79,10 @@ fn shown(style: u8, n: usize) -> usize {
     n
 }
 
-fn name_of(apn: &[u8; 63], style: u8, n: usize) -> &[u8] {
-    window::front(apn, shown(style, n))
-}
-
-fn id_of(id: &[u8; 20], style: u8, n: usize) -> &[u8] {
-    window::front(id, shown(style, n))
-}
-
-// In JSON the containers stand before the opening time, elsewhere at the end.
-fn if_json(style: u8, yes: usize, no: usize) -> usize {
-    if style == JSON {
-        return yes;
+// How many containers stand before the opening time, and at the end: in JSON all are there, elsewhere here.
+fn rows_at(style: u8, end: bool, count: usize) -> usize {
+    if end == (style == JSON) {
+        return 0;
     }
-    no
+    shown(style, count)
 }

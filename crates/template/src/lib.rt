@@ -1,7 +1,8 @@
 // A form: characters as they are to be written, in which `%` and a character stand for a value. A form has 26 numbers, one for each letter
 // (at the place of its letter: a at 1, b at 2, and so on), and one word: octets.
 //
-//     %a to %z   the number of that letter, or the word, written as the letter and the style ask: below, at `put_value` and `put_number`
+//     %a to %z   the number of that letter, written as the letter and the style ask (at `put_number`), but for
+//     %a %i %x   the word: as the style has it, as an IMSI, and in digits of sixteen; with %_ a space stands before the digits of each octet
 //     %A to %Z   begins a choice by the number of that letter. What follows stands where it is 0,
 //     %;         what follows this where it is 1 more, and
 //     %.         ends the choice. There is no choice within a choice
@@ -13,6 +14,7 @@
 // escapes; PLAIN, with each value in octets of a fixed number.
 use libc::STDERR_FILENO;
 use libc::STDOUT_FILENO;
+use out::APART;
 use out::DIGITS;
 use out::JSON;
 use out::PLAIN;
@@ -200,18 +202,18 @@ fn put_value(
     match x {
         b'.' | b';' | b'A'..=b'Z' => waiting,
         b'0'..=b'8' => put_one(text, waiting, style_of(style, x), octet_of(word, x)),
-        b'a' | b'i' | b'x' => put_all(text, waiting, style_of(style, x), word),
+        b'a' | b'i' | b'x' | b'_' => put_all(text, waiting, style_of(style, x), word),
         _ => put_number(text, waiting, style, x, n),
     }
 }
 
-// How octets of the word are put: of a time the seventh is a sign, and the others are two decimal digits each; %i is an IMSI, %x the word
-// in digits of sixteen, and %a follows the style of the form.
+// How octets of the word are put. Of a time the seventh is a sign, and the others are two decimal digits each.
 fn style_of(style: u8, x: u8) -> u8 {
     match x {
         b'6' => TEXT,
         b'0'..=b'8' | b'x' => PLAIN,
         b'i' => DIGITS,
+        b'_' => APART,
         _ => style,
     }
 }

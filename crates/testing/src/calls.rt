@@ -12,7 +12,6 @@ use std::num::wrapping_add_usize;
 use template::four;
 use template::say;
 use window::Place;
-ghost use Prim.Native.Nat.{_≤_};
 
 // Where the next call lies, and its number, from 1; whether it lies whole in the window, and its room and the length of its event then, else
 // 0; and whether to go on. (The node is kept apart: what holds it is slow to prove.)
@@ -107,18 +106,8 @@ fn event_of(p: Place, length: usize, held: &[u8; 4096]) -> &[u8] {
     window::part(held, a, wrapping_add_usize(a, length))
 }
 
-// A room is never more than the buffer has.
-fn at_most(room: usize) -> usize
-    ensures { λ r. ⌜ r ≤ 20000 ⌝ }
-{
-    if room < 20000 {
-        return room;
-    }
-    20000
-}
-
 // What a call answered and wrote, if there was one.
-fn told(s: State, answer: u8, written: usize, out: &[u8]) -> State {
+fn told(s: State, answer: u8, written: usize, out: &[u8; 20000]) -> State {
     if !s.whole {
         return s;
     }
@@ -151,11 +140,7 @@ fn run(fd: i32, profile: Profile) {
     let mut out = [0u8; 20000];
     let mut now = setup::node_of(profile);
     let mut s = State {
-        place: Place {
-            at: 0,
-            end: 0,
-            offset: 0,
-        },
+        place: window::START,
         number: 1,
         whole: false,
         room: 0,
@@ -166,8 +151,11 @@ fn run(fd: i32, profile: Profile) {
     while s.going {
         s = fed(fd, s, &mut held);
         let p = s.place;
-        let room = at_most(s.room);
-        let r = node::step::step(now, event_of(p, s.length, &held), &mut out[..room]);
+        let r = node::step::step(
+            now,
+            event_of(p, s.length, &held),
+            crate::lent(&mut out, s.room),
+        );
         now = r.node;
         s = told(s, r.answer, r.written, &out);
         if turns == 0 {

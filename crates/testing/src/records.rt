@@ -7,6 +7,8 @@
 // A block is the plain form of a record, every field at a fixed place (docs/FORMATS.md).
 pub mod block;
 
+use crate::is_word;
+use crate::lent;
 use libc::STDERR_FILENO;
 use libc::STDIN_FILENO;
 use libc::STDOUT_FILENO;
@@ -93,10 +95,7 @@ fn one_record() -> bool {
 
 // Takes the n octets of a record, and answers whether they were there.
 fn take_record(b: &mut [u8], n: usize) -> bool {
-    if b.len() < n {
-        return false;
-    }
-    let got = io::read_full(STDIN_FILENO, &mut b[..n]);
+    let got = io::read_full(STDIN_FILENO, lent(b, n));
     if got < n {
         io::write_all(STDERR_FILENO, b"records: the last record is cut short\n");
         return false;
@@ -125,24 +124,18 @@ pub fn all(task: u8) {
     }
 }
 
-fn run(what: &[u8]) {
-    if check::same(what, b"write") {
+pub fn main() {
+    if is_word(2, b"write") {
         all(WRITE);
         return;
     }
-    if check::same(what, b"both") {
+    if is_word(2, b"both") {
         all(BOTH);
         return;
     }
-    if check::same(what, b"read") {
+    if is_word(2, b"read") {
         all(READ);
         return;
     }
     io::write_all(STDERR_FILENO, b"usage: records write|read|both\n");
-}
-
-pub fn main() {
-    let mut word = [0u8; 8];
-    let n = os::arg(2, &mut word);
-    run(&word[..n]);
 }

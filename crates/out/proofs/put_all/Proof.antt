@@ -1,4 +1,4 @@
--- `out::put_all` is safe and ends.
+-- `out::put_all` is safe and ends: it passes one octet at each turn.
 use Prim.Native.Nat.{_-_, _≤_}
 use native.Mathlib.Omega.{arith}
 use lib.ListN.{length}
@@ -12,37 +12,16 @@ Inv-loop text₀ waiting style s w₀ i₀ text w i = i ≤ length s
 abbrev μ-loop : tie.MeasureT-loop
 μ-loop text₀ waiting style s w₀ i₀ text w i = length s - i
 
-loop-holds : tie.Need-loop-holds Inv-loop μ-loop
-loop-holds c = omega arith
-
-shared-slice-read-put-one : tie.Need-shared-slice-read-put-one Inv-loop μ-loop
-shared-slice-read-put-one c = search needs
-
-put-one-requires : tie.Need-put-one-requires Inv-loop μ-loop
-put-one-requires c κs = search needs
-
-add-i : tie.Need-add-i Inv-loop μ-loop
-add-i c = search needs
-
-loop-less : tie.Need-loop-less Inv-loop μ-loop
-loop-less c = search needs
-
-loop-again : tie.Need-loop-again Inv-loop μ-loop
-loop-again c = search needs
-
-returns : tie.Need-returns Inv-loop μ-loop
-returns c = search needs
-
 pub put-all-spec : {M : Type 1} → statement M
 put-all-spec =
     tie.close
     (tie.spec
     Inv-loop
     μ-loop
-    loop-holds
-    shared-slice-read-put-one
-    put-one-requires
-    add-i
-    loop-less
-    loop-again
-    returns)
+    (λ c. omega arith)
+    (λ c. search needs)
+    (λ c κs. search needs)
+    (λ c. search needs)
+    (λ c. search needs)
+    (λ c. search needs)
+    (λ c. search needs))

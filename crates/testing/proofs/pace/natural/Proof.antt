@@ -18,14 +18,8 @@ fits-unsigned z f h = (
   subst (λ (x : ℤ). Fits w64 (natAbs x)) (sym (toZ-ofZ w64 z f)) (record { fits = lt-of-le-of-lt (natAbs-le z (f .sfits)) (lit< tt) }),
 )
 
-returns : tie.Need-returns
-returns c = search needs
-
 cast-result : tie.Need-cast-result
 cast-result c = fits-unsigned (c .before .args .t) (c .before .fits .t) (c .if1 .left)
 
-returns-2 : tie.Need-returns-2
-returns-2 c = search needs
-
 pub natural-spec : {M : Type 1} → statement M
-natural-spec = tie.close (tie.spec returns cast-result returns-2)
+natural-spec = tie.close (tie.spec (λ c. search needs) cast-result (λ c. search needs))
