@@ -133,11 +133,11 @@ fn run(fd: i32, profile: Profile) {
 
 // The events of the third argument, from a fresh node with the profile of the second.
 pub fn charge_file() {
-    let p = setup::profile_of_file(b"charge");
-    let fd = setup::open_after(p, b"charge", 3);
-    if 0 <= fd {
-        run(fd, p);
-        libc::close(fd);
+    let s = setup::start(b"charge", 3);
+    if 0 <= s.fd {
+        let p = s.profile;
+        run(s.fd, p);
+        libc::close(s.fd);
     }
 }
 

@@ -33,14 +33,6 @@ pub fn open(command: &[u8], argument: usize) -> i32 {
     fd
 }
 
-// The same where the profile is in range; else -1.
-pub fn open_after(p: Profile, command: &[u8], argument: usize) -> i32 {
-    if profile::profile_ok(p) {
-        return open(command, argument);
-    }
-    -1
-}
-
 // Reads on in a window of the file that a word names, and says so where that failed.
 pub fn read_on(command: &[u8], what: &[u8], fd: i32, held: &mut [u8], p: Place) -> Filled {
     let f = window::fill(fd, held, p);
@@ -65,11 +57,11 @@ fn number_of(f: Fault) -> u64 {
     }
 }
 
-// Says what is wrong with a profile, if anything is: a line of its text, or a value in it that is out of range.
-fn say_fault(command: &[u8], line: u8, fault: u64, ok: bool) {
-    if line != 0 {
-        say(
-            b"%a: profile line %k: %Lnothing is wrong\
+// Says what is wrong with a profile that is out of range, or has a fault in a line.
+fn say_fault(command: &[u8], line: u8, fault: u64) {
+    say(
+        b"%a: %Mrefused 12: the profile is out of range: volume-limit 1 to 1000000000000, time-limit 1 to 604800, \
+change-limit 1 to 15, offset -720 to 840, node-id of up to 20 characters from space to ~%;profile line %k: %.%L\
 %;the line is missing: write all six lines (sgsn, volume-limit, time-limit, change-limit, offset, node-id)\
 %;no line feed at the end of the line\
 %;the line does not begin with its name: sgsn, volume-limit, time-limit, change-limit, offset, node-id stand in this order\
@@ -78,19 +70,9 @@ fn say_fault(command: &[u8], line: u8, fault: u64, ok: bool) {
 %;a number begins with a zero\
 %;not an address: four numbers 0 to 255 with dots\
 %;something follows the sixth line%.\n",
-            &four(line as u64, fault, 0, 0),
-            command,
-        );
-        return;
-    }
-    if !ok {
-        say(
-            b"%a: refused 12: the profile is out of range: volume-limit 1 to 1000000000000, time-limit 1 to 604800, \
-change-limit 1 to 15, offset -720 to 840, node-id of up to 20 characters from space to ~\n",
-            &four(0, 0, 0, 0),
-            command,
-        );
-    }
+        &four(line as u64, fault, (line != 0) as u64, 0),
+        command,
+    );
 }
 
 // The profile that a text has; one that is out of range after standard error has said what is wrong.
@@ -98,7 +80,9 @@ fn profile_of_text(command: &[u8], s: &[u8]) -> Profile {
     let r = profile::text::read_profile(s);
     let f = r.fault;
     let p = r.profile;
-    say_fault(command, r.line, number_of(f), profile::profile_ok(p));
+    if !profile::profile_ok(p) {
+        say_fault(command, r.line, number_of(f));
+    }
     p
 }
 
@@ -146,6 +130,22 @@ pub fn profile_of_file(command: &[u8]) -> Profile {
     let p = profile_in(command, fd);
     libc::close(fd);
     p
+}
+
+// How a command on a file starts: the profile, and a descriptor of the file; -1 after standard error has said what is wrong.
+pub struct Begun {
+    pub profile: Profile,
+    pub fd: i32,
+}
+
+// The profile of the second argument, and the file of another.
+pub fn start(command: &[u8], argument: usize) -> Begun {
+    let profile = profile_of_file(command);
+    if profile::profile_ok(profile) {
+        let fd = open(command, argument);
+        return Begun { profile, fd };
+    }
+    Begun { profile, fd: -1 }
 }
 
 // The node that a profile in range sets up.

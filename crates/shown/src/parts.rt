@@ -1,6 +1,5 @@
 // The parts of a record that have one word each, in the three forms.
-use template::form_of;
-use template::put_form;
+use template::put_styled;
 
 // What stands before the access point name, with the IMSI.
 pub fn put_head(
@@ -10,7 +9,9 @@ pub fn put_head(
     v: &[u64; 27],
     imsi: &[u8],
 ) -> usize {
-    let form = form_of(
+    put_styled(
+        text,
+        waiting,
         style,
         b"record %r (octet %o, %l octets)
 %W%;  networkInitiation     true
@@ -22,8 +23,9 @@ pub fn put_head(
         b"{\"recordType\":18%W%;,\"networkInitiation\":true%.,\"servedIMSI\":\"%i\"\
 ,\"sgsnAddress\":\"%s\",\"chargingID\":%c,\"ggsnAddressUsed\":\"%g\"",
         b"%w%a%s%c%g%j",
-    );
-    put_form(text, waiting, style, form, v, imsi)
+        v,
+        imsi,
+    )
 }
 
 // From the access point name to the PDP address.
@@ -34,7 +36,9 @@ pub fn put_name(
     v: &[u64; 27],
     name: &[u8],
 ) -> usize {
-    let form = form_of(
+    put_styled(
+        text,
+        waiting,
         style,
         b"  accessPointName       %a
   pdpType               %y %z
@@ -42,8 +46,9 @@ pub fn put_name(
 ",
         b",\"accessPointName\":\"%a\",\"pdpType\":\"%y%z\",\"servedPDPAddress\":\"%p\",\"listOfTrafficVolumes\":[",
         b"%a%y%z%p",
-    );
-    put_form(text, waiting, style, form, v, name)
+        v,
+        name,
+    )
 }
 
 // From the opening time to the number.
@@ -54,7 +59,9 @@ pub fn put_opening(
     v: &[u64; 27],
     time: &[u8],
 ) -> usize {
-    let form = form_of(
+    put_styled(
+        text,
+        waiting,
         style,
         b"  recordOpeningTime     20%0-%1-%2 %3:%4:%5 %6%7:%8
   duration              %d s
@@ -66,13 +73,16 @@ maximum number of changes in charging conditions%;management intervention%.)
         b"],\"recordOpeningTime\":\"20%0-%1-%2T%3:%4:%5%6%7:%8\",\"duration\":%d%H%;,\"sgsnChange\":true%.\
 ,\"causeForRecClosing\":%k%N,\"recordSequenceNumber\":%q%.",
         b"%f%t%h%k%q%b",
-    );
-    put_form(text, waiting, style, form, v, time)
+        v,
+        time,
+    )
 }
 
 // The node ID; and for people the head of the table of containers.
 pub fn put_id(text: &mut [u8; 4096], waiting: usize, style: u8, v: &[u64; 27], id: &[u8]) -> usize {
-    let form = form_of(
+    put_styled(
+        text,
+        waiting,
         style,
         b"%M%;  nodeID                %a
 %.  listOfTrafficVolumes
@@ -80,8 +90,9 @@ pub fn put_id(text: &mut [u8; 4096], waiting: usize, style: u8, v: &[u64; 27], i
 ",
         b"%M%;,\"nodeID\":\"%a\"%.}\n",
         b"%a%e",
-    );
-    put_form(text, waiting, style, form, v, id)
+        v,
+        id,
+    )
 }
 
 // A container, with the time at which it ended.
@@ -92,18 +103,29 @@ pub fn put_container(
     v: &[u64; 27],
     time: &[u8],
 ) -> usize {
-    let form = form_of(
+    put_styled(
+        text,
+        waiting,
         style,
         b"    20%0-%1-%2 %3:%4:%5 %6%7:%8%u%v%K  0 QoS change        %;  1 tariff time change%;  2 record closed     %.%b%e%j%w%h\n",
         b"%Q%;,%.{\"qosNegotiated\":{\"reliability\":%b,\"delay\":%e,\"precedence\":%j,\"peakThroughput\":%w,\"meanThroughput\":%h}\
 ,\"dataVolumeGPRSUplink\":%u,\"dataVolumeGPRSDownlink\":%v,\"changeCondition\":%k,\"changeTime\":\"20%0-%1-%2T%3:%4:%5%6%7:%8\"}",
         b"%b%e%j%w%h%u%v%k%f%t",
-    );
-    put_form(text, waiting, style, form, v, time)
+        v,
+        time,
+    )
 }
 
 // The end of a record: for people the sums, in the plain form a line feed; the JSON has its own.
 pub fn put_end(text: &mut [u8; 4096], waiting: usize, style: u8, v: &[u64; 27]) -> usize {
-    let form = form_of(style, b"    sum                       %u%v\n", b"", b"\n");
-    put_form(text, waiting, style, form, v, b"")
+    put_styled(
+        text,
+        waiting,
+        style,
+        b"    sum                       %u%v\n",
+        b"",
+        b"\n",
+        v,
+        b"",
+    )
 }

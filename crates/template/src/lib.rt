@@ -72,8 +72,22 @@ fn write_to(fd: i32, form: &[u8], numbers: &[u64; 27], word: &[u8]) -> bool {
     out::write_out(fd, &text, n)
 }
 
-// The one of three forms that a style has.
-pub fn form_of<'a>(style: u8, text: &'a [u8], json: &'a [u8], plain: &'a [u8]) -> &'a [u8] {
+// Puts what one of three forms says: the one of the style.
+pub fn put_styled<'a>(
+    text: &mut [u8; 4096],
+    waiting: usize,
+    style: u8,
+    for_text: &'a [u8],
+    for_json: &'a [u8],
+    for_plain: &'a [u8],
+    numbers: &[u64; 27],
+    word: &[u8],
+) -> usize {
+    let form = form_of(style, for_text, for_json, for_plain);
+    put_form(text, waiting, style, form, numbers, word)
+}
+
+fn form_of<'a>(style: u8, text: &'a [u8], json: &'a [u8], plain: &'a [u8]) -> &'a [u8] {
     match style {
         JSON => json,
         PLAIN => plain,

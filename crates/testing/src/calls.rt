@@ -46,7 +46,7 @@ fn fed(fd: i32, s: State, held: &mut [u8; 4096]) -> State {
     let room = size_at(held, p.at);
     let length = size_at(held, wrapping_add_usize(p.at, 2));
     if (20000 < room) | (300 < length) {
-        say_large(s.number, p.offset, room, length);
+        say_large(s, room, length);
         return moved(s, p, false);
     }
     if here - 4 < length {
@@ -73,31 +73,29 @@ fn read_on(fd: i32, s: State, held: &mut [u8; 4096]) -> State {
     let f = setup::read_on(b"calls", b"the file of calls", fd, held, p);
     let q = f.place;
     if (f.got == 0) & (0 < window::left(q)) {
-        say(
-            b"calls: call %k, at octet %l of the file: the file ends within the call\n",
-            &four(s.number, q.offset, 0, 0),
-            b"",
-        );
+        say_wrong(s, 0, 0);
     }
     moved(s, q, 0 < f.got)
 }
 
-// What is wrong with a call: which it is, counted from 1, and how many octets of the file lie before it.
-fn say_large(number: u64, offset: u64, room: usize, length: usize) {
-    let v = four(number, offset, room as u64, length as u64);
-    if 20000 < room {
-        say(
-            b"calls: call %k, at octet %l of the file: a room of %m octets; at most 20000\n",
-            &v,
-            b"",
-        );
-        return;
-    }
+// Says what is wrong with the next call, which has a size: 0 the file ends within it, 1 its room is too large, 2 its event is.
+fn say_wrong(s: State, wrong: u64, size: usize) {
+    let p = s.place;
     say(
-        b"calls: call %k, at octet %l of the file: an event of %n octets; at most 300\n",
-        &v,
+        b"calls: call %k, at octet %l of the file: %Mthe file ends within the call%;a room of %n octets; at most 20000\
+%;an event of %n octets; at most 300%.\n",
+        &four(s.number, p.offset, wrong, size as u64),
         b"",
     );
+}
+
+// What is too large.
+fn say_large(s: State, room: usize, length: usize) {
+    if 20000 < room {
+        say_wrong(s, 1, room);
+        return;
+    }
+    say_wrong(s, 2, length);
 }
 
 // The event of a call.
@@ -167,11 +165,11 @@ fn run(fd: i32, profile: Profile) {
 
 // The file that an argument names, from a fresh node.
 pub fn run_file(argument: usize) {
-    let p = setup::profile_of_file(b"calls");
-    let fd = setup::open_after(p, b"calls", argument);
-    if 0 <= fd {
-        run(fd, p);
-        libc::close(fd);
+    let s = setup::start(b"calls", argument);
+    if 0 <= s.fd {
+        let p = s.profile;
+        run(s.fd, p);
+        libc::close(s.fd);
     }
 }
 

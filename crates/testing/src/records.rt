@@ -37,17 +37,13 @@ fn write_block(b: &[u8], back: bool) {
     }
     let mut out = [0u8; 1024];
     let w = scdr::write::write_record(block::record_of(b), &mut out);
-    if w.answer != 0 {
-        line(w.answer, b"");
-        return;
-    }
-    written(window::front(&out, w.n), back);
+    written(w.answer, window::front(&out, w.n), back);
 }
 
-// The octets of a record; what they are read as, and the access point name where it lies in them.
-fn written(s: &[u8], back: bool) {
-    line(0, s);
-    if back {
+// The octets of a record, or none and the number of the refusal; what they are read as, and the access point name where it lies in them.
+fn written(answer: u8, s: &[u8], back: bool) {
+    line(answer, s);
+    if back & (answer == 0) {
         read_one(s);
         line(0, scdr::read::apn_part(s));
     }
