@@ -13,4 +13,4 @@ returns-2 : tie.Need-returns-2
 returns-2 c = sym (take-all (c .before .args .n) (c .before .args .s .now) (c .if1 .left))
 
 pub front-spec : {M : Type 1} → statement M
-front-spec = tie.close (tie.spec slice-aggregate-result (λ c. search needs) returns-2)
+front-spec = tie.close (tie.spec slice-aggregate-result (search needs) returns-2)
