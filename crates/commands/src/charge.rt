@@ -114,6 +114,7 @@ fn run(fd: i32, profile: Profile) {
     };
     let mut turns = u64::MAX;
     while turns > 0 && s.going {
+        turns -= 1;
         s = fed(fd, s, &mut held);
         let p = s.place;
         let r = charging::charge(now, in_hand(p, &held), s.ended, &mut out);
@@ -126,7 +127,6 @@ fn run(fd: i32, profile: Profile) {
             r.last,
             window::front(&out, r.written),
         );
-        turns -= 1;
     }
     say_tally(s);
 }

@@ -11,9 +11,6 @@ Inv-loop fd held₀ out₀ now₀ s₀ turns₀ held out now s turns = length ou
 abbrev μ-loop : tie.MeasureT-loop
 μ-loop fd held₀ out₀ now₀ s₀ turns₀ held out now s turns = turns
 
-sub-turns : tie.Need-sub-turns Inv-loop μ-loop
-sub-turns c = search (needs, c .before .before .before .before .before .before .before .before .before .before .before .before .before .loop-test .taken)
-
 loop-less : tie.Need-loop-less Inv-loop μ-loop
 loop-less c = search (needs, c .before .before .before .before .before .before .before .before .before .before .before .before .before .loop-test .taken)
 
@@ -21,5 +18,5 @@ pub run-spec : {M : Type 1} → statement M
 run-spec =
     tie.close
     (tie.spec Inv-loop μ-loop (search needs) (search needs) (search needs) (search needs) (search needs)
-    (search needs) (search needs) (search needs) (search needs) (search needs) sub-turns loop-less (search needs)
-    (search needs) (search needs))
+    (search needs) (search needs) (search needs) (search needs) (search needs) (search needs) loop-less
+    (search needs) (search needs) (search needs))
