@@ -1,7 +1,7 @@
 // How a program begins: the files that its arguments name, and the node that the profile among them sets up. What is wrong is said on
 // standard error, after the command's name.
 //
-// No contract can say what is read or written: each function is proved safe and ending.
+// No contract can say what is read or written: each function that does so is proved safe and ending.
 use libc::STDERR_FILENO;
 use node::Node;
 use profile::Profile;
@@ -10,6 +10,8 @@ use template::four;
 use template::say;
 use window::Filled;
 use window::Place;
+ghost use mathlib.Core.Path.{_≡_};
+ghost use Rattle.node.specs.Sound.{freshOf};
 
 // Says what failed last, and why.
 pub fn fail(command: &[u8], what: &[u8]) {
@@ -149,7 +151,9 @@ pub fn start(command: &[u8], argument: usize) -> Begun {
 }
 
 // The node that a profile in range sets up.
-pub fn node_of(p: Profile) -> Node {
+pub fn node_of(p: Profile) -> Node
+    ensures { λ r. ⌜ r ≡ freshOf p .1 ⌝ }
+{
     let m = node::sound::fresh(p);
     m.node
 }
