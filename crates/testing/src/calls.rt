@@ -4,7 +4,7 @@
 //
 // The calls of a file are run from a fresh node, each on the node that the last one handed back, refused ones among them. A line a
 // call: the answer, the written length, the written octets in hex (docs/FORMATS.md). A call is a room and an event, after two lengths.
-use crate::records::block::number;
+use crate::records::block::two;
 use libc::STDERR_FILENO;
 use profile::Profile;
 use std::num::wrapping_add_u64;
@@ -43,8 +43,8 @@ fn fed(fd: i32, s: State, held: &mut [u8; 4096]) -> State {
     if here < 4 {
         return read_on(fd, s, held);
     }
-    let room = size_at(held, p.at);
-    let length = size_at(held, wrapping_add_usize(p.at, 2));
+    let room = two(held, p.at);
+    let length = two(held, wrapping_add_usize(p.at, 2));
     if (20000 < room) | (300 < length) {
         say_large(s, room, length);
         return moved(s, p, false);
@@ -60,11 +60,6 @@ fn fed(fd: i32, s: State, held: &mut [u8; 4096]) -> State {
         length,
         going: true,
     }
-}
-
-// A number of two octets.
-fn size_at(held: &[u8], at: usize) -> usize {
-    (number(held, at, 2) % 65536) as usize
 }
 
 // More of the file, or its end.

@@ -87,10 +87,14 @@ struct Kept {
     records: [Record; 64],
 }
 
+// What the reader makes of nothing.
+fn blank() -> Record {
+    let r = scdr::read::read_record(b"");
+    r.cdr
+}
+
 fn keep(s: &[u8]) -> Kept {
-    let none = scdr::read::read_record(b"");
-    let blank = none.cdr;
-    let mut records = [blank; 64];
+    let mut records = [blank(); 64];
     let mut n: usize = 0;
     let mut at: usize = 0;
     while n < 64 {
