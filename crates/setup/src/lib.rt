@@ -35,7 +35,7 @@ pub fn open(command: &[u8], argument: usize) -> i32 {
     fd
 }
 
-// Reads on in a window of the file that a word names, and says so where that failed.
+// Reads on in a file, behind what is left in the window. Where that fails it says so, with a word for the file.
 pub fn read_on(command: &[u8], what: &[u8], fd: i32, held: &mut [u8], p: Place) -> Filled {
     let f = window::fill(fd, held, p);
     if f.got < 0 {

@@ -79,7 +79,7 @@ fn shown(style: u8, n: usize) -> usize {
     n
 }
 
-// How many containers stand before the opening time, and at the end: in JSON all are there, elsewhere here.
+// How many containers are put before the opening time, or at the end: JSON has them all before it, the other styles at the end.
 fn rows_at(style: u8, end: bool, count: usize) -> usize {
     if end == (style == JSON) {
         return 0;
