@@ -18,5 +18,5 @@ pub run-spec : {M : Type 1} → statement M
 run-spec =
     tie.close
     (tie.spec Inv-loop μ-loop (search needs) (search needs) (search needs) (search needs) (search needs)
-    (search needs) (search needs) (search needs) (search needs) (search needs) (search needs) loop-less
-    (search needs) (search needs) (search needs))
+    (search needs) (search needs) (search needs) (search needs) (search needs) (search needs) loop-less (search needs)
+    (search needs) (λ c. tt))

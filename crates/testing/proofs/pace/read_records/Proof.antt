@@ -12,5 +12,5 @@ abbrev μ-loop : tie.MeasureT-loop
 pub read-records-spec : {M : Type 1} → statement M
 read-records-spec =
     tie.close
-    (tie.spec Inv-loop μ-loop (search needs) (search needs) (search needs) (search needs) (search needs)
-    (search needs) (search needs) (search needs) (search needs) (search needs) (search needs))
+    (tie.spec Inv-loop μ-loop (λ c. tt) (search needs) (search needs) (search needs) (search needs) (search needs)
+    (search needs) (search needs) (search needs) (λ c. tt) (λ c. tt))
