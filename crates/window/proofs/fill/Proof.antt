@@ -43,5 +43,6 @@ returns-2 c =
 pub fill-spec : {M : Type 1} → statement M
 fill-spec =
     tie.close
-    (tie.spec (search needs) (search needs) returns (search needs) (search needs) (search needs) (search needs)
-    (search needs) (search needs) same-length-2 returns-2)
+    (tie.spec (λ c κs. search needs) (λ c. search needs) returns (λ c. search needs) (λ c. search needs)
+    (λ c. search needs) (λ c κs. search needs) (λ c κs. search needs) (λ c κs. search needs) same-length-2
+    returns-2)

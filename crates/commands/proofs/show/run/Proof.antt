@@ -12,5 +12,5 @@ abbrev μ-loop : tie.MeasureT-loop
 pub run-spec : {M : Type 1} → statement M
 run-spec =
     tie.close
-    (tie.spec Inv-loop μ-loop (search needs) (λ c. tt) (search needs) (search needs) (search needs) (λ c. tt)
-    (search needs) (search needs))
+    (tie.spec Inv-loop μ-loop (λ c κs. search needs) (λ c. tt) (λ c κs. search needs) (λ c. search needs)
+    (λ c. search needs) (λ c. tt) (λ c κs. search needs) (λ c. search needs))

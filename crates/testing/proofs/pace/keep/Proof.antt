@@ -13,5 +13,5 @@ abbrev μ-loop : tie.MeasureT-loop
 pub keep-spec : {M : Type 1} → statement M
 keep-spec =
     tie.close
-    (tie.spec Inv-loop μ-loop (search needs) (λ c. tt) (search needs) (λ c. tt) (search needs) (search needs)
-    (search needs) (search needs) (search needs) (λ c. tt) (λ c. tt))
+    (tie.spec Inv-loop μ-loop (λ c κs. search needs) (λ c. tt) (λ c κs. search needs) (λ c. tt) (λ c. search needs)
+    (λ c. search needs) (λ c. search needs) (λ c κs. search needs) (λ c. search needs) (λ c. tt) (λ c. tt))

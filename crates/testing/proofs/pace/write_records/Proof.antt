@@ -14,5 +14,6 @@ abbrev μ-loop : tie.MeasureT-loop
 pub write-records-spec : {M : Type 1} → statement M
 write-records-spec =
     tie.close
-    (tie.spec Inv-loop μ-loop (search needs) (search needs) (λ c. tt) (search needs) (search needs) (search needs)
-    (search needs) (search needs) (search needs) (search needs) (search needs) (search needs) (λ c. tt))
+    (tie.spec Inv-loop μ-loop (λ c. search needs) (λ c κs. search needs) (λ c. tt) (λ c. search needs)
+    (λ c. search needs) (λ c. search needs) (λ c κs. search needs) (λ c κs. search needs) (λ c. search needs)
+    (λ c. search needs) (λ c. search needs) (λ c. search needs) (λ c. tt))

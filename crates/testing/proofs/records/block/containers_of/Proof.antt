@@ -14,6 +14,6 @@ abbrev μ-loop : tie.MeasureT-loop
 pub containers-of-spec : {M : Type 1} → statement M
 containers-of-spec =
     tie.close
-    (tie.spec Inv-loop μ-loop (search needs) (λ c. omega arith) (search needs) (search needs) (search needs)
-    (search needs) (search needs) (search needs) (search needs) (search needs) (search needs) (search needs)
-    (search needs) (search needs))
+    (tie.spec Inv-loop μ-loop (λ c κs. search needs) (λ c. omega arith) (λ c. search needs) (λ c. search needs)
+    (λ c. search needs) (λ c. search needs) (λ c κs. search needs) (λ c κs. search needs) (λ c. search needs)
+    (λ c. search needs) (λ c. search needs) (λ c. search needs) (λ c. search needs) (λ c. search needs))

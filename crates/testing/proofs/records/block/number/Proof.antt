@@ -13,5 +13,6 @@ abbrev μ-loop : tie.MeasureT-loop
 pub number-spec : {M : Type 1} → statement M
 number-spec =
     tie.close
-    (tie.spec Inv-loop μ-loop (λ c. tt) (search needs) (search needs) (search needs) (search needs) (search needs)
-    (search needs) (search needs) (λ c. tt) (search needs))
+    (tie.spec Inv-loop μ-loop (λ c. tt) (λ c. search needs) (λ c κs. search needs) (λ c κs. search needs)
+    (λ c κs. search needs) (λ c. search needs) (λ c. search needs) (λ c. search needs) (λ c. tt)
+    (λ c. search needs))
