@@ -8,7 +8,7 @@
 use crate::refusal;
 use libc::STDERR_FILENO;
 use libc::STDOUT_FILENO;
-use node::Node;
+use profile::Profile;
 use std::num::wrapping_add_u64;
 use std::num::wrapping_sub_u64;
 use template::four;
@@ -32,11 +32,8 @@ fn fed(fd: i32, s: State, held: &mut [u8; 4096]) -> State {
     if s.ended | (291 <= window::left(p)) {
         return s;
     }
-    let f = window::fill(fd, held, p);
+    let f = setup::read_on(b"charge", b"the file of events", fd, held, p);
     let place = f.place;
-    if f.got < 0 {
-        setup::fail(b"charge", b"the file of events");
-    }
     State {
         place,
         ended: f.got == 0,
@@ -103,16 +100,12 @@ fn say_tally(s: State) {
 }
 
 // A proved loop has to end, and nothing says that a file does. So it counts its turns down, from a number that no run uses up.
-fn run(fd: i32, node: Node) {
+fn run(fd: i32, profile: Profile) {
     let mut held = io::buffer();
     let mut out = [0u8; 16416];
-    let mut now = node;
+    let mut now = setup::node_of(profile);
     let mut s = State {
-        place: Place {
-            at: 0,
-            end: 0,
-            offset: 0,
-        },
+        place: window::START,
         ended: false,
         events: 0,
         records: 0,
@@ -121,6 +114,7 @@ fn run(fd: i32, node: Node) {
     };
     let mut turns = u64::MAX;
     while turns > 0 && s.going {
+        turns -= 1;
         s = fed(fd, s, &mut held);
         let p = s.place;
         let r = charging::charge(now, in_hand(p, &held), s.ended, &mut out);
@@ -133,19 +127,17 @@ fn run(fd: i32, node: Node) {
             r.last,
             window::front(&out, r.written),
         );
-        turns -= 1;
     }
     say_tally(s);
 }
 
-// The events of the third argument, from the node of the second.
+// The events of the third argument, from a fresh node with the profile of the second.
 pub fn charge_file() {
-    let m = setup::node_of_profile(b"charge");
-    let fd = setup::open_after(m.answer, b"charge", 3);
-    if 0 <= fd {
-        let node = m.node;
-        run(fd, node);
-        libc::close(fd);
+    let s = setup::start(b"charge", 3);
+    if 0 <= s.fd {
+        let p = s.profile;
+        run(s.fd, p);
+        libc::close(s.fd);
     }
 }
 

@@ -11,25 +11,26 @@ mod show;
 
 use libc::STDERR_FILENO;
 
-fn run(command: &[u8]) {
-    if check::same(command, b"charge") {
-        charge::main();
-        return;
-    }
-    if check::same(command, b"show") {
-        show::main();
-        return;
-    }
-    if check::same(command, b"both") {
-        charge::charge_file();
-        show::show_file(4, template::TEXT);
-        return;
-    }
-    io::write_all(STDERR_FILENO, b"usage: commands charge|show ARGUMENT..\n");
+// Is an argument this word?
+fn is_word(argument: usize, word: &[u8]) -> bool {
+    let mut held = [0u8; 16];
+    let n = os::arg(argument, &mut held);
+    check::same(&held[..n], word)
 }
 
 fn main() {
-    let mut word = [0u8; 16];
-    let n = os::arg(1, &mut word);
-    run(&word[..n]);
+    if is_word(1, b"charge") {
+        charge::main();
+        return;
+    }
+    if is_word(1, b"show") {
+        show::main();
+        return;
+    }
+    if is_word(1, b"both") {
+        charge::charge_file();
+        show::show_file(4, out::TEXT);
+        return;
+    }
+    io::write_all(STDERR_FILENO, b"usage: commands charge|show ARGUMENT..\n");
 }

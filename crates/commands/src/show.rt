@@ -8,10 +8,11 @@
 // docs/FORMATS.md has both forms.
 use entries::Entry;
 use libc::STDERR_FILENO;
+use libc::STDOUT_FILENO;
+use out::JSON;
+use out::TEXT;
 use std::num::wrapping_add_u64;
 use std::num::wrapping_sub_u64;
-use template::JSON;
-use template::TEXT;
 use template::four;
 use template::say;
 use window::Place;
@@ -44,11 +45,8 @@ struct State {
 // More of the file, or its end.
 fn read_on(fd: i32, s: State, held: &mut [u8; 65536]) -> State {
     let p = s.place;
-    let f = window::fill(fd, held, p);
+    let f = setup::read_on(b"show", b"the record list", fd, held, p);
     let place = f.place;
-    if f.got < 0 {
-        setup::fail(b"show", b"the record list");
-    }
     State {
         place,
         records: s.records,
@@ -141,7 +139,7 @@ fn take_turn(fd: i32, style: u8, s: State, held: &mut [u8; 65536], text: &mut [u
 // Writes what waits, and says how it ended: which record was refused, counted from 1, how many octets lie before its mark and what was found
 // there; and what was shown.
 fn finish(s: State, text: &[u8; 4096]) {
-    if !out::write_out(text, s.waiting) {
+    if !out::write_out(STDOUT_FILENO, text, s.waiting) {
         setup::fail(b"show", b"standard output");
         return;
     }
@@ -160,11 +158,7 @@ fn run(fd: i32, style: u8) {
     let mut held = io::large_buffer();
     let mut text = [0u8; 4096];
     let mut s = State {
-        place: Place {
-            at: 0,
-            end: 0,
-            offset: 0,
-        },
+        place: window::START,
         records: 0,
         waiting: 0,
         ended: false,
@@ -187,16 +181,9 @@ pub fn show_file(argument: usize, style: u8) {
     }
 }
 
-// Is the first argument after the command --json?
-fn asks_json() -> bool {
-    let mut word = [0u8; 16];
-    let n = os::arg(2, &mut word);
-    check::same(&word[..n], b"--json")
-}
-
 pub fn main() {
     let count = os::arg_count();
-    let json = asks_json();
+    let json = crate::is_word(2, b"--json");
     if (count == 3) & !json {
         show_file(2, TEXT);
         return;

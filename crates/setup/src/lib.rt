@@ -1,12 +1,17 @@
 // How a program begins: the files that its arguments name, and the node that the profile among them sets up. What is wrong is said on
 // standard error, after the command's name.
 //
-// No contract can say what is read or written: each function is proved safe and ending.
+// No contract can say what is read or written: each function that does so is proved safe and ending.
 use libc::STDERR_FILENO;
-use node::sound::Made;
+use node::Node;
+use profile::Profile;
 use profile::text::Fault;
 use template::four;
 use template::say;
+use window::Filled;
+use window::Place;
+ghost use mathlib.Core.Path.{_≡_};
+ghost use Rattle.node.specs.Sound.{freshOf};
 
 // Says what failed last, and why.
 pub fn fail(command: &[u8], what: &[u8]) {
@@ -30,12 +35,13 @@ pub fn open(command: &[u8], argument: usize) -> i32 {
     fd
 }
 
-// The same where the node was made; else -1.
-pub fn open_after(answer: u8, command: &[u8], argument: usize) -> i32 {
-    if answer != 0 {
-        return -1;
+// Reads on in a file, behind what is left in the window. Where that fails it says so, with a word for the file.
+pub fn read_on(command: &[u8], what: &[u8], fd: i32, held: &mut [u8], p: Place) -> Filled {
+    let f = window::fill(fd, held, p);
+    if f.got < 0 {
+        fail(command, what);
     }
-    open(command, argument)
+    f
 }
 
 // The number of a fault, for the form below.
@@ -53,11 +59,11 @@ fn number_of(f: Fault) -> u64 {
     }
 }
 
-// Says what is wrong with a profile, if anything is: a line of its text, or a value in it that is out of range.
-fn say_fault(command: &[u8], line: u8, fault: u64, answer: u8) {
-    if line != 0 {
-        say(
-            b"%a: profile line %k: %Lnothing is wrong\
+// Says what is wrong with a profile that is out of range, or has a fault in a line.
+fn say_fault(command: &[u8], line: u8, fault: u64) {
+    say(
+        b"%a: %Mrefused 12: the profile is out of range: volume-limit 1 to 1000000000000, time-limit 1 to 604800, \
+change-limit 1 to 15, offset -720 to 840, node-id of up to 20 characters from space to ~%;profile line %k: %.%L\
 %;the line is missing: write all six lines (sgsn, volume-limit, time-limit, change-limit, offset, node-id)\
 %;no line feed at the end of the line\
 %;the line does not begin with its name: sgsn, volume-limit, time-limit, change-limit, offset, node-id stand in this order\
@@ -66,51 +72,37 @@ fn say_fault(command: &[u8], line: u8, fault: u64, answer: u8) {
 %;a number begins with a zero\
 %;not an address: four numbers 0 to 255 with dots\
 %;something follows the sixth line%.\n",
-            &four(line as u64, fault, 0, 0),
-            command,
-        );
-        return;
-    }
-    if answer != 0 {
-        say(
-            b"%a: refused 12: the profile is out of range: volume-limit 1 to 1000000000000, time-limit 1 to 604800, \
-change-limit 1 to 15, offset -720 to 840, node-id of up to 20 characters from space to ~\n",
-            &four(0, 0, 0, 0),
-            command,
-        );
-    }
+        &four(line as u64, fault, (line != 0) as u64, 0),
+        command,
+    );
 }
 
-// No node.
-fn none() -> Made {
-    node::sound::fresh(profile::no_profile())
-}
-
-// The node that a text sets up.
-fn node_of_text(command: &[u8], s: &[u8]) -> Made {
+// The profile that a text has; one that is out of range after standard error has said what is wrong.
+fn profile_of_text(command: &[u8], s: &[u8]) -> Profile {
     let r = profile::text::read_profile(s);
     let f = r.fault;
     let p = r.profile;
-    let m = node::sound::fresh(p);
-    say_fault(command, r.line, number_of(f), m.answer);
-    m
+    if !profile::profile_ok(p) {
+        say_fault(command, r.line, number_of(f));
+    }
+    p
 }
 
 // The same of the first n octets of text, if that is not all of it: a text that fills the buffer may go on.
-fn node_of_front(command: &[u8], text: &[u8], n: usize) -> Made {
+fn profile_of_front(command: &[u8], text: &[u8], n: usize) -> Profile {
     if n < text.len() {
-        return node_of_text(command, window::front(text, n));
+        return profile_of_text(command, window::front(text, n));
     }
     say(
         b"%a: the profile has more than 4,095 octets\n",
         &four(0, 0, 0, 0),
         command,
     );
-    none()
+    profile::no_profile()
 }
 
 // Reads on from a place, to the end of the file or of the buffer, and answers the place after the last octet.
-fn read_on(fd: i32, text: &mut [u8], n: usize) -> usize {
+fn read_rest(fd: i32, text: &mut [u8], n: usize) -> usize {
     if n < text.len() {
         let more = io::read_full(fd, &mut text[n..]);
         return std::num::wrapping_add_usize(n, more);
@@ -118,22 +110,50 @@ fn read_on(fd: i32, text: &mut [u8], n: usize) -> usize {
     n
 }
 
-// The node that the file of the second argument sets up (the first is the command). Its answer is 0; or another, after standard error has
-// said what is wrong.
-pub fn node_of_profile(command: &[u8]) -> Made {
+// The profile in a file.
+fn profile_in(command: &[u8], fd: i32) -> Profile {
+    let mut text = io::buffer();
+    let f = read_on(command, b"the profile", fd, &mut text, window::START);
+    if f.got < 0 {
+        return profile::no_profile();
+    }
+    let p = f.place;
+    let end = read_rest(fd, &mut text, p.end);
+    profile_of_front(command, &text, end)
+}
+
+// The profile in the file of the second argument (the first is the command); one that is out of range after standard error has said what is
+// wrong.
+pub fn profile_of_file(command: &[u8]) -> Profile {
     let fd = open(command, 2);
     if fd < 0 {
-        return none();
+        return profile::no_profile();
     }
-    let mut text = io::buffer();
-    let got = libc::read(fd, &mut text);
-    if got < 0 {
-        fail(command, b"the profile");
-        libc::close(fd);
-        return none();
-    }
-    let n = io::count(got, &text);
-    let end = read_on(fd, &mut text, n);
+    let p = profile_in(command, fd);
     libc::close(fd);
-    node_of_front(command, &text, end)
+    p
+}
+
+// How a command on a file starts: the profile, and a descriptor of the file; -1 after standard error has said what is wrong.
+pub struct Begun {
+    pub profile: Profile,
+    pub fd: i32,
+}
+
+// The profile of the second argument, and the file of another.
+pub fn start(command: &[u8], argument: usize) -> Begun {
+    let profile = profile_of_file(command);
+    if profile::profile_ok(profile) {
+        let fd = open(command, argument);
+        return Begun { profile, fd };
+    }
+    Begun { profile, fd: -1 }
+}
+
+// The node that a profile in range sets up.
+pub fn node_of(p: Profile) -> Node
+    ensures { λ r. ⌜ r ≡ freshOf p .1 ⌝ }
+{
+    let m = node::sound::fresh(p);
+    m.node
 }

@@ -4,13 +4,13 @@
 //
 // It only puts characters on their way to standard output, and no contract can say what is written: each function is proved safe and ending.
 mod numbers;
+mod parts;
 mod rows;
 
 use calendar::Stamp;
+use out::JSON;
+use out::PLAIN;
 use scdr::Record;
-use template::JSON;
-use template::PLAIN;
-use template::put_form;
 
 // Puts a whole record behind the characters that wait, and answers how many wait then: which it is, how many octets of the file lie before
 // its mark, how many it has without the mark. (The plain form says none of the three.)
@@ -26,23 +26,43 @@ pub fn put_record(
     let v = numbers::of_record(r, which, before, size);
     let imsi = r.imsi;
     let apn = r.apn;
-    let id = r.nodeid;
-    let opening = r.opening;
+    let a = put_front(text, waiting, style, &v, imsi, apn, r.apnlen);
     let list = r.containers;
+    let b = rows::put_rows(text, a, style, list, rows_at(style, false, r.count));
+    let opening = r.opening;
+    let id = r.nodeid;
+    let c = put_back(text, b.waiting, style, &v, opening, id, r.nodelen);
+    let d = rows::put_rows(text, c, style, list, rows_at(style, true, r.count));
+    rows::put_end(text, d, style)
+}
+
+// What stands before the opening time.
+fn put_front(
+    text: &mut [u8; 4096],
+    waiting: usize,
+    style: u8,
+    v: &[u64; 27],
+    imsi: [u8; 8],
+    apn: [u8; 63],
+    n: usize,
+) -> usize {
+    let a = parts::put_head(text, waiting, style, v, &imsi);
+    parts::put_name(text, a, style, v, window::front(&apn, shown(style, n)))
+}
+
+// From the opening time on.
+fn put_back(
+    text: &mut [u8; 4096],
+    waiting: usize,
+    style: u8,
+    v: &[u64; 27],
+    opening: Stamp,
+    id: [u8; 20],
+    n: usize,
+) -> usize {
     let time = octets_of(opening);
-    let a = put_part(text, waiting, style, 0, &v, &imsi);
-    let b = put_part(text, a, style, 1, &v, name_of(&apn, style, r.apnlen));
-    let c = rows::put_rows(text, b, style, list, if_json(style, r.count, 0));
-    let d = put_part(text, c.waiting, style, 2, &v, &time);
-    let e = put_part(text, d, style, 3, &v, id_of(&id, style, r.nodelen));
-    let f = rows::put_rows(
-        text,
-        e,
-        style,
-        list,
-        if_json(style, 0, shown(style, r.count)),
-    );
-    rows::put_end(text, f, style)
+    let a = parts::put_opening(text, waiting, style, v, &time);
+    parts::put_id(text, a, style, v, window::front(&id, shown(style, n)))
 }
 
 // The nine octets of a time.
@@ -59,133 +79,10 @@ fn shown(style: u8, n: usize) -> usize {
     n
 }
 
-fn name_of(apn: &[u8; 63], style: u8, n: usize) -> &[u8] {
-    window::front(apn, shown(style, n))
-}
-
-fn id_of(id: &[u8; 20], style: u8, n: usize) -> &[u8] {
-    window::front(id, shown(style, n))
-}
-
-// In JSON the containers stand before the opening time, elsewhere at the end.
-fn if_json(style: u8, yes: usize, no: usize) -> usize {
-    if style == JSON {
-        return yes;
+// How many containers are put before the opening time, or at the end: JSON has them all before it, the other styles at the end.
+fn rows_at(style: u8, end: bool, count: usize) -> usize {
+    if end == (style == JSON) {
+        return 0;
     }
-    no
-}
-
-// A part of a record that has one word: 0 what stands before the access point name, with the IMSI; 1 from there to the PDP address, with the
-// name; 2 from the opening time on; 3 from the node ID on, with it.
-fn put_part(
-    text: &mut [u8; 4096],
-    waiting: usize,
-    style: u8,
-    part: u8,
-    v: &[u64; 27],
-    word: &[u8],
-) -> usize {
-    if style == JSON {
-        return put_json(text, waiting, part, v, word);
-    }
-    if style == PLAIN {
-        return put_plain(text, waiting, part, v, word);
-    }
-    put_text(text, waiting, part, v, word)
-}
-
-fn put_text(text: &mut [u8; 4096], waiting: usize, part: u8, v: &[u64; 27], word: &[u8]) -> usize {
-    match part {
-        0 => put_form(
-            text,
-            waiting,
-            0,
-            b"record %r (octet %o, %l octets)
-%W%;  networkInitiation     true
-%.  servedIMSI            %i
-  sgsnAddress           %s
-  chargingID            %c
-  ggsnAddressUsed       %g
-",
-            v,
-            word,
-        ),
-        1 => put_form(
-            text,
-            waiting,
-            0,
-            b"  accessPointName       %a
-  pdpType               %y %z
-  servedPDPAddress      %p
-",
-            v,
-            word,
-        ),
-        2 => put_form(
-            text,
-            waiting,
-            0,
-            b"  recordOpeningTime     20%0-%1-%2 %3:%4:%5 %6%7:%8
-  duration              %d s
-%H%;  sgsnChange            true
-%.  causeForRecClosing    %k (%Knormal release%;%;%;%;abnormal release%;%;%;%;%;%;%;%;%;%;%;%;volume limit%;time limit%;SGSN change%;\
-maximum number of changes in charging conditions%;management intervention%.)
-  recordSequenceNumber  %N%q%;-%.
-",
-            v,
-            word,
-        ),
-        _ => put_form(
-            text,
-            waiting,
-            0,
-            b"%M%;  nodeID                %a
-%.  listOfTrafficVolumes
-    until                               uplink        downlink  condition             reliability delay precedence peak mean
-",
-            v,
-            word,
-        ),
-    }
-}
-
-fn put_json(text: &mut [u8; 4096], waiting: usize, part: u8, v: &[u64; 27], word: &[u8]) -> usize {
-    match part {
-        0 => put_form(
-            text,
-            waiting,
-            JSON,
-            b"{\"recordType\":18%W%;,\"networkInitiation\":true%.,\"servedIMSI\":\"%i\"\
-,\"sgsnAddress\":\"%s\",\"chargingID\":%c,\"ggsnAddressUsed\":\"%g\"",
-            v,
-            word,
-        ),
-        1 => put_form(
-            text,
-            waiting,
-            JSON,
-            b",\"accessPointName\":\"%a\",\"pdpType\":\"%y%z\",\"servedPDPAddress\":\"%p\",\"listOfTrafficVolumes\":[",
-            v,
-            word,
-        ),
-        2 => put_form(
-            text,
-            waiting,
-            JSON,
-            b"],\"recordOpeningTime\":\"20%0-%1-%2T%3:%4:%5%6%7:%8\",\"duration\":%d%H%;,\"sgsnChange\":true%.\
-,\"causeForRecClosing\":%k%N,\"recordSequenceNumber\":%q%.",
-            v,
-            word,
-        ),
-        _ => put_form(text, waiting, JSON, b"%M%;,\"nodeID\":\"%a\"%.}\n", v, word),
-    }
-}
-
-fn put_plain(text: &mut [u8; 4096], waiting: usize, part: u8, v: &[u64; 27], word: &[u8]) -> usize {
-    match part {
-        0 => put_form(text, waiting, PLAIN, b"%w%a%s%c%g%j", v, word),
-        1 => put_form(text, waiting, PLAIN, b"%a%y%z%p", v, word),
-        2 => put_form(text, waiting, PLAIN, b"%f%t%h%k%q%b", v, word),
-        _ => put_form(text, waiting, PLAIN, b"%a%e", v, word),
-    }
+    shown(style, count)
 }

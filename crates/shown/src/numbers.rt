@@ -2,13 +2,6 @@
 use container::Container;
 use scdr::Record;
 
-fn flag(set: bool) -> u64 {
-    if set {
-        return 1;
-    }
-    0
-}
-
 fn wide(x: u8) -> u64 {
     x as u64
 }
@@ -32,15 +25,15 @@ pub fn of_record(r: Record, which: u64, before: u64, size: u64) -> [u64; 27] {
         // f: the opening in seconds; g: ggsnAddressUsed; h: sgsnChange
         opening.seconds as u64,
         r.ggsn as u64,
-        flag(r.change),
+        r.change as u64,
         0,
         // j: how long the access point name is; k: causeForRecClosing
         r.apnlen as u64,
         wide(r.cause),
         // l; m: whether there is a node ID; n: whether there is no recordSequenceNumber
         size,
-        flag(r.nodelen != 0),
-        flag(r.number == 0),
+        (r.nodelen != 0) as u64,
+        (r.number == 0) as u64,
         // o; p: servedPDPAddress; q: recordSequenceNumber
         before,
         r.address as u64,
@@ -52,7 +45,7 @@ pub fn of_record(r: Record, which: u64, before: u64, size: u64) -> [u64; 27] {
         0,
         0,
         // w: networkInitiation
-        flag(r.network),
+        r.network as u64,
         0,
         // y, z: the two octets of the PDP type
         (r.pdptype / 256) as u64,
@@ -88,28 +81,28 @@ pub fn of_container(c: Container, place: usize) -> [u64; 27] {
     [
         0,
         0,
-        wide(q.reliability),
+        q.reliability as u64,
         0,
         0,
-        wide(q.delay),
+        q.delay as u64,
         t.seconds as u64,
         0,
-        wide(q.mean),
+        q.mean as u64,
         0,
-        wide(q.precedence),
-        wide(c.condition),
-        0,
-        0,
+        q.precedence as u64,
+        c.condition as u64,
         0,
         0,
         0,
-        flag(place != 0),
+        0,
+        0,
+        (place != 0) as u64,
         0,
         0,
         t.zone as u64,
         c.uplink,
         c.downlink,
-        wide(q.peak),
+        q.peak as u64,
         0,
         0,
         0,

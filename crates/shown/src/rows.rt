@@ -1,11 +1,9 @@
 // The containers of a record.
 use crate::numbers;
 use crate::octets_of;
+use crate::parts;
 use container::Container;
 use std::num::wrapping_add_u64;
-use template::JSON;
-use template::PLAIN;
-use template::put_form;
 
 // What was put of a list of containers: how many characters wait, and the sums so far. Fifteen volumes below 2^40 never wrap.
 pub struct Rows {
@@ -51,56 +49,14 @@ fn put_row(
     let t = c.time;
     let time = octets_of(t);
     Rows {
-        waiting: put_container(text, rows.waiting, style, &v, &time),
+        waiting: parts::put_container(text, rows.waiting, style, &v, &time),
         up: wrapping_add_u64(rows.up, c.uplink),
         down: wrapping_add_u64(rows.down, c.downlink),
     }
 }
 
-fn put_container(
-    text: &mut [u8; 4096],
-    waiting: usize,
-    style: u8,
-    v: &[u64; 27],
-    time: &[u8],
-) -> usize {
-    match style {
-        JSON => put_form(
-            text,
-            waiting,
-            JSON,
-            b"%Q%;,%.{\"qosNegotiated\":{\"reliability\":%b,\"delay\":%e,\"precedence\":%j,\"peakThroughput\":%w,\"meanThroughput\":%h}\
-,\"dataVolumeGPRSUplink\":%u,\"dataVolumeGPRSDownlink\":%v,\"changeCondition\":%k,\"changeTime\":\"20%0-%1-%2T%3:%4:%5%6%7:%8\"}",
-            v,
-            time,
-        ),
-        PLAIN => put_form(text, waiting, PLAIN, b"%b%e%j%w%h%u%v%k%f%t", v, time),
-        _ => put_form(
-            text,
-            waiting,
-            0,
-            b"    20%0-%1-%2 %3:%4:%5 %6%7:%8%u%v%K  0 QoS change        %;  1 tariff time change%;  2 record closed     %.%b%e%j%w%h\n",
-            v,
-            time,
-        ),
-    }
-}
-
-// The end of a record: for people the sums, in the plain form a line feed; the JSON has its own.
+// The end of a record, with the sums.
 pub fn put_end(text: &mut [u8; 4096], rows: Rows, style: u8) -> usize {
-    if style == JSON {
-        return rows.waiting;
-    }
-    if style == PLAIN {
-        return out::put(text, rows.waiting, b'\n');
-    }
     let v = numbers::of_sums(rows.up, rows.down);
-    put_form(
-        text,
-        rows.waiting,
-        0,
-        b"    sum                       %u%v\n",
-        &v,
-        b"",
-    )
+    parts::put_end(text, rows.waiting, style, &v)
 }

@@ -1,33 +1,31 @@
 // A form: characters as they are to be written, in which `%` and a character stand for a value. A form has 26 numbers, one for each letter
 // (at the place of its letter: a at 1, b at 2, and so on), and one word: octets.
 //
-//     %a to %z   the number of that letter, or the word, written as the letter and the style ask: below, at `put_value` and `put_plain`
+//     %a to %z   the number of that letter, written as the letter and the style ask (at `put_number`), but for
+//     %a %i %x   the word: as the style has it, as an IMSI, and in digits of sixteen; with %_ a space stands before the digits of each octet
 //     %A to %Z   begins a choice by the number of that letter. What follows stands where it is 0,
 //     %;         what follows this where it is 1 more, and
 //     %.         ends the choice. There is no choice within a choice
 //     %0 to %8   the word is a time of nine octets, as it stands in a record: one of them, of YY MM DD hh mm ss S hh mm
 //
 // No contract can say what is written: each function that puts something is proved safe and ending.
+//
+// A form is written in one of three styles of `out`: TEXT for people, with numbers in columns; JSON, with numbers as they are and names with
+// escapes; PLAIN, with each value in octets of a fixed number.
 use libc::STDERR_FILENO;
+use libc::STDOUT_FILENO;
+use out::APART;
+use out::DIGITS;
+use out::JSON;
+use out::PLAIN;
+use out::TEXT;
 use out::put;
-use out::put_hex;
-use out::put_octet;
+use out::put_all;
+use out::put_one;
 use out::put_right;
 use std::num::wrapping_sub_u64;
 ghost use mathlib.Core.Path.{_≡_};
 ghost use Rattle.template.specs.Numbers.{fourOf};
-
-// For people, and the words that programs say: numbers stand in columns.
-pub const TEXT: u8 = 0;
-
-// For JSON: numbers as they are, and names with escapes.
-pub const JSON: u8 = 1;
-
-// Each value in octets of a fixed number, two digits of sixteen each.
-pub const PLAIN: u8 = 2;
-
-// The digits of an IMSI.
-const DIGITS: u8 = 3;
 
 // How far a form has been written: how many characters wait; whether a `%` came last; how many `%;` are to come until characters stand.
 struct Fill {
@@ -60,13 +58,41 @@ pub fn put_form(
 
 // What a form says, in the style for people, on standard error. It has at most 4,096 characters.
 pub fn say(form: &[u8], numbers: &[u64; 27], word: &[u8]) {
-    let mut text = [0u8; 4096];
-    let n = put_form(&mut text, 0, TEXT, form, numbers, word);
-    write_front(&text, n);
+    write_to(STDERR_FILENO, form, numbers, word);
 }
 
-fn write_front(text: &[u8; 4096], n: usize) {
-    io::write_all(STDERR_FILENO, window::front(text, n));
+// The same on standard output, of any length. Answers whether it could be written.
+pub fn write(form: &[u8], numbers: &[u64; 27], word: &[u8]) -> bool {
+    write_to(STDOUT_FILENO, form, numbers, word)
+}
+
+fn write_to(fd: i32, form: &[u8], numbers: &[u64; 27], word: &[u8]) -> bool {
+    let mut text = [0u8; 4096];
+    let n = put_form(&mut text, 0, TEXT, form, numbers, word);
+    out::write_out(fd, &text, n)
+}
+
+// Puts what one of three forms says: the one of the style.
+pub fn put_styled<'a>(
+    text: &mut [u8; 4096],
+    waiting: usize,
+    style: u8,
+    for_text: &'a [u8],
+    for_json: &'a [u8],
+    for_plain: &'a [u8],
+    numbers: &[u64; 27],
+    word: &[u8],
+) -> usize {
+    let form = form_of(style, for_text, for_json, for_plain);
+    put_form(text, waiting, style, form, numbers, word)
+}
+
+fn form_of<'a>(style: u8, text: &'a [u8], json: &'a [u8], plain: &'a [u8]) -> &'a [u8] {
+    match style {
+        JSON => json,
+        PLAIN => plain,
+        _ => text,
+    }
 }
 
 // The numbers of a form that has four at most: %k, %l, %m and %n.
@@ -178,8 +204,7 @@ fn number_of(numbers: &[u64], letter: u8) -> u64 {
     0
 }
 
-// A value where it stands for people or in JSON: an octet of a time (the seventh is a sign, the others are two decimal digits each), the
-// word, an address, an octet, or else a number.
+// A value: an octet of a time, the word, or else a number.
 fn put_value(
     text: &mut [u8; 4096],
     waiting: usize,
@@ -188,18 +213,34 @@ fn put_value(
     n: u64,
     word: &[u8],
 ) -> usize {
-    if style == PLAIN {
-        return put_plain(text, waiting, x, n, word);
-    }
     match x {
         b'.' | b';' | b'A'..=b'Z' => waiting,
-        b'6' => put(text, waiting, octet_of(word, x)),
-        b'0'..=b'8' => put_octet(text, waiting, octet_of(word, x)),
-        b'a' => put_word(text, waiting, style, word),
-        b'i' => put_word(text, waiting, DIGITS, word),
+        b'0'..=b'8' => put_one(text, waiting, style_of(style, x), octet_of(word, x)),
+        b'a' | b'i' | b'x' | b'_' => put_all(text, waiting, style_of(style, x), word),
+        _ => put_number(text, waiting, style, x, n),
+    }
+}
+
+// How octets of the word are put. Of a time the seventh is a sign, and the others are two decimal digits each.
+fn style_of(style: u8, x: u8) -> u8 {
+    match x {
+        b'6' => TEXT,
+        b'0'..=b'8' | b'x' => PLAIN,
+        b'i' => DIGITS,
+        b'_' => APART,
+        _ => style,
+    }
+}
+
+// A number: an address, an octet, or else in a column.
+fn put_number(text: &mut [u8; 4096], waiting: usize, style: u8, letter: u8, n: u64) -> usize {
+    if style == PLAIN {
+        return put_plain(text, waiting, letter, n);
+    }
+    match letter {
         b'g' | b'p' | b's' => put_address(text, waiting, n),
-        b'y' | b'z' => put_octet(text, waiting, lowest(n)),
-        _ => put_right(text, waiting, n, width(style, x)),
+        b'y' | b'z' => put_plain(text, waiting, letter, n),
+        _ => put_right(text, waiting, n, width(style, letter)),
     }
 }
 
@@ -218,13 +259,15 @@ fn width(style: u8, letter: u8) -> usize {
     }
 }
 
-// A value in its octets: the word, or as many of a number's as its letter has.
-fn put_plain(text: &mut [u8; 4096], waiting: usize, letter: u8, n: u64, word: &[u8]) -> usize {
-    if letter == b'a' {
-        return put_hex(text, waiting, word);
-    }
+// As many octets of a number as its letter has.
+fn put_plain(text: &mut [u8; 4096], waiting: usize, letter: u8, n: u64) -> usize {
     let octets = octets_of(n);
-    put_hex(text, waiting, window::part(&octets, first(letter), 8))
+    put_all(
+        text,
+        waiting,
+        PLAIN,
+        window::part(&octets, first(letter), 8),
+    )
 }
 
 // The octets of a number, the most significant first.
@@ -254,38 +297,6 @@ fn first(letter: u8) -> usize {
 // The lowest octet of a number.
 fn lowest(n: u64) -> u8 {
     (n % 256) as u8
-}
-
-// The characters of a name, or the digits of an IMSI.
-fn put_word(text: &mut [u8; 4096], waiting: usize, style: u8, s: &[u8]) -> usize {
-    let mut w = waiting;
-    let mut i: usize = 0;
-    while i < s.len() {
-        w = put_char(text, w, style, s[i]);
-        i += 1;
-    }
-    w
-}
-
-// A character of a name, of which JSON escapes two; or two digits, the low half of the octet first.
-fn put_char(text: &mut [u8; 4096], waiting: usize, style: u8, x: u8) -> usize {
-    if style == DIGITS {
-        let w = put_digit(text, waiting, x % 16);
-        return put_digit(text, w, x / 16);
-    }
-    if (style == JSON) & ((x == b'"') | (x == b'\\')) {
-        let w = put(text, waiting, b'\\');
-        return put(text, w, x);
-    }
-    put(text, waiting, x)
-}
-
-// A decimal digit; nothing for the F that fills an octet.
-fn put_digit(text: &mut [u8; 4096], waiting: usize, d: u8) -> usize {
-    if d < 10 {
-        return put(text, waiting, b'0' + d);
-    }
-    waiting
 }
 
 // An IPv4 address, dotted.

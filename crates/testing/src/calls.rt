@@ -4,17 +4,14 @@
 //
 // The calls of a file are run from a fresh node, each on the node that the last one handed back, refused ones among them. A line a
 // call: the answer, the written length, the written octets in hex (docs/FORMATS.md). A call is a room and an event, after two lengths.
-use crate::records::block::number;
+use crate::records::block::two;
 use libc::STDERR_FILENO;
-use node::Node;
+use profile::Profile;
 use std::num::wrapping_add_u64;
 use std::num::wrapping_add_usize;
-use template::TEXT;
 use template::four;
-use template::put_form;
 use template::say;
 use window::Place;
-ghost use Prim.Native.Nat.{_≤_};
 
 // Where the next call lies, and its number, from 1; whether it lies whole in the window, and its room and the length of its event then, else
 // 0; and whether to go on. (The node is kept apart: what holds it is slow to prove.)
@@ -46,10 +43,10 @@ fn fed(fd: i32, s: State, held: &mut [u8; 4096]) -> State {
     if here < 4 {
         return read_on(fd, s, held);
     }
-    let room = size_at(held, p.at);
-    let length = size_at(held, wrapping_add_usize(p.at, 2));
+    let room = two(held, p.at);
+    let length = two(held, wrapping_add_usize(p.at, 2));
     if (20000 < room) | (300 < length) {
-        say_large(s.number, p.offset, room, length);
+        say_large(s, room, length);
         return moved(s, p, false);
     }
     if here - 4 < length {
@@ -65,45 +62,35 @@ fn fed(fd: i32, s: State, held: &mut [u8; 4096]) -> State {
     }
 }
 
-// A number of two octets.
-fn size_at(held: &[u8], at: usize) -> usize {
-    (number(held, at, 2) % 65536) as usize
-}
-
 // More of the file, or its end.
 fn read_on(fd: i32, s: State, held: &mut [u8; 4096]) -> State {
     let p = s.place;
-    let f = window::fill(fd, held, p);
+    let f = setup::read_on(b"calls", b"the file of calls", fd, held, p);
     let q = f.place;
-    if f.got < 0 {
-        setup::fail(b"calls", b"the file of calls");
-    }
     if (f.got == 0) & (0 < window::left(q)) {
-        say(
-            b"calls: call %k, at octet %l of the file: the file ends within the call\n",
-            &four(s.number, q.offset, 0, 0),
-            b"",
-        );
+        say_wrong(s, 0, 0);
     }
     moved(s, q, 0 < f.got)
 }
 
-// What is wrong with a call: which it is, counted from 1, and how many octets of the file lie before it.
-fn say_large(number: u64, offset: u64, room: usize, length: usize) {
-    let v = four(number, offset, room as u64, length as u64);
-    if 20000 < room {
-        say(
-            b"calls: call %k, at octet %l of the file: a room of %m octets; at most 20000\n",
-            &v,
-            b"",
-        );
-        return;
-    }
+// Says what is wrong with the next call, which has a size: 0 the file ends within it, 1 its room is too large, 2 its event is.
+fn say_wrong(s: State, wrong: u64, size: usize) {
+    let p = s.place;
     say(
-        b"calls: call %k, at octet %l of the file: an event of %n octets; at most 300\n",
-        &v,
+        b"calls: call %k, at octet %l of the file: %Mthe file ends within the call%;a room of %n octets; at most 20000\
+%;an event of %n octets; at most 300%.\n",
+        &four(s.number, p.offset, wrong, size as u64),
         b"",
     );
+}
+
+// What is too large.
+fn say_large(s: State, room: usize, length: usize) {
+    if 20000 < room {
+        say_wrong(s, 1, room);
+        return;
+    }
+    say_wrong(s, 2, length);
 }
 
 // The event of a call.
@@ -112,18 +99,8 @@ fn event_of(p: Place, length: usize, held: &[u8; 4096]) -> &[u8] {
     window::part(held, a, wrapping_add_usize(a, length))
 }
 
-// A room is never more than the buffer has.
-fn at_most(room: usize) -> usize
-    ensures { λ r. ⌜ r ≤ 20000 ⌝ }
-{
-    if room < 20000 {
-        return room;
-    }
-    20000
-}
-
 // What a call answered and wrote, if there was one.
-fn told(s: State, answer: u8, written: usize, out: &[u8]) -> State {
+fn told(s: State, answer: u8, written: usize, out: &[u8; 20000]) -> State {
     if !s.whole {
         return s;
     }
@@ -145,26 +122,18 @@ fn told(s: State, answer: u8, written: usize, out: &[u8]) -> State {
 
 // Writes a line: the answer, how many octets were written, and these in hex. Answers whether it could be written.
 fn write_line(answer: u8, written: usize, octets: &[u8]) -> bool {
-    let mut text = [0u8; 4096];
     let v = four(answer as u64, written as u64, 0, 0);
-    let a = put_form(&mut text, 0, TEXT, b"%k %l ", &v, b"");
-    let b = out::put_hex(&mut text, a, octets);
-    let c = out::put(&mut text, b, b'\n');
-    out::write_out(&text, c)
+    template::write(b"%k %l %x\n", &v, octets)
 }
 
 // A proved loop has to end, and nothing says that a file does. So it counts its turns down, from a number that no run uses up. Where no whole
 // call is in the window the step is asked nothing, which it refuses.
-fn run(fd: i32, node: Node) {
+fn run(fd: i32, profile: Profile) {
     let mut held = io::buffer();
     let mut out = [0u8; 20000];
-    let mut now = node;
+    let mut now = setup::node_of(profile);
     let mut s = State {
-        place: Place {
-            at: 0,
-            end: 0,
-            offset: 0,
-        },
+        place: window::START,
         number: 1,
         whole: false,
         room: 0,
@@ -175,8 +144,11 @@ fn run(fd: i32, node: Node) {
     while s.going {
         s = fed(fd, s, &mut held);
         let p = s.place;
-        let room = at_most(s.room);
-        let r = node::step::step(now, event_of(p, s.length, &held), &mut out[..room]);
+        let r = node::step::step(
+            now,
+            event_of(p, s.length, &held),
+            crate::lent(&mut out, s.room),
+        );
         now = r.node;
         s = told(s, r.answer, r.written, &out);
         if turns == 0 {
@@ -188,12 +160,11 @@ fn run(fd: i32, node: Node) {
 
 // The file that an argument names, from a fresh node.
 pub fn run_file(argument: usize) {
-    let m = setup::node_of_profile(b"calls");
-    let fd = setup::open_after(m.answer, b"calls", argument);
-    if 0 <= fd {
-        let node = m.node;
-        run(fd, node);
-        libc::close(fd);
+    let s = setup::start(b"calls", argument);
+    if 0 <= s.fd {
+        let p = s.profile;
+        run(s.fd, p);
+        libc::close(s.fd);
     }
 }
 

@@ -21,24 +21,39 @@ fn all() {
         calls::run_file(i);
         i += 1;
     }
-    records::all_blocks(true);
+    records::all(records::BOTH);
     table::write_rows();
 }
 
-fn run(command: &[u8]) {
-    if check::same(command, b"calls") {
+// The first n octets of a buffer; all where there are fewer.
+fn lent(buffer: &mut [u8], n: usize) -> &mut [u8] {
+    if n < buffer.len() {
+        return &mut buffer[..n];
+    }
+    buffer
+}
+
+// Is an argument this word?
+fn is_word(argument: usize, word: &[u8]) -> bool {
+    let mut held = [0u8; 16];
+    let n = os::arg(argument, &mut held);
+    check::same(&held[..n], word)
+}
+
+fn main() {
+    if is_word(1, b"calls") {
         calls::main();
         return;
     }
-    if check::same(command, b"records") {
+    if is_word(1, b"records") {
         records::main();
         return;
     }
-    if check::same(command, b"pace") {
+    if is_word(1, b"pace") {
         pace::main();
         return;
     }
-    if check::same(command, b"all") {
+    if is_word(1, b"all") {
         all();
         return;
     }
@@ -46,10 +61,4 @@ fn run(command: &[u8]) {
         STDERR_FILENO,
         b"usage: testing calls|records|pace|all ARGUMENT..\n",
     );
-}
-
-fn main() {
-    let mut word = [0u8; 16];
-    let n = os::arg(1, &mut word);
-    run(&word[..n]);
 }

@@ -8,14 +8,12 @@
 use entries::Entry;
 use event::framing;
 use libc::STDERR_FILENO;
-use node::Node;
+use profile::Profile;
 use scdr::Record;
 use std::num::wrapping_add_u64;
 use std::num::wrapping_add_usize;
 use std::num::wrapping_sub_u64;
-use template::TEXT;
 use template::four;
-use template::put_form;
 ghost use Prim.Native.Nat.{_≤_};
 
 // A place again below the end, from the start on; 0 where there is no place.
@@ -35,16 +33,16 @@ fn after_event(s: &[u8], at: usize) -> usize {
 }
 
 // Calls of one kind: the events of a file one after another, from a fresh node on again after the last. Answers how many octets they write.
-fn run_events(fresh: Node, s: &[u8]) -> u64 {
+fn run_events(profile: Profile, s: &[u8]) -> u64 {
     let mut out = [0u8; 16416];
-    let mut node = fresh;
+    let mut node = setup::node_of(profile);
     let mut sum: u64 = 0;
     let mut at: usize = 0;
     let mut calls: u32 = 90000;
     while 0 < calls {
         let from = around(at, s.len());
         if from == 0 {
-            node = fresh;
+            node = setup::node_of(profile);
         }
         at = after_event(s, from);
         let r = node::step::step(node, window::part(s, from, at), &mut out);
@@ -89,10 +87,14 @@ struct Kept {
     records: [Record; 64],
 }
 
+// What the reader makes of nothing.
+fn blank() -> Record {
+    let r = scdr::read::read_record(b"");
+    r.cdr
+}
+
 fn keep(s: &[u8]) -> Kept {
-    let none = scdr::read::read_record(b"");
-    let blank = none.cdr;
-    let mut records = [blank; 64];
+    let mut records = [blank(); 64];
     let mut n: usize = 0;
     let mut at: usize = 0;
     while n < 64 {
@@ -145,16 +147,7 @@ fn clock() -> u64 {
 // One line: calls of which kind, how many, a sum over what they answered, and the microseconds since a time.
 fn say(kind: &[u8], calls: u64, sum: u64, from: u64) {
     let took = wrapping_sub_u64(clock(), from);
-    let mut text = [0u8; 4096];
-    let w = put_form(
-        &mut text,
-        0,
-        TEXT,
-        b"%a %k %l %m\n",
-        &four(calls, sum, took, 0),
-        kind,
-    );
-    out::write_out(&text, w);
+    template::write(b"%a %k %l %m\n", &four(calls, sum, took, 0), kind);
 }
 
 // The file that an argument names, from the start of a buffer: how many octets it has.
@@ -172,11 +165,11 @@ fn in_file(held: &[u8; 65536], n: usize) -> &[u8] {
     window::front(held, n)
 }
 
-fn pace_step(node: Node) {
+fn pace_step(profile: Profile) {
     let mut held = io::large_buffer();
     let n = load(3, &mut held);
     let from = clock();
-    let sum = run_events(node, in_file(&held, n));
+    let sum = run_events(profile, in_file(&held, n));
     say(b"step", 90000, sum, from);
 }
 
@@ -210,11 +203,10 @@ pub fn main() {
         io::write_all(STDERR_FILENO, b"usage: pace PROFILE EVENTS RECORDS\n");
         return;
     }
-    let m = setup::node_of_profile(b"pace");
-    if m.answer != 0 {
+    let p = setup::profile_of_file(b"pace");
+    if !profile::profile_ok(p) {
         return;
     }
-    let node = m.node;
-    pace_step(node);
+    pace_step(p);
     pace_records();
 }

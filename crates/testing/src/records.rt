@@ -7,21 +7,25 @@
 // A block is the plain form of a record, every field at a fixed place (docs/FORMATS.md).
 pub mod block;
 
+use crate::is_word;
+use crate::lent;
 use libc::STDERR_FILENO;
 use libc::STDIN_FILENO;
-use template::PLAIN;
-use template::TEXT;
+use libc::STDOUT_FILENO;
+use out::PLAIN;
 use template::four;
-use template::put_form;
+
+// What is to be done with standard input.
+const WRITE: u8 = 0;
+
+const READ: u8 = 1;
+
+pub const BOTH: u8 = 2;
 
 // Writes a line: the number of a refusal, or else octets in hex.
 fn line(answer: u8, s: &[u8]) {
-    let mut text = [0u8; 4096];
     let v = four(answer as u64, (answer != 0) as u64, 0, 0);
-    let w = put_form(&mut text, 0, TEXT, b"%L%;%k%.", &v, b"");
-    let w = out::put_hex(&mut text, w, s);
-    let w = out::put(&mut text, w, b'\n');
-    out::write_out(&text, w);
+    template::write(b"%L%;%k%.%x\n", &v, s);
 }
 
 // One block: its record's octets, or the number of the refusal; and read back, where that is asked. Unless it is, a block whose flags are
@@ -33,17 +37,13 @@ fn write_block(b: &[u8], back: bool) {
     }
     let mut out = [0u8; 1024];
     let w = scdr::write::write_record(block::record_of(b), &mut out);
-    if w.answer != 0 {
-        line(w.answer, b"");
-        return;
-    }
-    written(window::front(&out, w.n), back);
+    written(w.answer, window::front(&out, w.n), back);
 }
 
-// The octets of a record; what they are read as, and the access point name where it lies in them.
-fn written(s: &[u8], back: bool) {
-    line(0, s);
-    if back {
+// The octets of a record, or none and the number of the refusal; what they are read as, and the access point name where it lies in them.
+fn written(answer: u8, s: &[u8], back: bool) {
+    line(answer, s);
+    if back & (answer == 0) {
         read_one(s);
         line(0, scdr::read::apn_part(s));
     }
@@ -59,7 +59,7 @@ fn read_one(s: &[u8]) {
     let cdr = r.cdr;
     let mut text = [0u8; 4096];
     let w = shown::put_record(&mut text, 0, PLAIN, cdr, 0, 0, 0);
-    out::write_out(&text, w);
+    out::write_out(STDOUT_FILENO, &text, w);
 }
 
 // Takes one block from standard input, and answers whether to go on.
@@ -91,10 +91,7 @@ fn one_record() -> bool {
 
 // Takes the n octets of a record, and answers whether they were there.
 fn take_record(b: &mut [u8], n: usize) -> bool {
-    if b.len() < n {
-        return false;
-    }
-    let got = io::read_full(STDIN_FILENO, &mut b[..n]);
+    let got = io::read_full(STDIN_FILENO, lent(b, n));
     if got < n {
         io::write_all(STDERR_FILENO, b"records: the last record is cut short\n");
         return false;
@@ -107,39 +104,34 @@ fn read_front(s: &[u8], n: usize) {
     read_one(window::front(s, n));
 }
 
-// A proved loop has to end, and nothing says that a file does. So the loops count their turns down, from a number that no run uses up.
-pub fn all_blocks(back: bool) {
-    let mut turns = u64::MAX;
-    while turns > 0 && one_block(back) {
-        turns -= 1;
+// Does one task, and answers whether to go on.
+fn one(task: u8) -> bool {
+    if task == READ {
+        return one_record();
     }
+    one_block(task == BOTH)
 }
 
-fn all_records() {
+// A proved loop has to end, and nothing says that a file does. So it counts its turns down, from a number that no run uses up.
+pub fn all(task: u8) {
     let mut turns = u64::MAX;
-    while turns > 0 && one_record() {
+    while turns > 0 && one(task) {
         turns -= 1;
     }
-}
-
-fn run(what: &[u8]) {
-    if check::same(what, b"write") {
-        all_blocks(false);
-        return;
-    }
-    if check::same(what, b"both") {
-        all_blocks(true);
-        return;
-    }
-    if check::same(what, b"read") {
-        all_records();
-        return;
-    }
-    io::write_all(STDERR_FILENO, b"usage: records write|read|both\n");
 }
 
 pub fn main() {
-    let mut word = [0u8; 8];
-    let n = os::arg(2, &mut word);
-    run(&word[..n]);
+    if is_word(2, b"write") {
+        all(WRITE);
+        return;
+    }
+    if is_word(2, b"both") {
+        all(BOTH);
+        return;
+    }
+    if is_word(2, b"read") {
+        all(READ);
+        return;
+    }
+    io::write_all(STDERR_FILENO, b"usage: records write|read|both\n");
 }

@@ -1,69 +1,50 @@
 // The bench table of 01, row by row through the code. That the definitions give the same is one theorem (specs/Table.antt, proofs/Holds.antt).
 use calendar::Stamp;
+use template::four;
+use template::write;
 
-// Writes a row: what it is of, and octets.
-fn row(what: &[u8], s: &[u8]) {
-    let mut text = [0u8; 4096];
-    let w = out::put_all(&mut text, 0, what);
-    let w = out::put_all(&mut text, w, b" ->");
-    let w = put_apart(&mut text, w, s);
-    let w = out::put(&mut text, w, b'\n');
-    out::write_out(&text, w);
+// Writes a row: what it is of, with a number, and octets.
+fn row(form: &[u8], n: u64, octets: &[u8]) {
+    write(form, &four(n, 0, 0, 0), octets);
 }
 
-// The octets of s in hex, a space before each.
-fn put_apart(text: &mut [u8; 4096], waiting: usize, s: &[u8]) -> usize {
-    let mut w = waiting;
-    let mut i: usize = 0;
-    while i < s.len() {
-        w = put_one(text, w, s[i]);
-        i += 1;
-    }
-    w
-}
-
-fn put_one(text: &mut [u8; 4096], waiting: usize, x: u8) -> usize {
-    let w = out::put(text, waiting, b' ');
-    out::put_octet(text, w, x)
-}
-
-fn integer(what: &[u8], v: u64) {
+fn integer(v: u64) {
     let r = ber::int::int_octets(v);
     let octets = r.octets;
-    row(what, window::front(&octets, r.n));
+    row(b"integer %k ->%_\n", v, window::front(&octets, r.n));
 }
 
-fn length(what: &[u8], n: usize) {
+fn length(n: usize) {
     let r = ber::length::len_octets(n);
     let octets = r.octets;
-    row(what, window::front(&octets, r.n));
+    row(b"length %k ->%_\n", n as u64, window::front(&octets, r.n));
 }
 
 // The offset of a zone is minutes from universal time plus 720.
-fn time(what: &[u8], seconds: u32, zone: u16) {
+fn time(form: &[u8], seconds: u32, zone: u16) {
     let r = calendar::stamp_octets(Stamp { seconds, zone });
     let octets = r.octets;
-    row(what, &octets);
+    row(form, seconds as u64, &octets);
 }
 
-fn imsi(what: &[u8], s: &[u8]) {
-    row(what, window::front(s, ber::imsi::imsi_size(s)));
+fn imsi(form: &[u8], s: &[u8]) {
+    row(form, 0, window::front(s, ber::imsi::imsi_size(s)));
 }
 
 pub fn write_rows() {
-    integer(b"integer 0", 0);
-    integer(b"integer 127", 127);
-    integer(b"integer 128", 128);
-    integer(b"integer 32768", 32768);
-    integer(b"integer 4294967295", 4294967295);
-    length(b"length 127", 127);
-    length(b"length 128", 128);
-    length(b"length 256", 256);
-    time(b"time 0, offset 0", 0, 720);
-    time(b"time 5097600, offset 0", 5097600, 720);
-    time(b"time 3155759999, offset -90", 3155759999, 630);
+    integer(0);
+    integer(127);
+    integer(128);
+    integer(32768);
+    integer(4294967295);
+    length(127);
+    length(128);
+    length(256);
+    time(b"time %k, offset 0 ->%_\n", 0, 720);
+    time(b"time %k, offset 0 ->%_\n", 5097600, 720);
+    time(b"time %k, offset -90 ->%_\n", 3155759999, 630);
     imsi(
-        b"IMSI 123456",
+        b"IMSI 123456 ->%_\n",
         &[0x21, 0x43, 0x65, 0xFF, 0xFF, 0xFF, 0xFF, 0xFF],
     );
 }

@@ -75,7 +75,8 @@ module _ (w : List ℕ) (at : ℕ) where
       let v = take-all (i + 1) (drop at w) (omega (arith, length-drop at w)) in
       rw a (rw (u, v))
 
-  pub moved-more : (i from : ℕ) {v v′ : List ℕ} → v ≡ movedOf at i w → from ≡ at + i → v′ ≡ againOf from i v → v′ ≡ movedOf at (i + 1) w
+  pub moved-more : (i from : ℕ) {v v′ : List ℕ} → v ≡ movedOf at i w → from ≡ at + i → v′ ≡ againOf from i v
+      → v′ ≡ movedOf at (i + 1) w
   moved-more i from e f g =
       g ∙ rw (e, f) (elim (decLe (length w) (at + i)) [ yes h ↦ again-past i h | no h ↦ again-there i (omega arith) ])
 
@@ -98,7 +99,8 @@ module _ (p : Place) {q : Place} (e : q ≡ atFront p) where
       e ∙ rw (z, y, mod-eq-of-lt small)
 
   -- the place after a read
-  pub fill-read : (w v : List ℕ) (got : ℤ) {more end : ℕ} → more ≡ clamped got (length v) → length v ≡ length w → end ≡ (q .end + more) % 2 ^ 64
+  pub fill-read : (w v : List ℕ) (got : ℤ) {more end : ℕ} → more ≡ clamped got (length v) → length v ≡ length w
+      → end ≡ (q .end + more) % 2 ^ 64
       → _≡_ {A = Place} (record { at = 0; end = end; offset = q .offset })
       (record { at = 0; end = (p .end - p .at + clamped got (length w)) % 2 ^ 64; offset = p .offset })
   fill-read w v got a s f = rw (f, a, s, e)

@@ -18,6 +18,13 @@ pub struct Place {
     pub offset: u64,
 }
 
+// The start of a file, of which nothing is held yet.
+pub const START: Place = Place {
+    at: 0,
+    end: 0,
+    offset: 0,
+};
+
 // A place in the window after a read, and what the read answered: how many octets came, 0 at the end of the file, less than 0 where it
 // failed.
 pub struct Filled {

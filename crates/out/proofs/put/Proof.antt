@@ -6,12 +6,6 @@ use borrow.Author.Needs.{needs}
 use Rattle.out.proofs.put.Statement.{statement}
 use Rattle.out.proofs.put.Tie as tie
 
-element-write-text : tie.Need-element-write-text
-element-write-text c = search needs
-
-add-result : tie.Need-add-result
-add-result c = search needs
-
 returns : tie.Need-returns
 unfolding putOf
 returns c = record { wrote = true; is = rw (lt-ltb (c .before .args .waiting) 4096 (c .if1 .taken)) }
@@ -22,18 +16,12 @@ returns-2 c =
     let w = c .before .before .args .waiting in
     record { wrote = true; is = rw (le-ltb w 4096 (c .before .if1 .left), lt-ltb 4096 w (c .if2 .taken)) }
 
-write-all-requires : tie.Need-write-all-requires
-write-all-requires c κs = search needs
-
 returns-3 : tie.Need-returns-3
 unfolding putOf
 returns-3 c =
     let i = c .before .before .before .before in
     let w = i .before .before .args .waiting in
     record { wrote = false; is = rw (le-ltb w 4096 (i .before .if1 .left), le-ltb 4096 w (i .if2 .left)) }
-
-element-write-text-2 : tie.Need-element-write-text-2
-element-write-text-2 c = search needs
 
 returns-4 : tie.Need-returns-4
 unfolding putOf
@@ -43,4 +31,4 @@ returns-4 c =
     record { wrote = true; is = rw (le-ltb w 4096 (i .before .if1 .left), le-ltb 4096 w (i .if2 .left)) }
 
 pub put-spec : {M : Type 1} → statement M
-put-spec = tie.close (tie.spec element-write-text add-result returns returns-2 write-all-requires returns-3 element-write-text-2 returns-4)
+put-spec = tie.close (tie.spec (search needs) (search needs) returns returns-2 (search needs) returns-3 (search needs) returns-4)

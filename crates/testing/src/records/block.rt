@@ -14,7 +14,7 @@ fn wide(x: u8) -> u64
 }
 
 // The number that n octets from a place on spell, at most eight of them.
-pub fn number(b: &[u8], at: usize, n: usize) -> u64 {
+fn number(b: &[u8], at: usize, n: usize) -> u64 {
     let mut v: u64 = 0;
     let mut i: usize = 0;
     while i < n {

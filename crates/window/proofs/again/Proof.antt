@@ -6,15 +6,6 @@ use borrow.Author.Needs.{needs}
 use Rattle.window.proofs.again.Statement.{statement}
 use Rattle.window.proofs.again.Tie as tie
 
-slice-read-window : tie.Need-slice-read-window
-slice-read-window c = search needs
-
-slice-write-window : tie.Need-slice-write-window
-slice-write-window c = search needs
-
-same-length : tie.Need-same-length
-same-length c = search needs
-
 returns : tie.Need-returns
 unfolding againOf
 returns c =
@@ -34,4 +25,4 @@ unfolding againOf
 returns-3 c = let a = c .before .args in rw (le-ltb (a .from) (length (a .window .now)) (c .if1 .left))
 
 pub again-spec : {M : Type 1} → statement M
-again-spec = tie.close (tie.spec slice-read-window slice-write-window same-length returns returns-2 returns-3)
+again-spec = tie.close (tie.spec (search needs) (search needs) (search needs) returns returns-2 returns-3)

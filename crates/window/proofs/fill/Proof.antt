@@ -12,35 +12,11 @@ use borrow.Author.Needs.{needs}
 use Rattle.window.proofs.fill.Statement.{statement}
 use Rattle.window.proofs.fill.Tie as tie
 
-to-front-requires : tie.Need-to-front-requires
-to-front-requires c κs = search needs
-
-same-length : tie.Need-same-length
-same-length c = search needs
-
 returns : tie.Need-returns
 returns c =
     let a = c .before .before .before .before .before .before .args in
     let m = c .before .before .before .to-front .ensures in
     record { front = ap (take (a .p .end - a .p .at)) (m .window); place = fill-full (a .p) (m .place) (a .window .now) (omega arith) }
-
-sub-read : tie.Need-sub-read
-sub-read c = search needs
-
-part-read-start : tie.Need-part-read-start
-part-read-start c = search needs
-
-part-read-end : tie.Need-part-read-end
-part-read-end c = search needs
-
-read-requires : tie.Need-read-requires
-read-requires c κs = search needs
-
-count-requires : tie.Need-count-requires
-count-requires c κs = search needs
-
-wrapping-add-usize-requires : tie.Need-wrapping-add-usize-requires
-wrapping-add-usize-requires c κs = search needs
 
 same-length-2 : tie.Need-same-length-2
 same-length-2 c = search needs
@@ -67,15 +43,6 @@ returns-2 c =
 pub fill-spec : {M : Type 1} → statement M
 fill-spec =
     tie.close
-    (tie.spec
-    to-front-requires
-    same-length
-    returns
-    sub-read
-    part-read-start
-    part-read-end
-    read-requires
-    count-requires
-    wrapping-add-usize-requires
-    same-length-2
+    (tie.spec (λ c κs. search needs) (λ c. search needs) returns (λ c. search needs) (λ c. search needs)
+    (λ c. search needs) (λ c κs. search needs) (λ c κs. search needs) (λ c κs. search needs) same-length-2
     returns-2)

@@ -6,27 +6,15 @@ use borrow.Author.Needs.{needs}
 use Rattle.window.proofs.part.Statement.{statement}
 use Rattle.window.proofs.part.Tie as tie
 
-slice-aggregate-result : tie.Need-slice-aggregate-result
-slice-aggregate-result c = search needs
-
 returns : tie.Need-returns
 unfolding partOf
 returns c = let a = c .before .before .args in rw (lt-leb (a .a) (a .b) (c .before .if1 .taken))
-
-slice-aggregate-result-2 : tie.Need-slice-aggregate-result-2
-slice-aggregate-result-2 c = search needs
 
 returns-2 : tie.Need-returns-2
 unfolding partOf
 returns-2 c =
     let a = c .before .before .before .args in
     rw (le-leb (a .a) (a .b) (c .before .before .if1 .left), lt-leb (a .b) (length (a .s .now)) (c .before .if2 .taken))
-
-part-result-start : tie.Need-part-result-start
-part-result-start c = search needs
-
-part-result-end : tie.Need-part-result-end
-part-result-end c = search needs
 
 returns-3 : tie.Need-returns-3
 unfolding partOf
@@ -37,11 +25,5 @@ returns-3 c =
 pub part-spec : {M : Type 1} → statement M
 part-spec =
     tie.close
-    (tie.spec
-    slice-aggregate-result
-    returns
-    slice-aggregate-result-2
-    returns-2
-    part-result-start
-    part-result-end
+    (tie.spec (λ c. search needs) returns (λ c. search needs) returns-2 (λ c. search needs) (λ c. search needs)
     returns-3)

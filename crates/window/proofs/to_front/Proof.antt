@@ -16,23 +16,8 @@ Inv-loop window₀ p n i₀ window i = (i ≤ n) × (window ≡ movedOf (p .at) 
 abbrev μ-loop : tie.MeasureT-loop
 μ-loop window₀ p n i₀ window i = n - i
 
-left-requires : tie.Need-left-requires Inv-loop μ-loop
-left-requires c κs = search needs
-
 loop-holds : tie.Need-loop-holds Inv-loop μ-loop
 loop-holds c = let a = c .before .before .args in (omega arith, moved-none (a .window .now) (a .p .at))
-
-wrapping-add-usize-requires : tie.Need-wrapping-add-usize-requires Inv-loop μ-loop
-wrapping-add-usize-requires c κs = search needs
-
-again-requires : tie.Need-again-requires Inv-loop μ-loop
-again-requires c κs = search needs
-
-add-i : tie.Need-add-i Inv-loop μ-loop
-add-i c = search needs
-
-loop-less : tie.Need-loop-less Inv-loop μ-loop
-loop-less c = search needs
 
 loop-again : tie.Need-loop-again Inv-loop μ-loop
 loop-again c =
@@ -59,15 +44,5 @@ returns c =
 pub to-front-spec : {M : Type 1} → statement M
 to-front-spec =
     tie.close
-    (tie.spec
-    Inv-loop
-    μ-loop
-    left-requires
-    loop-holds
-    wrapping-add-usize-requires
-    again-requires
-    add-i
-    loop-less
-    loop-again
-    same-length
-    returns)
+    (tie.spec Inv-loop μ-loop (λ c κs. search needs) loop-holds (λ c κs. search needs) (λ c κs. search needs)
+    (λ c. search needs) (λ c. search needs) loop-again same-length returns)

@@ -12,20 +12,15 @@ use borrow.Author.Needs.{needs}
 use Rattle.testing.proofs.pace.natural.Statement.{statement}
 use Rattle.testing.proofs.pace.natural.Tie as tie
 
-fits-unsigned : (z : ℤ) → SFits w64 z → ltZ (toZ w64 (ofZ w64 z)) (pos 0) ≡ false → T (nonNeg (toZ w64 (ofZ w64 z))) × Fits w64 (natAbs (toZ w64 (ofZ w64 z)))
+fits-unsigned : (z : ℤ) → SFits w64 z → ltZ (toZ w64 (ofZ w64 z)) (pos 0) ≡ false
+    → T (nonNeg (toZ w64 (ofZ w64 z))) × Fits w64 (natAbs (toZ w64 (ofZ w64 z)))
 fits-unsigned z f h = (
   yes-nonNeg {z = toZ w64 (ofZ w64 z)} (ltZ-no {a = toZ w64 (ofZ w64 z)} {b = pos 0} (subst (λ (b : Bool). T (not b)) (sym h) tt)),
   subst (λ (x : ℤ). Fits w64 (natAbs x)) (sym (toZ-ofZ w64 z f)) (record { fits = lt-of-le-of-lt (natAbs-le z (f .sfits)) (lit< tt) }),
 )
 
-returns : tie.Need-returns
-returns c = search needs
-
 cast-result : tie.Need-cast-result
 cast-result c = fits-unsigned (c .before .args .t) (c .before .fits .t) (c .if1 .left)
 
-returns-2 : tie.Need-returns-2
-returns-2 c = search needs
-
 pub natural-spec : {M : Type 1} → statement M
-natural-spec = tie.close (tie.spec returns cast-result returns-2)
+natural-spec = tie.close (tie.spec (search needs) cast-result (search needs))

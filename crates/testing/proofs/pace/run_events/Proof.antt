@@ -6,58 +6,15 @@ use Rattle.testing.proofs.pace.run_events.Statement.{statement}
 use Rattle.testing.proofs.pace.run_events.Tie as tie
 
 abbrev Inv-loop : tie.InvT-loop
-Inv-loop fresh s out₀ node₀ sum₀ at₀ calls₀ out node sum at calls = length out ≡ 16416
+Inv-loop profile s out₀ node₀ sum₀ at₀ calls₀ out node sum at calls = length out ≡ 16416
 
 abbrev μ-loop : tie.MeasureT-loop
-μ-loop fresh s out₀ node₀ sum₀ at₀ calls₀ out node sum at calls = calls
-
-loop-holds : tie.Need-loop-holds Inv-loop μ-loop
-loop-holds c = search needs
-
-around-requires : tie.Need-around-requires Inv-loop μ-loop
-around-requires c κs = search needs
-
-after-event-requires : tie.Need-after-event-requires Inv-loop μ-loop
-after-event-requires c κs = search needs
-
-part-requires : tie.Need-part-requires Inv-loop μ-loop
-part-requires c κs = search needs
-
-slice-aggregate-step : tie.Need-slice-aggregate-step Inv-loop μ-loop
-slice-aggregate-step c = search needs
-
-step-requires : tie.Need-step-requires Inv-loop μ-loop
-step-requires c κs = search needs
-
-wrapping-add-u64-requires : tie.Need-wrapping-add-u64-requires Inv-loop μ-loop
-wrapping-add-u64-requires c κs = search needs
-
-sub-calls : tie.Need-sub-calls Inv-loop μ-loop
-sub-calls c = search needs
-
-loop-less : tie.Need-loop-less Inv-loop μ-loop
-loop-less c = search needs
-
-loop-again : tie.Need-loop-again Inv-loop μ-loop
-loop-again c = search needs
-
-returns : tie.Need-returns Inv-loop μ-loop
-returns c = tt
+μ-loop profile s out₀ node₀ sum₀ at₀ calls₀ out node sum at calls = calls
 
 pub run-events-spec : {M : Type 1} → statement M
 run-events-spec =
     tie.close
-    (tie.spec
-    Inv-loop
-    μ-loop
-    loop-holds
-    around-requires
-    after-event-requires
-    part-requires
-    slice-aggregate-step
-    step-requires
-    wrapping-add-u64-requires
-    sub-calls
-    loop-less
-    loop-again
-    returns)
+    (tie.spec Inv-loop μ-loop (λ c κs. search needs) (λ c. search needs) (λ c κs. search needs)
+    (λ c κs. search needs) (λ c κs. search needs) (λ c κs. search needs) (λ c. search needs)
+    (λ c κs. search needs) (λ c κs. search needs) (λ c. search needs) (λ c. search needs) (λ c. search needs)
+    (λ c. tt))
