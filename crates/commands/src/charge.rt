@@ -46,7 +46,7 @@ fn fed(fd: i32, s: State, held: &mut [u8; 4096]) -> State {
 
 // What lies in the window.
 fn in_hand(p: Place, held: &[u8; 4096]) -> &[u8] {
-    window::part(held, p.at, p.end)
+    octets::part(held, p.at, p.end)
 }
 
 // What was charged: so many octets of the file, so many events, of which the last has so many octets; and what they wrote. The buffer has
@@ -125,7 +125,7 @@ fn run(fd: i32, profile: Profile) {
             r.came,
             r.events,
             r.last,
-            window::front(&out, r.written),
+            octets::front(&out, r.written),
         );
     }
     say_tally(s);

@@ -11,23 +11,16 @@ mod show;
 
 use libc::STDERR_FILENO;
 
-// Is an argument this word?
-fn is_word(argument: usize, word: &[u8]) -> bool {
-    let mut held = [0u8; 16];
-    let n = os::arg(argument, &mut held);
-    check::same(&held[..n], word)
-}
-
 fn main() {
-    if is_word(1, b"charge") {
+    if setup::is_word(1, b"charge") {
         charge::main();
         return;
     }
-    if is_word(1, b"show") {
+    if setup::is_word(1, b"show") {
         show::main();
         return;
     }
-    if is_word(1, b"both") {
+    if setup::is_word(1, b"both") {
         charge::charge_file();
         show::show_file(4, out::TEXT);
         return;

@@ -133,7 +133,7 @@ fn take_turn(fd: i32, style: u8, s: State, held: &mut [u8; 65536], text: &mut [u
     if !s.ended & (window::left(p) < LONGEST) {
         return read_on(fd, s, held);
     }
-    show_one(style, s, window::part(held, p.at, p.end), text)
+    show_one(style, s, octets::part(held, p.at, p.end), text)
 }
 
 // Writes what waits, and says how it ended: which record was refused, counted from 1, how many octets lie before its mark and what was found
@@ -183,7 +183,7 @@ pub fn show_file(argument: usize, style: u8) {
 
 pub fn main() {
     let count = os::arg_count();
-    let json = crate::is_word(2, b"--json");
+    let json = setup::is_word(2, b"--json");
     if (count == 3) & !json {
         show_file(2, TEXT);
         return;

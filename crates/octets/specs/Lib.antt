@@ -1,3 +1,4 @@
 pub mod Chars
 pub mod Names
 pub mod Filled
+pub mod Part

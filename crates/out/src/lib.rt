@@ -65,7 +65,7 @@ pub fn put_one(text: &mut [u8; 4096], waiting: usize, style: u8, x: u8) -> usize
 pub fn put_right(text: &mut [u8; 4096], waiting: usize, n: u64, width: usize) -> usize {
     let mut digits = [0u8; 20];
     let k = io::decimal(n, &mut digits);
-    let spaces = window::front(b"                                ", gap(width, k));
+    let spaces = octets::front(b"                                ", gap(width, k));
     let w = put_all(text, waiting, TEXT, spaces);
     put_all(text, w, TEXT, &digits[..k])
 }
@@ -120,5 +120,5 @@ pub fn write_out(fd: i32, text: &[u8; 4096], waiting: usize) -> bool {
     if 4096 < waiting {
         return false;
     }
-    io::write_all(fd, window::front(text, waiting))
+    io::write_all(fd, octets::front(text, waiting))
 }

@@ -20,6 +20,13 @@ pub fn fail(command: &[u8], what: &[u8]) {
     os::fail(what);
 }
 
+// Is an argument this word?
+pub fn is_word(argument: usize, word: &[u8]) -> bool {
+    let mut held = [0u8; 16];
+    let n = os::arg(argument, &mut held);
+    check::same(&held[..n], word)
+}
+
 // Opens the file that an argument names, and answers a descriptor, or -1.
 pub fn open(command: &[u8], argument: usize) -> i32 {
     let mut path = io::buffer();
@@ -91,7 +98,7 @@ fn profile_of_text(command: &[u8], s: &[u8]) -> Profile {
 // The same of the first n octets of text, if that is not all of it: a text that fills the buffer may go on.
 fn profile_of_front(command: &[u8], text: &[u8], n: usize) -> Profile {
     if n < text.len() {
-        return profile_of_text(command, window::front(text, n));
+        return profile_of_text(command, octets::front(text, n));
     }
     say(
         b"%a: the profile has more than 4,095 octets\n",

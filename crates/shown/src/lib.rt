@@ -47,7 +47,7 @@ fn put_front(
     n: usize,
 ) -> usize {
     let a = parts::put_head(text, waiting, style, v, &imsi);
-    parts::put_name(text, a, style, v, window::front(&apn, shown(style, n)))
+    parts::put_name(text, a, style, v, octets::front(&apn, shown(style, n)))
 }
 
 // From the opening time on.
@@ -62,7 +62,7 @@ fn put_back(
 ) -> usize {
     let time = octets_of(opening);
     let a = parts::put_opening(text, waiting, style, v, &time);
-    parts::put_id(text, a, style, v, window::front(&id, shown(style, n)))
+    parts::put_id(text, a, style, v, octets::front(&id, shown(style, n)))
 }
 
 // The nine octets of a time.

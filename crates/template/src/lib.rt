@@ -266,7 +266,7 @@ fn put_plain(text: &mut [u8; 4096], waiting: usize, letter: u8, n: u64) -> usize
         text,
         waiting,
         PLAIN,
-        window::part(&octets, first(letter), 8),
+        octets::part(&octets, first(letter), 8),
     )
 }
 

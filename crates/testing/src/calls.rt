@@ -96,7 +96,7 @@ fn say_large(s: State, room: usize, length: usize) {
 // The event of a call.
 fn event_of(p: Place, length: usize, held: &[u8; 4096]) -> &[u8] {
     let a = wrapping_add_usize(p.at, 4);
-    window::part(held, a, wrapping_add_usize(a, length))
+    octets::part(held, a, wrapping_add_usize(a, length))
 }
 
 // What a call answered and wrote, if there was one.
@@ -106,7 +106,7 @@ fn told(s: State, answer: u8, written: usize, out: &[u8; 20000]) -> State {
     }
     let p = s.place;
     let place = window::after(p, wrapping_add_usize(s.length, 4));
-    let going = write_line(answer, written, window::front(out, written));
+    let going = write_line(answer, written, octets::front(out, written));
     if !going {
         setup::fail(b"calls", b"standard output");
     }

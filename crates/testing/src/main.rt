@@ -33,27 +33,20 @@ fn lent(buffer: &mut [u8], n: usize) -> &mut [u8] {
     buffer
 }
 
-// Is an argument this word?
-fn is_word(argument: usize, word: &[u8]) -> bool {
-    let mut held = [0u8; 16];
-    let n = os::arg(argument, &mut held);
-    check::same(&held[..n], word)
-}
-
 fn main() {
-    if is_word(1, b"calls") {
+    if setup::is_word(1, b"calls") {
         calls::main();
         return;
     }
-    if is_word(1, b"records") {
+    if setup::is_word(1, b"records") {
         records::main();
         return;
     }
-    if is_word(1, b"pace") {
+    if setup::is_word(1, b"pace") {
         pace::main();
         return;
     }
-    if is_word(1, b"all") {
+    if setup::is_word(1, b"all") {
         all();
         return;
     }

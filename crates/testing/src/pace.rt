@@ -28,7 +28,7 @@ fn around(at: usize, end: usize) -> usize
 
 // The place after the event at a place.
 fn after_event(s: &[u8], at: usize) -> usize {
-    let n = framing::next_length(window::part(s, at, s.len()));
+    let n = framing::next_length(octets::part(s, at, s.len()));
     wrapping_add_usize(at, n)
 }
 
@@ -45,7 +45,7 @@ fn run_events(profile: Profile, s: &[u8]) -> u64 {
             node = setup::node_of(profile);
         }
         at = after_event(s, from);
-        let r = node::step::step(node, window::part(s, from, at), &mut out);
+        let r = node::step::step(node, octets::part(s, from, at), &mut out);
         node = r.node;
         sum = wrapping_add_u64(sum, r.written as u64);
         calls -= 1;
@@ -61,9 +61,9 @@ fn next(e: Entry) -> usize {
 // The octets of the record in an entry; none where none was found.
 fn record_in(s: &[u8], e: Entry) -> &[u8] {
     if let Entry::Found(a, b) = e {
-        return window::part(s, a, b);
+        return octets::part(s, a, b);
     }
-    window::front(s, 0)
+    octets::front(s, 0)
 }
 
 // The records of a list read one after another, from the first on again after the last. Answers how many containers they have.
@@ -162,7 +162,7 @@ fn load(argument: usize, held: &mut [u8; 65536]) -> usize {
 }
 
 fn in_file(held: &[u8; 65536], n: usize) -> &[u8] {
-    window::front(held, n)
+    octets::front(held, n)
 }
 
 fn pace_step(profile: Profile) {

@@ -7,12 +7,12 @@
 // A block is the plain form of a record, every field at a fixed place (docs/FORMATS.md).
 pub mod block;
 
-use crate::is_word;
 use crate::lent;
 use libc::STDERR_FILENO;
 use libc::STDIN_FILENO;
 use libc::STDOUT_FILENO;
 use out::PLAIN;
+use setup::is_word;
 use template::four;
 
 // What is to be done with standard input.
@@ -37,7 +37,7 @@ fn write_block(b: &[u8], back: bool) {
     }
     let mut out = [0u8; 1024];
     let w = scdr::write::write_record(block::record_of(b), &mut out);
-    written(w.answer, window::front(&out, w.n), back);
+    written(w.answer, octets::front(&out, w.n), back);
 }
 
 // The octets of a record, or none and the number of the refusal; what they are read as, and the access point name where it lies in them.
@@ -101,7 +101,7 @@ fn take_record(b: &mut [u8], n: usize) -> bool {
 }
 
 fn read_front(s: &[u8], n: usize) {
-    read_one(window::front(s, n));
+    read_one(octets::front(s, n));
 }
 
 // Does one task, and answers whether to go on.

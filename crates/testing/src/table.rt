@@ -11,13 +11,13 @@ fn row(form: &[u8], n: u64, octets: &[u8]) {
 fn integer(v: u64) {
     let r = ber::int::int_octets(v);
     let octets = r.octets;
-    row(b"integer %k ->%_\n", v, window::front(&octets, r.n));
+    row(b"integer %k ->%_\n", v, octets::front(&octets, r.n));
 }
 
 fn length(n: usize) {
     let r = ber::length::len_octets(n);
     let octets = r.octets;
-    row(b"length %k ->%_\n", n as u64, window::front(&octets, r.n));
+    row(b"length %k ->%_\n", n as u64, octets::front(&octets, r.n));
 }
 
 // The offset of a zone is minutes from universal time plus 720.
@@ -28,7 +28,7 @@ fn time(form: &[u8], seconds: u32, zone: u16) {
 }
 
 fn imsi(form: &[u8], s: &[u8]) {
-    row(form, 0, window::front(s, ber::imsi::imsi_size(s)));
+    row(form, 0, octets::front(s, ber::imsi::imsi_size(s)));
 }
 
 pub fn write_rows() {

@@ -1,4 +1,3 @@
-pub mod Part
 pub mod Moved
 pub mod Fill
 pub mod Private

@@ -5,8 +5,6 @@ use std::num::wrapping_add_u64;
 use std::num::wrapping_add_usize;
 ghost use mathlib.Core.Path.{_≡_};
 ghost use Prim.Native.Nat.{_+_, _-_, _%_, _^_};
-ghost use lib.ListN.{take};
-ghost use Rattle.window.specs.Part.{partOf};
 ghost use Rattle.window.specs.Moved.{Moves};
 ghost use Rattle.window.specs.Fill.{Fills};
 ghost use Rattle.window.specs.Private.Again.{againOf};
@@ -40,29 +38,6 @@ pub fn left(p: Place) -> usize
         return p.end - p.at;
     }
     0
-}
-
-// The octets of s from one place to another; none where that is no part of s.
-pub fn part(s: &[u8], a: usize, b: usize) -> &[u8]
-    ensures { λ r. ⌜ now r ≡ partOf a b (now (s .entry)) ⌝ }
-{
-    if b < a {
-        return &s[..0];
-    }
-    if s.len() < b {
-        return &s[..0];
-    }
-    &s[a..b]
-}
-
-// The first n octets of s; all where there are fewer.
-pub fn front(s: &[u8], n: usize) -> &[u8]
-    ensures { λ r. ⌜ now r ≡ take n (now (s .entry)) ⌝ }
-{
-    if n < s.len() {
-        return &s[..n];
-    }
-    s
 }
 
 // The place n octets on.

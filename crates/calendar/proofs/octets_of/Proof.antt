@@ -28,5 +28,6 @@ returns c =
 pub octets-of-spec : {M : Type 1} → statement M
 octets-of-spec =
     tie.close
-    (tie.spec (search needs) (search needs) (search needs) (search needs) (search needs) (search needs) (search needs)
-    (search needs) (search needs) (search needs) to-bcd-requires-7 (search needs) returns)
+    (tie.spec (λ c. search needs) (λ c. search needs) (λ c. search needs) (λ c. search needs) (λ c. search needs)
+    (λ c. search needs) (λ c. search needs) (λ c. search needs) (λ c. search needs) (λ c. search needs)
+    to-bcd-requires-7 (λ c. search needs) returns)

@@ -35,4 +35,4 @@ returns-2 c =
     stamped-yes t (inside e) (form-of t (d .month) (d .place) refl (c .octets-of .ensures))
 
 pub stamp-octets-spec : {M : Type 1} → statement M
-stamp-octets-spec = tie.close (tie.spec (search needs) returns date-of-requires octets-of-requires returns-2)
+stamp-octets-spec = tie.close (tie.spec (λ c. search needs) returns date-of-requires octets-of-requires returns-2)

@@ -126,7 +126,8 @@ returns-7 c =
 pub stamp-of-spec : {M : Type 1} → statement M
 stamp-of-spec =
     tie.close
-    (tie.spec returns (search needs) (search needs) (search needs) returns-2 (search needs) (search needs)
-    (search needs) (search needs) returns-3 (search needs) (search needs) (search needs) (search needs) returns-4
-    (search needs) (search needs) (search needs) (search needs) (search needs) (search needs) (search needs)
-    (search needs) returns-5 octets-of-requires (search needs) (search needs) returns-6 returns-7)
+    (tie.spec returns (λ c. search needs) (λ c. search needs) (λ c. search needs) returns-2 (λ c. search needs)
+    (λ c. search needs) (λ c. search needs) (λ c. search needs) returns-3 (λ c. search needs) (λ c. search needs)
+    (λ c. search needs) (λ c. search needs) returns-4 (λ c. search needs) (λ c. search needs) (λ c. search needs)
+    (λ c. search needs) (λ c. search needs) (λ c. search needs) (λ c. search needs) (λ c. search needs) returns-5
+    octets-of-requires (λ c. search needs) (λ c. search needs) returns-6 returns-7)

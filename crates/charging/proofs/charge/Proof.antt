@@ -136,7 +136,7 @@ returns-2 c = going-end (c .before .before .loop .inv) (sym (c .before .is-ready
 pub charge-spec : {M : Type 1} → statement M
 charge-spec =
     tie.close
-    (tie.spec Inv-loop μ-loop loop-holds sub-is-ready sub-is-ready-2 is-ready-requires sub-next-length (search needs)
-    (search needs) next-length-requires add-end add-full sub-step (search needs) part-step-end sub-step-2
-    (search needs) part-step-end-2 step-requires same-length returns add-events add-written loop-less loop-again
-    same-length-2 returns-2)
+    (tie.spec Inv-loop μ-loop loop-holds sub-is-ready sub-is-ready-2 is-ready-requires sub-next-length
+    (λ c. search needs) (λ c. search needs) next-length-requires add-end add-full sub-step (λ c. search needs)
+    part-step-end sub-step-2 (λ c. search needs) part-step-end-2 step-requires same-length returns add-events
+    add-written loop-less loop-again same-length-2 returns-2)

@@ -56,4 +56,5 @@ returns-6 c =
 pub decode-spec : {M : Type 1} → statement M
 decode-spec =
     tie.close
-    (tie.spec returns (search needs) returns-2 (search needs) returns-3 returns-4 returns-5 (search needs) returns-6)
+    (tie.spec returns (λ c. search needs) returns-2 (λ c. search needs) returns-3 returns-4 returns-5
+    (λ c. search needs) returns-6)

@@ -8,5 +8,5 @@ use Rattle.octets.proofs.octet.Tie as tie
 pub octet-spec : {M : Type 1} → statement M
 octet-spec =
     tie.close
-    (tie.spec
-    (λ c. search needs) (λ c. search needs) (λ c. sym (List·getD-eq-default (c .before .args .s .now) 0 (c .if1 .left))))
+    (tie.spec (λ c. search needs) (λ c. search needs)
+    (λ c. sym (List·getD-eq-default (c .before .args .s .now) 0 (c .if1 .left))))

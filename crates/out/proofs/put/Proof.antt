@@ -31,4 +31,7 @@ returns-4 c =
     record { wrote = true; is = rw (le-ltb w 4096 (i .before .if1 .left), le-ltb 4096 w (i .if2 .left)) }
 
 pub put-spec : {M : Type 1} → statement M
-put-spec = tie.close (tie.spec (search needs) (search needs) returns returns-2 (search needs) returns-3 (search needs) returns-4)
+put-spec =
+    tie.close
+    (tie.spec (λ c. search needs) (λ c. search needs) returns returns-2 (λ c. search needs) returns-3
+    (λ c. search needs) returns-4)

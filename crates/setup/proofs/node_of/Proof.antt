@@ -10,4 +10,4 @@ returns : tie.Need-returns
 returns c = ap (λ (m : ℕ × Node). m .1) (c .before .fresh .ensures .is)
 
 pub node-of-spec : {M : Type 1} → statement M
-node-of-spec = tie.close (tie.spec (search needs) returns)
+node-of-spec = tie.close (tie.spec (λ c. search needs) returns)

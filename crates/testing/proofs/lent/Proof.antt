@@ -12,4 +12,4 @@ slice-aggregate-result c =
     sym (length-take-le (a .n) (a .buffer .now) (le-of-lt (c .before .if1 .taken)))
 
 pub lent-spec : {M : Type 1} → statement M
-lent-spec = tie.close (tie.spec slice-aggregate-result (search needs) (search needs))
+lent-spec = tie.close (tie.spec slice-aggregate-result (λ c. search needs) (λ c. search needs))

@@ -62,7 +62,7 @@ fn containers_of(b: &[u8]) -> [Container; 15] {
     let mut v = [container::one::no_container(); 15];
     let mut i: usize = 0;
     while i < 15 {
-        v[i] = container_of(window::part(b, 129 + 28 * i, 157 + 28 * i));
+        v[i] = container_of(octets::part(b, 129 + 28 * i, 157 + 28 * i));
         i += 1;
     }
     v

@@ -25,4 +25,5 @@ unfolding againOf
 returns-3 c = let a = c .before .args in rw (le-ltb (a .from) (length (a .window .now)) (c .if1 .left))
 
 pub again-spec : {M : Type 1} → statement M
-again-spec = tie.close (tie.spec (search needs) (search needs) (search needs) returns returns-2 returns-3)
+again-spec =
+    tie.close (tie.spec (λ c. search needs) (λ c. search needs) (λ c. search needs) returns returns-2 returns-3)

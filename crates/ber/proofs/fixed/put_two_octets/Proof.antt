@@ -13,4 +13,5 @@ returns c = c .before .before .put-all .ensures
 pub put-two-octets-spec : {M : Type 1} → statement M
 put-two-octets-spec =
     tie.close
-    (tie.spec (search needs) (search needs) (search needs) (search needs) (search needs) returns)
+    (tie.spec (λ c. search needs) (λ c. search needs) (λ c. search needs) (λ c. search needs) (λ c. search needs)
+    returns)

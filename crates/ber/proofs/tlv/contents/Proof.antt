@@ -26,5 +26,5 @@ returns-2 c = let e = c .before .if1 .left in record { place = rw e; octets = rw
 pub contents-spec : {M : Type 1} → statement M
 contents-spec =
     tie.close
-    (tie.spec sub-result part-result-start part-result-end returns (search needs) (search needs) (search needs)
-    returns-2)
+    (tie.spec sub-result part-result-start part-result-end returns (λ c. search needs) (λ c. search needs)
+    (λ c. search needs) returns-2)

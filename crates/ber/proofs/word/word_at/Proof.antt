@@ -24,4 +24,4 @@ returns-2 c =
     (le-ltb (c .before .int-at .result .v) (2 ^ 32) (c .if1 .left))
 
 pub word-at-spec : {M : Type 1} → statement M
-word-at-spec = tie.close (tie.spec (search needs) (search needs) returns returns-2)
+word-at-spec = tie.close (tie.spec (λ c. search needs) (λ c. search needs) returns returns-2)

@@ -28,4 +28,5 @@ returns c = dated (c .before .before .before .before .before .args .day) _ _ (se
 pub date-of-spec : {M : Type 1} → statement M
 date-of-spec =
     tie.close
-    (tie.spec (search needs) place-of-requires (search needs) (search needs) (search needs) sub-t11 returns)
+    (tie.spec (λ c. search needs) place-of-requires (λ c. search needs) (λ c. search needs) (λ c. search needs)
+    sub-t11 returns)

@@ -37,4 +37,5 @@ returns-2 c =
 pub days-of-spec : {M : Type 1} → statement M
 days-of-spec =
     tie.close
-    (tie.spec (search needs) (search needs) returns (search needs) (search needs) sub-t11 returns-2)
+    (tie.spec (λ c. search needs) (λ c. search needs) returns (λ c. search needs) (λ c. search needs) sub-t11
+    returns-2)

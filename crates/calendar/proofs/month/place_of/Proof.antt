@@ -49,5 +49,5 @@ returns-2 c =
 pub place-of-spec : {M : Type 1} → statement M
 place-of-spec =
     tie.close
-    (tie.spec Inv-loop μ-loop (search needs) sub-month loop-holds (search needs) (search needs) returns (search needs)
-    (search needs) loop-again returns-2)
+    (tie.spec Inv-loop μ-loop (λ c. search needs) sub-month loop-holds (λ c. search needs) (λ c. search needs) returns
+    (λ c. search needs) (λ c. search needs) loop-again returns-2)

@@ -12,4 +12,4 @@ returns-2 : tie.Need-returns-2
 returns-2 c = simp (lt-ltb (c .before .args .zone) 720 (omega arith))
 
 pub away-of-spec : {M : Type 1} → statement M
-away-of-spec = tie.close (tie.spec (search needs) returns (search needs) returns-2)
+away-of-spec = tie.close (tie.spec (λ c. search needs) returns (λ c. search needs) returns-2)

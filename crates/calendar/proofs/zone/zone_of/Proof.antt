@@ -17,5 +17,5 @@ returns-3 c = simp (eq-eqb _ _ (c .before .if1 .left)) (omega arith)
 pub zone-of-spec : {M : Type 1} → statement M
 zone-of-spec =
     tie.close
-    (tie.spec (search needs) (search needs) (search needs) (search needs) (search needs) (search needs) returns
-    returns-2 (search needs) returns-3)
+    (tie.spec (λ c. search needs) (λ c. search needs) (λ c. search needs) (λ c. search needs) (λ c. search needs)
+    (λ c. search needs) returns returns-2 (λ c. search needs) returns-3)

@@ -22,4 +22,6 @@ returns-2 c =
     (lists-bad (part .part-at .ensures) (omega arith) (contents .contents .ensures .octets) (list .list-of .ensures) (none .if1 .left))
 
 pub list-at-spec : {M : Type 1} → statement M
-list-at-spec = tie.close (tie.spec (search needs) (search needs) (search needs) returns (search needs) returns-2)
+list-at-spec =
+    tie.close
+    (tie.spec (λ c. search needs) (λ c. search needs) (λ c. search needs) returns (λ c. search needs) returns-2)

@@ -10,4 +10,4 @@ unfolding noContainers
 returns c = (refl, rw (c .no-container .ensures), refl)
 
 pub no-list-spec : {M : Type 1} → statement M
-no-list-spec = tie.close (tie.spec (search needs) returns)
+no-list-spec = tie.close (tie.spec (λ c. search needs) returns)

@@ -41,5 +41,5 @@ returns-2 c = held-end (c .before .before .before .loop .inv) (c .before .before
 pub held-ok-spec : {M : Type 1} → statement M
 held-ok-spec =
     tie.close
-    (tie.spec Inv-loop μ-loop loop-holds (search needs) (search needs) array-copy-out-c (search needs) returns
-    (search needs) (search needs) loop-again returns-2)
+    (tie.spec Inv-loop μ-loop loop-holds (λ c. search needs) (λ c. search needs) array-copy-out-c (λ c. search needs)
+    returns (λ c. search needs) (λ c. search needs) loop-again returns-2)

@@ -42,5 +42,5 @@ returns-2 c =
 pub left-after-spec : {M : Type 1} → statement M
 left-after-spec =
     tie.close
-    (tie.spec Inv-loop μ-loop loop-holds returns (search needs) (search needs) (search needs) (search needs)
-    (search needs) (search needs) loop-again returns-2)
+    (tie.spec Inv-loop μ-loop loop-holds returns (λ c. search needs) (λ c. search needs) (λ c. search needs)
+    (λ c. search needs) (λ c. search needs) (λ c. search needs) loop-again returns-2)

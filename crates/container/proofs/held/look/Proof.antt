@@ -19,4 +19,6 @@ unfolding looked
 returns-2 c = rw (c .before .if1 .left, c .is-blank .ensures)
 
 pub look-spec : {M : Type 1} → statement M
-look-spec = tie.close (tie.spec (search needs) (search needs) (search needs) returns (search needs) returns-2)
+look-spec =
+    tie.close
+    (tie.spec (λ c. search needs) (λ c. search needs) (λ c. search needs) returns (λ c. search needs) returns-2)

@@ -15,4 +15,4 @@ returns c =
     (c .before .before .before .before .container-ok .ensures) (c .before .before .before .changes .ensures)
 
 pub precedes-spec : {M : Type 1} → statement M
-precedes-spec = tie.close (tie.spec (search needs) (search needs) returns)
+precedes-spec = tie.close (tie.spec (λ c. search needs) (λ c. search needs) returns)

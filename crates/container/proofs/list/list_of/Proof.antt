@@ -54,6 +54,6 @@ returns-4 c =
 pub list-of-spec : {M : Type 1} → statement M
 list-of-spec =
     tie.close
-    (tie.spec Inv-loop μ-loop (search needs) loop-holds (search needs) returns (search needs) (search needs)
-    (search needs) (search needs) (search needs) loop-again (search needs) returns-2 (search needs) returns-3
-    returns-4)
+    (tie.spec Inv-loop μ-loop (λ c. search needs) loop-holds (λ c. search needs) returns (λ c. search needs)
+    (λ c. search needs) (λ c. search needs) (λ c. search needs) (λ c. search needs) loop-again (λ c. search needs)
+    returns-2 (λ c. search needs) returns-3 returns-4)

@@ -120,6 +120,7 @@ returns-4 c =
 pub put-list-spec : {M : Type 1} → statement M
 put-list-spec =
     tie.close
-    (tie.spec Inv-loop μ-loop returns returns-2 (search needs) loop-holds (search needs) (search needs) (search needs)
-    (search needs) (search needs) (search needs) returns-3 add-end (search needs) (search needs) loop-again
-    array-share-prefix-list slice-aggregate-put-tlv (search needs) (search needs) returns-4)
+    (tie.spec Inv-loop μ-loop returns returns-2 (λ c. search needs) loop-holds (λ c. search needs) (λ c. search needs)
+    (λ c. search needs) (λ c. search needs) (λ c. search needs) (λ c. search needs) returns-3 add-end
+    (λ c. search needs) (λ c. search needs) loop-again array-share-prefix-list slice-aggregate-put-tlv
+    (λ c. search needs) (λ c. search needs) returns-4)

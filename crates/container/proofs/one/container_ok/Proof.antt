@@ -16,4 +16,4 @@ returns c =
     (c .before .before .before .before .qos-ok .ensures) (c .before .before .before .stamp-within .ensures)
 
 pub container-ok-spec : {M : Type 1} → statement M
-container-ok-spec = tie.close (tie.spec (search needs) (search needs) returns)
+container-ok-spec = tie.close (tie.spec (λ c. search needs) (λ c. search needs) returns)

@@ -14,4 +14,4 @@ returns-2 c =
     c .same-qos .ensures ∙ told-same (a .last) (a .c) (sym (c .before .before .before .before .is-new .ensures) ∙ c .before .before .before .if1 .left)
 
 pub is-told-spec : {M : Type 1} → statement M
-is-told-spec = tie.close (tie.spec (search needs) returns (search needs) returns-2)
+is-told-spec = tie.close (tie.spec (λ c. search needs) returns (λ c. search needs) returns-2)

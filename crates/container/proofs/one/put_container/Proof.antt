@@ -54,5 +54,5 @@ returns-3 c =
 pub put-container-spec : {M : Type 1} → statement M
 put-container-spec =
     tie.close
-    (tie.spec (search needs) returns (search needs) returns-2 (search needs) put-fields-requires array-share-prefix-b
-    slice-aggregate-put-tlv (search needs) (search needs) returns-3)
+    (tie.spec (λ c. search needs) returns (λ c. search needs) returns-2 (λ c. search needs) put-fields-requires
+    array-share-prefix-b slice-aggregate-put-tlv (λ c. search needs) (λ c. search needs) returns-3)

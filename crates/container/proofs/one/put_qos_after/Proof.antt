@@ -18,4 +18,5 @@ returns-2 c =
     puts-is (form-none (a .last) (a .q) (sym (c .before .is-new .ensures) ∙ c .if1 .left)) nothing-front
 
 pub put-qos-after-spec : {M : Type 1} → statement M
-put-qos-after-spec = tie.close (tie.spec (search needs) (search needs) (search needs) returns returns-2)
+put-qos-after-spec =
+    tie.close (tie.spec (λ c. search needs) (λ c. search needs) (λ c. search needs) returns returns-2)

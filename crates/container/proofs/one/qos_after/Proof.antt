@@ -12,4 +12,4 @@ returns-2 : tie.Need-returns-2
 returns-2 c = qos-told (c .before .before .before .before .args .last) (sym (c .before .before .is-new .ensures) ∙ c .before .if1 .left) refl refl
 
 pub qos-after-spec : {M : Type 1} → statement M
-qos-after-spec = tie.close (tie.spec (search needs) (search needs) returns returns-2)
+qos-after-spec = tie.close (tie.spec (λ c. search needs) (λ c. search needs) returns returns-2)

@@ -35,5 +35,5 @@ returns-2 c =
 pub put-qos-spec : {M : Type 1} → statement M
 put-qos-spec =
     tie.close
-    (tie.spec (search needs) returns (search needs) put-fields-requires array-share-prefix-b slice-aggregate-put-tlv (search needs)
-    (search needs) returns-2)
+    (tie.spec (λ c. search needs) returns (λ c. search needs) put-fields-requires array-share-prefix-b
+    slice-aggregate-put-tlv (λ c. search needs) (λ c. search needs) returns-2)

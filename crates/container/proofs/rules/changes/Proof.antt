@@ -12,4 +12,4 @@ returns c =
     c .alike .ensures ∙ ap (λ (x : Bool). Bool·beq (not x) (eqb (a .condition) 0)) (c .before .before .same-qos .ensures)
 
 pub changes-spec : {M : Type 1} → statement M
-changes-spec = tie.close (tie.spec (search needs) (search needs) returns)
+changes-spec = tie.close (tie.spec (λ c. search needs) (λ c. search needs) returns)

@@ -12,4 +12,4 @@ unfolding follows
 returns c = ap (λ (x : Bool). ltb (c .before .before .before .args .c .condition) 2 && x) (c .before .changes .ensures)
 
 pub follows-spec : {M : Type 1} → statement M
-follows-spec = tie.close (tie.spec (search needs) returns)
+follows-spec = tie.close (tie.spec (λ c. search needs) returns)

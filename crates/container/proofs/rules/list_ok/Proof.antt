@@ -54,6 +54,6 @@ returns-4 c =
 pub list-ok-spec : {M : Type 1} → statement M
 list-ok-spec =
     tie.close
-    (tie.spec Inv-loop μ-loop returns returns-2 loop-holds (search needs) (search needs) (search needs) (search needs)
-    (search needs) (search needs) (search needs) returns-3 (search needs) (search needs) loop-again (search needs)
-    (search needs) (search needs) returns-4)
+    (tie.spec Inv-loop μ-loop returns returns-2 loop-holds (λ c. search needs) (λ c. search needs) (λ c. search needs)
+    (λ c. search needs) (λ c. search needs) (λ c. search needs) (λ c. search needs) returns-3 (λ c. search needs)
+    (λ c. search needs) loop-again (λ c. search needs) (λ c. search needs) (λ c. search needs) returns-4)

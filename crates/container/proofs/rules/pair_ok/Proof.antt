@@ -9,4 +9,4 @@ returns : tie.Need-returns
 returns c = ap₂ (λ (x y : Bool). x && y) (c .before .stands .ensures) (c .follows .ensures)
 
 pub pair-ok-spec : {M : Type 1} → statement M
-pair-ok-spec = tie.close (tie.spec (search needs) (search needs) returns)
+pair-ok-spec = tie.close (tie.spec (λ c. search needs) (λ c. search needs) returns)

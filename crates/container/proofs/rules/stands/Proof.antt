@@ -14,4 +14,4 @@ returns c =
     ap (λ (x : Bool). x && eqb (a .c .time .zone) (a .zone) && leb (a .from) (a .c .time .seconds)) (c .before .before .container-ok .ensures)
 
 pub stands-spec : {M : Type 1} → statement M
-stands-spec = tie.close (tie.spec (search needs) returns)
+stands-spec = tie.close (tie.spec (λ c. search needs) returns)

@@ -29,4 +29,4 @@ returns-2 c =
 pub put-stamp-spec : {M : Type 1} → statement M
 put-stamp-spec =
     tie.close
-    (tie.spec (search needs) returns slice-aggregate-put-tlv (search needs) (search needs) returns-2)
+    (tie.spec (λ c. search needs) returns slice-aggregate-put-tlv (λ c. search needs) (λ c. search needs) returns-2)

@@ -32,4 +32,5 @@ returns-2 c =
 pub stamp-at-spec : {M : Type 1} → statement M
 stamp-at-spec =
     tie.close
-    (tie.spec (search needs) (search needs) (search needs) (search needs) (search needs) returns returns-2)
+    (tie.spec (λ c. search needs) (λ c. search needs) (λ c. search needs) (λ c. search needs) (λ c. search needs)
+    returns returns-2)

@@ -18,4 +18,4 @@ returns c =
     ∙ ap (λ (q : Qos). sameQos (a .qos) q) (c .before .before .before .before .before .before .no-qos .ensures))
 
 pub is-blank-spec : {M : Type 1} → statement M
-is-blank-spec = tie.close (tie.spec (search needs) (search needs) returns)
+is-blank-spec = tie.close (tie.spec (λ c. search needs) (λ c. search needs) returns)

@@ -65,6 +65,6 @@ returns-2 c =
 pub all-distinct-spec : {M : Type 1} → statement M
 all-distinct-spec =
     tie.close
-    (tie.spec Inv-loop2 μ-loop2 Inv-loop μ-loop loop-holds (search needs) (search needs) (search needs) loop2-holds
-    (search needs) (search needs) (search needs) returns (search needs) (search needs) loop2-again (search needs)
-    (search needs) loop-again returns-2)
+    (tie.spec Inv-loop2 μ-loop2 Inv-loop μ-loop loop-holds (λ c. search needs) (λ c. search needs) (λ c. search needs)
+    loop2-holds (λ c. search needs) (λ c. search needs) (λ c. search needs) returns (λ c. search needs)
+    (λ c. search needs) loop2-again (λ c. search needs) (λ c. search needs) loop-again returns-2)

@@ -9,4 +9,4 @@ unfolding isActive bears
 returns c = rw (c .before .same-name .ensures)
 
 pub bears-spec : {M : Type 1} → statement M
-bears-spec = tie.close (tie.spec (search needs) returns)
+bears-spec = tie.close (tie.spec (λ c. search needs) returns)

@@ -10,4 +10,4 @@ unfolding isActive clash
 returns c = rw (c .before .bears .ensures)
 
 pub clash-spec : {M : Type 1} → statement M
-clash-spec = tie.close (tie.spec (search needs) returns)
+clash-spec = tie.close (tie.spec (λ c. search needs) returns)

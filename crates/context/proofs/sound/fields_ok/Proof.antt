@@ -19,4 +19,4 @@ returns c =
     rw (ap (λ (n : ℕ). not (eqb n 0)) (t .imsi-size .ensures) ∙ imsi-room (t .before .before .before .before .args .c .imsi), c .before .apn-ok .ensures)
 
 pub fields-ok-spec : {M : Type 1} → statement M
-fields-ok-spec = tie.close (tie.spec slice-aggregate-imsi-size (search needs) (search needs) returns)
+fields-ok-spec = tie.close (tie.spec slice-aggregate-imsi-size (λ c. search needs) (λ c. search needs) returns)

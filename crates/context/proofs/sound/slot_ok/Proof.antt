@@ -15,4 +15,4 @@ returns-2 c =
     rw (slot-free (a .limits) (a .zone) (a .clock) (a .accepted) (a .c) (c .before .if1 .left)) (c .zero-ok .ensures)
 
 pub slot-ok-spec : {M : Type 1} → statement M
-slot-ok-spec = tie.close (tie.spec (search needs) returns (search needs) returns-2)
+slot-ok-spec = tie.close (tie.spec (λ c. search needs) returns (λ c. search needs) returns-2)

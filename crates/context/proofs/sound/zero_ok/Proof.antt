@@ -19,4 +19,5 @@ returns c =
 pub zero-ok-spec : {M : Type 1} → statement M
 zero-ok-spec =
     tie.close
-    (tie.spec slice-aggregate-zeros (search needs) slice-aggregate-zeros-2 (search needs) (search needs) returns)
+    (tie.spec slice-aggregate-zeros (λ c. search needs) slice-aggregate-zeros-2 (λ c. search needs)
+    (λ c. search needs) returns)

@@ -42,5 +42,5 @@ returns-2 c =
 pub read-entry-spec : {M : Type 1} → statement M
 read-entry-spec =
     tie.close
-    (tie.spec (search needs) (search needs) (search needs) (search needs) returns sub-with-record
-    part-with-record-start part-with-record-end (search needs) returns-2)
+    (tie.spec (λ c. search needs) (λ c. search needs) (λ c. search needs) (λ c. search needs) returns sub-with-record
+    part-with-record-start part-with-record-end (λ c. search needs) returns-2)

@@ -32,5 +32,5 @@ returns-5 c =
 pub entry-at-spec : {M : Type 1} → statement M
 entry-at-spec =
     tie.close
-    (tie.spec returns (search needs) returns-2 (search needs) returns-3 (search needs) returns-4 (search needs)
-    (search needs) returns-5)
+    (tie.spec returns (λ c. search needs) returns-2 (λ c. search needs) returns-3 (λ c. search needs) returns-4
+    (λ c. search needs) (λ c. search needs) returns-5)

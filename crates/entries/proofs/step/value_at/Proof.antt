@@ -64,5 +64,6 @@ returns-7 c =
 pub value-at-spec : {M : Type 1} → statement M
 value-at-spec =
     tie.close
-    (tie.spec returns (search needs) (search needs) returns-2 (search needs) (search needs) (search needs)
-    (search needs) (search needs) returns-3 returns-4 sub-if4 (search needs) returns-5 returns-6 returns-7)
+    (tie.spec returns (λ c. search needs) (λ c. search needs) returns-2 (λ c. search needs) (λ c. search needs)
+    (λ c. search needs) (λ c. search needs) (λ c. search needs) returns-3 returns-4 sub-if4 (λ c. search needs)
+    returns-5 returns-6 returns-7)

@@ -9,4 +9,4 @@ unfolding marked
 returns c = rw (c .before .octet .ensures, c .octet2 .ensures)
 
 pub is-marked-spec : {M : Type 1} → statement M
-is-marked-spec = tie.close (tie.spec (search needs) (search needs) returns)
+is-marked-spec = tie.close (tie.spec (λ c. search needs) (λ c. search needs) returns)

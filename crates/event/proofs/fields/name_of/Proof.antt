@@ -7,4 +7,4 @@ returns : tie.Need-returns
 returns c = rw (c .before .four .ensures, c .four2 .ensures)
 
 pub name-of-spec : {M : Type 1} → statement M
-name-of-spec = tie.close (tie.spec (search needs) (search needs) returns)
+name-of-spec = tie.close (tie.spec (λ c. search needs) (λ c. search needs) returns)

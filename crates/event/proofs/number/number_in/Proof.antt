@@ -32,5 +32,5 @@ returns c = spelling-end (c .before .loop .inv) (c .loop-test .left)
 pub number-in-spec : {M : Type 1} → statement M
 number-in-spec =
     tie.close
-    (tie.spec Inv-loop μ-loop loop-holds mul-n (search needs) (search needs) (search needs) add-n (search needs)
-    (search needs) loop-again returns)
+    (tie.spec Inv-loop μ-loop loop-holds mul-n (λ c. search needs) (λ c. search needs) (λ c. search needs) add-n
+    (λ c. search needs) (λ c. search needs) loop-again returns)

@@ -7,4 +7,4 @@ returns : tie.Need-returns
 returns c = c .number-in .ensures .0
 
 pub two-spec : {M : Type 1} → statement M
-two-spec = tie.close (tie.spec (search needs) (search needs) returns)
+two-spec = tie.close (tie.spec (λ c. search needs) (λ c. search needs) returns)

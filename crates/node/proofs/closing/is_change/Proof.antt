@@ -16,4 +16,5 @@ returns-2 c =
     rw (perhaps-nothing (changeOf (a .o) (a .m)) (c .before .before .change-of .ensures) (c .enum-told2 .given .1))
 
 pub is-change-spec : {M : Type 1} → statement M
-is-change-spec = tie.close (tie.spec (λ c κs. search needs) (λ c. search needs) (λ c. search needs) returns returns-2)
+is-change-spec =
+    tie.close (tie.spec (λ c κs. search needs) (λ c. search needs) (λ c. search needs) returns returns-2)

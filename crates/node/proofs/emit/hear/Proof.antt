@@ -71,4 +71,4 @@ pub hear-spec : {M : Type 1} → statement M
 hear-spec =
     tie.close
     (tie.spec cause-of-requires (λ c. search needs) closed-by-requires put-record-requires after-closing-requires
-    (λ c. search needs) goes-on-requires (search needs) returns returns-2)
+    (λ c. search needs) goes-on-requires (λ c. search needs) returns returns-2)

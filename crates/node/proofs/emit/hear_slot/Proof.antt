@@ -22,4 +22,4 @@ returns-2 c =
     free-turns (s .args .p) (s .args .t) (s .args .m) (s .args .c) (c .if1 .left) (s .pre .1 .1)
 
 pub hear-slot-spec : {M : Type 1} → statement M
-hear-slot-spec = tie.close (tie.spec hear-requires (search needs) returns returns-2)
+hear-slot-spec = tie.close (tie.spec hear-requires (λ c. search needs) returns returns-2)

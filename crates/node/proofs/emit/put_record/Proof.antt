@@ -38,5 +38,5 @@ returns c =
 pub put-record-spec : {M : Type 1} → statement M
 put-record-spec =
     tie.close
-    (tie.spec (search needs) (search needs) sub-write-record part-write-record-start (search needs) (search needs)
-    add-result (search needs) returns)
+    (tie.spec (λ c. search needs) (λ c. search needs) sub-write-record part-write-record-start (λ c. search needs)
+    (λ c. search needs) add-result (λ c. search needs) returns)

@@ -47,4 +47,5 @@ returns-2 c =
 pub size-of-spec : {M : Type 1} → statement M
 size-of-spec =
     tie.close
-    (tie.spec cause-of-requires (λ c. search needs) closed-by-requires (λ c κs. search needs) (λ c. search needs) (λ c. search needs) returns returns-2)
+    (tie.spec cause-of-requires (λ c. search needs) closed-by-requires (λ c κs. search needs) (λ c. search needs)
+    (λ c. search needs) returns returns-2)

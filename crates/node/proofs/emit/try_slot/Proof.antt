@@ -28,4 +28,4 @@ returns-2 c =
     (c .before .before .before .hear-slot .ensures)
 
 pub try-slot-spec : {M : Type 1} → statement M
-try-slot-spec = tie.close (tie.spec slot-size-requires returns hear-slot-requires (search needs) returns-2)
+try-slot-spec = tie.close (tie.spec slot-size-requires returns hear-slot-requires (λ c. search needs) returns-2)

@@ -14,4 +14,4 @@ unfolding freshOf
 returns-2 c = record { is = rw (sym (c .before .before .profile-ok .ensures) ∙ c .before .if1 .left, c .no-node .ensures) }
 
 pub fresh-spec : {M : Type 1} → statement M
-fresh-spec = tie.close (tie.spec (search needs) (search needs) returns (search needs) returns-2)
+fresh-spec = tie.close (tie.spec (λ c. search needs) (λ c. search needs) returns (λ c. search needs) returns-2)

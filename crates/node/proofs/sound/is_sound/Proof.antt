@@ -9,4 +9,4 @@ unfolding sound
 returns c = rw (c .keeps-rules .ensures, c .before .slots-ok .ensures, c .before .before .slots-of .ensures)
 
 pub is-sound-spec : {M : Type 1} → statement M
-is-sound-spec = tie.close (tie.spec (search needs) (search needs) (search needs) returns)
+is-sound-spec = tie.close (tie.spec (λ c. search needs) (λ c. search needs) (λ c. search needs) returns)

@@ -7,4 +7,4 @@ returns : tie.Need-returns
 returns c = rw (c .before .profile-ok .ensures, c .all-distinct .ensures)
 
 pub keeps-rules-spec : {M : Type 1} → statement M
-keeps-rules-spec = tie.close (tie.spec (search needs) (search needs) returns)
+keeps-rules-spec = tie.close (tie.spec (λ c. search needs) (λ c. search needs) returns)

@@ -7,4 +7,4 @@ returns : tie.Need-returns
 returns c = rw (c .before .no-context .ensures, c .no-profile .ensures)
 
 pub no-node-spec : {M : Type 1} → statement M
-no-node-spec = tie.close (tie.spec (search needs) (search needs) returns)
+no-node-spec = tie.close (tie.spec (λ c. search needs) (λ c. search needs) returns)

@@ -41,5 +41,6 @@ returns-2 c =
 pub goes-on-spec : {M : Type 1} → statement M
 goes-on-spec =
     tie.close
-    (tie.spec (λ c κs. search needs) reported-requires (λ c. search needs) (λ c κs. search needs) (λ c κs. search needs) (λ c κs. search needs)
-    (λ c κs. search needs) (λ c. search needs) (λ c κs. search needs) returns returns-2)
+    (tie.spec (λ c κs. search needs) reported-requires (λ c. search needs) (λ c κs. search needs)
+    (λ c κs. search needs) (λ c κs. search needs) (λ c κs. search needs) (λ c. search needs) (λ c κs. search needs)
+    returns returns-2)

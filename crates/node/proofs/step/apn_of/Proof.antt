@@ -11,4 +11,5 @@ returns c = copied-apn (c .before .before .before .before .before .args .event .
 pub apn-of-spec : {M : Type 1} → statement M
 apn-of-spec =
     tie.close
-    (tie.spec (search needs) (search needs) (search needs) (search needs) (search needs) returns)
+    (tie.spec (λ c. search needs) (λ c. search needs) (λ c. search needs) (λ c. search needs) (λ c. search needs)
+    returns)

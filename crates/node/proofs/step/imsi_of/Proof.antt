@@ -14,4 +14,5 @@ returns c =
 pub imsi-of-spec : {M : Type 1} → statement M
 imsi-of-spec =
     tie.close
-    (tie.spec (search needs) (search needs) (search needs) (search needs) (search needs) returns)
+    (tie.spec (λ c. search needs) (λ c. search needs) (λ c. search needs) (λ c. search needs) (λ c. search needs)
+    returns)

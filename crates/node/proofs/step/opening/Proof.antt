@@ -27,4 +27,5 @@ returns c =
     )
 
 pub opening-spec : {M : Type 1} → statement M
-opening-spec = tie.close (tie.spec imsi-of-requires apn-of-requires shared-slice-read-flags (search needs) returns)
+opening-spec =
+    tie.close (tie.spec imsi-of-requires apn-of-requires shared-slice-read-flags (λ c. search needs) returns)

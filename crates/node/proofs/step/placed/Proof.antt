@@ -12,4 +12,6 @@ returns-2 : tie.Need-returns-2
 returns-2 c = let e = c .before .before .if1 .left in (sym e, rw e (refl, refl))
 
 pub placed-spec : {M : Type 1} → statement M
-placed-spec = tie.close (tie.spec (search needs) returns (search needs) (search needs) (search needs) returns-2)
+placed-spec =
+    tie.close
+    (tie.spec (λ c. search needs) returns (λ c. search needs) (λ c. search needs) (λ c. search needs) returns-2)

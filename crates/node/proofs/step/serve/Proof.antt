@@ -33,4 +33,5 @@ returns-2 c =
 pub serve-spec : {M : Type 1} → statement M
 serve-spec =
     tie.close
-    (tie.spec size-all-requires (search needs) returns hear-all-requires (search needs) (search needs) returns-2)
+    (tie.spec size-all-requires (λ c. search needs) returns hear-all-requires (λ c. search needs) (λ c. search needs)
+    returns-2)

@@ -124,8 +124,8 @@ returns-4 c =
 pub step-spec : {M : Type 1} → statement M
 step-spec =
     tie.close
-    (tie.spec Inv-loop μ-loop loop-holds (search needs) (search needs) (search needs) (search needs) (search needs)
-    (search needs) (search needs) loop-again (search needs) (search needs) (search needs) (search needs)
-    (search needs) mul-c-2 element-copy-out-c-2 try-slot-requires placed-requires (search needs) serve-requires
-    (search needs) opened-requires placed-requires-2 returns (search needs) returns-2 (search needs) returns-3
-    returns-4)
+    (tie.spec Inv-loop μ-loop loop-holds (λ c. search needs) (λ c. search needs) (λ c. search needs)
+    (λ c. search needs) (λ c. search needs) (λ c. search needs) (λ c. search needs) loop-again (λ c. search needs)
+    (λ c. search needs) (λ c. search needs) (λ c. search needs) (λ c. search needs) mul-c-2 element-copy-out-c-2
+    try-slot-requires placed-requires (λ c. search needs) serve-requires (λ c. search needs) opened-requires
+    placed-requires-2 returns (λ c. search needs) returns-2 (λ c. search needs) returns-3 returns-4)

@@ -50,5 +50,5 @@ returns c =
 pub size-all-spec : {M : Type 1} → statement M
 size-all-spec =
     tie.close
-    (tie.spec Inv-loop μ-loop loop-holds (search needs) (search needs) slot-size-requires add-n (search needs)
-    (search needs) loop-again returns)
+    (tie.spec Inv-loop μ-loop loop-holds (λ c. search needs) (λ c. search needs) slot-size-requires add-n
+    (λ c. search needs) (λ c. search needs) loop-again returns)

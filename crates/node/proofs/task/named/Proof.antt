@@ -14,4 +14,4 @@ unfolding namedTask
 returns-2 c = (rw (sym (c .before .before .find .ensures) ∙ c .enum-told .given .1), tt)
 
 pub named-spec : {M : Type 1} → statement M
-named-spec = tie.close (tie.spec (search needs) (search needs) (search needs) returns returns-2)
+named-spec = tie.close (tie.spec (λ c. search needs) (λ c. search needs) (λ c. search needs) returns returns-2)

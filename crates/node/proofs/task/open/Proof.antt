@@ -34,5 +34,5 @@ returns-3 c = (
 pub open-spec : {M : Type 1} → statement M
 open-spec =
     tie.close
-    (tie.spec (search needs) (search needs) returns (search needs) (search needs) (search needs) (search needs)
-    returns-2 returns-3)
+    (tie.spec (λ c. search needs) (λ c. search needs) returns (λ c. search needs) (λ c. search needs)
+    (λ c. search needs) (λ c. search needs) returns-2 returns-3)

@@ -39,4 +39,4 @@ returns-3 c =
 pub task-for-spec : {M : Type 1} → statement M
 task-for-spec =
     tie.close
-    (tie.spec returns (search needs) (search needs) (search needs) timely-requires returns-2 returns-3)
+    (tie.spec returns (λ c. search needs) (λ c. search needs) (λ c. search needs) timely-requires returns-2 returns-3)

@@ -22,4 +22,5 @@ returns-3 c = (rw (c .before .w3 .given .1), rw (c .before .w3 .given .1) at (c 
 pub task-of-spec : {M : Type 1} → statement M
 task-of-spec =
     tie.close
-    (tie.spec (λ c. search needs) (λ c κs. search needs) (λ c. search needs) named-requires (λ c. search needs) returns returns-2 returns-3)
+    (tie.spec (λ c. search needs) (λ c κs. search needs) (λ c. search needs) named-requires (λ c. search needs)
+    returns returns-2 returns-3)

@@ -28,6 +28,6 @@ loop-again c =
 pub all-chars-spec : {M : Type 1} → statement M
 all-chars-spec =
     tie.close
-    (tie.spec
-    Inv-loop μ-loop (λ c. passed-none _ _) (λ c. search needs) (λ c κs. search needs) returns (λ c. search needs)
-    (λ c. search needs) loop-again (λ c. passed-end _ _ _ (c .before .loop .inv) (c .loop-test .left)))
+    (tie.spec Inv-loop μ-loop (λ c. passed-none _ _) (λ c. search needs) (λ c κs. search needs) returns
+    (λ c. search needs) (λ c. search needs) loop-again
+    (λ c. passed-end _ _ _ (c .before .loop .inv) (c .loop-test .left)))

@@ -25,6 +25,5 @@ returns-2 c =
 pub is-stored-spec : {M : Type 1} → statement M
 is-stored-spec =
     tie.close
-    (tie.spec
-    returns slice-aggregate-all-chars (λ c κs. search needs) (λ c. search needs) (λ c. search needs) (λ c. search needs)
-    (λ c κs. search needs) returns-2)
+    (tie.spec returns slice-aggregate-all-chars (λ c κs. search needs) (λ c. search needs) (λ c. search needs)
+    (λ c. search needs) (λ c κs. search needs) returns-2)

@@ -7,8 +7,7 @@ use Rattle.profile.proofs.cut.rest.Tie as tie
 pub rest-spec : {M : Type 1} → statement M
 rest-spec =
     tie.close
-    (tie.spec
+    (tie.spec (λ c. search needs) (λ c. search needs) (λ c. search needs)
+    (λ c. rest-some (c .before .before .args .s .now) (c .before .before .args .n) (c .before .if1 .taken))
     (λ c. search needs) (λ c. search needs) (λ c. search needs)
-    (λ c. rest-some (c .before .before .args .s .now) (c .before .before .args .n) (c .before .if1 .taken)) (λ c. search needs)
-    (λ c. search needs) (λ c. search needs)
     (λ c. rest-none (c .before .before .args .s .now) (c .before .before .args .n) (c .before .if1 .left)))

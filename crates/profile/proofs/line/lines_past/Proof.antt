@@ -14,7 +14,6 @@ abbrev μ-loop : tie.MeasureT-loop
 pub lines-past-spec : {M : Type 1} → statement M
 lines-past-spec =
     tie.close
-    (tie.spec
-    Inv-loop μ-loop (λ c. passed-none _ _) (λ c κs. search needs) (λ c. search needs) (λ c. search needs)
+    (tie.spec Inv-loop μ-loop (λ c. passed-none _ _) (λ c κs. search needs) (λ c. search needs) (λ c. search needs)
     (λ c. passed-more (c .before .before .loop .inv) (c .before .loop-test .taken) (c .past .ensures))
     (λ c. passed-end (c .before .loop .inv) (c .loop-test .left)))

@@ -20,6 +20,6 @@ loop-again c =
 pub number-spec : {M : Type 1} → statement M
 number-spec =
     tie.close
-    (tie.spec
-    Inv-loop μ-loop (λ c. spelt-none _ _) (λ c. search needs) (λ c κs. search needs) (λ c κs. search needs) (λ c. search needs)
-    (λ c. search needs) loop-again (λ c. spelt-end _ _ _ _ (c .before .loop .inv) (c .loop-test .left)))
+    (tie.spec Inv-loop μ-loop (λ c. spelt-none _ _) (λ c. search needs) (λ c κs. search needs) (λ c κs. search needs)
+    (λ c. search needs) (λ c. search needs) loop-again
+    (λ c. spelt-end _ _ _ _ (c .before .loop .inv) (c .loop-test .left)))

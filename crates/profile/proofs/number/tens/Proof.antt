@@ -9,7 +9,6 @@ use Rattle.profile.proofs.number.tens.Tie as tie
 pub tens-spec : {M : Type 1} → statement M
 tens-spec =
     tie.close
-    (tie.spec
-    (λ c. search needs) (λ c. search needs) (λ c. search needs)
+    (tie.spec (λ c. search needs) (λ c. search needs) (λ c. search needs)
     (λ c. let a = c .before .args in most-is (2 ^ 64 - 1) (a .n * 10 + a .d) (omega arith))
     (λ c. let a = c .before .args in most-over (2 ^ 64 - 1) (a .n * 10 + a .d) (omega arith)))

@@ -11,6 +11,5 @@ pub east-spec : {M : Type 1} → statement M
 unfolding east
 east-spec =
     tie.close
-    (tie.spec
-    (λ c. search needs) (λ c. search needs) (λ c. most-is 65535 (c .before .args .n + 720) (omega arith))
+    (tie.spec (λ c. search needs) (λ c. search needs) (λ c. most-is 65535 (c .before .args .n + 720) (omega arith))
     (λ c. most-over 65535 (c .before .args .n + 720) (omega arith)))

@@ -9,5 +9,4 @@ pub west-spec : {M : Type 1} → statement M
 unfolding west
 west-spec =
     tie.close
-    (tie.spec
-    (λ c. search needs) (λ c. rw (le-leb _ _ (c .if1 .taken))) (λ c. rw (lt-leb _ _ (c .if1 .left))))
+    (tie.spec (λ c. search needs) (λ c. rw (le-leb _ _ (c .if1 .taken))) (λ c. rw (lt-leb _ _ (c .if1 .left))))

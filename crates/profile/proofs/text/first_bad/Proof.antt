@@ -16,8 +16,7 @@ abbrev μ-loop : tie.MeasureT-loop
 pub first-bad-spec : {M : Type 1} → statement M
 first-bad-spec =
     tie.close
-    (tie.spec
-    Inv-loop μ-loop (λ c. clean-none _) (λ c κs. search needs) (λ c κs. search needs) (λ c. search needs)
+    (tie.spec Inv-loop μ-loop (λ c. clean-none _) (λ c κs. search needs) (λ c κs. search needs) (λ c. search needs)
     (λ c. clean-stop (c .before .before .before .before .loop .inv) (c .before .before .before .loop-test .taken)
     (c .before .before .row-fault .ensures) (sym (c .before .is-none .ensures) ∙ not-true _ (c .if1 .taken)))
     (λ c κs. search needs) (λ c. search needs) (λ c. search needs)

@@ -8,8 +8,7 @@ use Rattle.profile.proofs.text.row_fault.Tie as tie
 pub row-fault-spec : {M : Type 1} → statement M
 row-fault-spec =
     tie.close
-    (tie.spec
-    (λ c. search needs) (λ c κs. search needs) (λ c. row-arm _ _ 0 (omega arith) (c .line-fault .ensures))
+    (tie.spec (λ c. search needs) (λ c κs. search needs) (λ c. row-arm _ _ 0 (omega arith) (c .line-fault .ensures))
     (λ c. search needs) (λ c κs. search needs) (λ c. row-arm _ _ 1 (omega arith) (c .line-fault2 .ensures))
     (λ c. search needs) (λ c κs. search needs) (λ c. row-arm _ _ 2 (omega arith) (c .line-fault3 .ensures))
     (λ c. search needs) (λ c κs. search needs) (λ c. row-arm _ _ 3 (omega arith) (c .line-fault4 .ensures))

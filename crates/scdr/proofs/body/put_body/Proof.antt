@@ -90,5 +90,5 @@ returns c =
 pub put-body-spec : {M : Type 1} → statement M
 put-body-spec =
     tie.close
-    (tie.spec sub-last mul-last array-copy-out-last (search needs) put-front-requires put-pdp-requires (search needs)
-    put-end-requires slice-aggregate-put-opt-text (search needs) (search needs) returns)
+    (tie.spec sub-last mul-last array-copy-out-last (λ c. search needs) put-front-requires put-pdp-requires
+    (λ c. search needs) put-end-requires slice-aggregate-put-opt-text (λ c. search needs) (λ c. search needs) returns)

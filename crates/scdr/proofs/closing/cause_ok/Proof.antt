@@ -9,4 +9,4 @@ unfolding causeOk
 returns c = rw (c .is-release .ensures)
 
 pub cause-ok-spec : {M : Type 1} → statement M
-cause-ok-spec = tie.close (tie.spec (search needs) returns)
+cause-ok-spec = tie.close (tie.spec (λ c. search needs) returns)

@@ -14,4 +14,4 @@ unfolding numberOk
 returns-2 c = let e = sym (c .before .is-release .ensures) ∙ c .if1 .left in rw e
 
 pub number-ok-spec : {M : Type 1} → statement M
-number-ok-spec = tie.close (tie.spec (search needs) returns returns-2)
+number-ok-spec = tie.close (tie.spec (λ c. search needs) returns returns-2)

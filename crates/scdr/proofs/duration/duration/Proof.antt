@@ -18,4 +18,6 @@ returns-2 c =
     c .lasted .ensures ∙ duration-is (a .opening .seconds) (a .t1) (a .n) noContainer (omega arith) (omega (arith, c .before .before .before .pre))
 
 pub duration-spec : {M : Type 1} → statement M
-duration-spec = tie.close (tie.spec returns (search needs) (search needs) (search needs) (search needs) returns-2)
+duration-spec =
+    tie.close
+    (tie.spec returns (λ c. search needs) (λ c. search needs) (λ c. search needs) (λ c. search needs) returns-2)

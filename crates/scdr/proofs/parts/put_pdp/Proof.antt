@@ -30,4 +30,5 @@ returns c =
 pub put-pdp-spec : {M : Type 1} → statement M
 put-pdp-spec =
     tie.close
-    (tie.spec (search needs) (search needs) (search needs) (search needs) (search needs) (search needs) returns)
+    (tie.spec (λ c. search needs) (λ c. search needs) (λ c. search needs) (λ c. search needs) (λ c. search needs)
+    (λ c. search needs) returns)

@@ -9,4 +9,5 @@ returns : tie.Need-returns
 returns c = shows (c .before .take-apart .ensures) refl refl
 
 pub apn-part-spec : {M : Type 1} → statement M
-apn-part-spec = tie.close (tie.spec (search needs) (search needs) (search needs) (search needs) returns)
+apn-part-spec =
+    tie.close (tie.spec (λ c. search needs) (λ c. search needs) (λ c. search needs) (λ c. search needs) returns)

@@ -11,4 +11,4 @@ unfolding fillTo noContainers
 returns c = record { number = refl; blank = rw (c .no-container .ensures); start = refl; end = refl }
 
 pub no-record-spec : {M : Type 1} → statement M
-no-record-spec = tie.close (tie.spec (search needs) returns)
+no-record-spec = tie.close (tie.spec (λ c. search needs) returns)

@@ -27,4 +27,4 @@ returns-2 c =
     ∙ not-false _ (c .before .before .before .if1 .left))
 
 pub passes-spec : {M : Type 1} → statement M
-passes-spec = tie.close (tie.spec (search needs) returns duration-requires (search needs) returns-2)
+passes-spec = tie.close (tie.spec (λ c. search needs) returns duration-requires (λ c. search needs) returns-2)

@@ -77,5 +77,5 @@ returns-3 c =
 pub take-apart-spec : {M : Type 1} → statement M
 take-apart-spec =
     tie.close
-    (tie.spec (search needs) (search needs) returns (search needs) (search needs) (search needs) add-to sub-t10
-    returns-2 (search needs) returns-3)
+    (tie.spec (λ c. search needs) (λ c. search needs) returns (λ c. search needs) (λ c. search needs)
+    (λ c. search needs) add-to sub-t10 returns-2 (λ c. search needs) returns-3)

@@ -19,4 +19,4 @@ returns : tie.Need-returns
 returns c = sizes (c .before .before .before .args .r) (known (c .before .before .before)) (search needs) (c .before .write-record .ensures)
 
 pub record-size-spec : {M : Type 1} → statement M
-record-size-spec = tie.close (tie.spec (search needs) (search needs) returns)
+record-size-spec = tie.close (tie.spec (λ c. search needs) (λ c. search needs) returns)

@@ -66,5 +66,5 @@ returns-3 c =
 pub write-record-spec : {M : Type 1} → statement M
 write-record-spec =
     tie.close
-    (tie.spec (search needs) returns (search needs) put-body-requires array-share-prefix-b slice-aggregate-put-tlv
-    (search needs) (search needs) returns-2 (search needs) returns-3)
+    (tie.spec (λ c. search needs) returns (λ c. search needs) put-body-requires array-share-prefix-b
+    slice-aggregate-put-tlv (λ c. search needs) (λ c. search needs) returns-2 (λ c. search needs) returns-3)

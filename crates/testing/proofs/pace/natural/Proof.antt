@@ -23,4 +23,4 @@ cast-result : tie.Need-cast-result
 cast-result c = fits-unsigned (c .before .args .t) (c .before .fits .t) (c .if1 .left)
 
 pub natural-spec : {M : Type 1} → statement M
-natural-spec = tie.close (tie.spec (search needs) cast-result (search needs))
+natural-spec = tie.close (tie.spec (λ c. search needs) cast-result (λ c. search needs))

@@ -13,5 +13,5 @@ pub read-records-spec : {M : Type 1} → statement M
 read-records-spec =
     tie.close
     (tie.spec Inv-loop μ-loop (λ c. tt) (λ c κs. search needs) (λ c κs. search needs) (λ c κs. search needs)
-    (λ c κs. search needs) (λ c κs. search needs) (λ c κs. search needs) (λ c. search needs)
-    (λ c. search needs) (λ c. tt) (λ c. tt))
+    (λ c κs. search needs) (λ c κs. search needs) (λ c κs. search needs) (λ c. search needs) (λ c. search needs)
+    (λ c. tt) (λ c. tt))

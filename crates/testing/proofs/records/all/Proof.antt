@@ -12,5 +12,5 @@ abbrev μ-loop : tie.MeasureT-loop
 pub all-spec : {M : Type 1} → statement M
 all-spec =
     tie.close
-    (tie.spec Inv-loop μ-loop (λ c. tt) (λ c κs. search needs) (λ c. search needs) (λ c. search needs)
-    (λ c. tt) (λ c. tt) (λ c. tt))
+    (tie.spec Inv-loop μ-loop (λ c. tt) (λ c κs. search needs) (λ c. search needs) (λ c. search needs) (λ c. tt)
+    (λ c. tt) (λ c. tt))

@@ -1,10 +1,10 @@
--- `window::part` meets its contract.
+-- `octets::part` meets its contract.
 use lib.ListN.{length}
 use borrow.Author.Tests.{le-leb, lt-leb}
-use Rattle.window.specs.Part.{partOf}
+use Rattle.octets.specs.Part.{partOf}
 use borrow.Author.Needs.{needs}
-use Rattle.window.proofs.part.Statement.{statement}
-use Rattle.window.proofs.part.Tie as tie
+use Rattle.octets.proofs.part.Statement.{statement}
+use Rattle.octets.proofs.part.Tie as tie
 
 returns : tie.Need-returns
 unfolding partOf
