@@ -6,8 +6,8 @@ use mathlib.Core.List.{List, []}
 use Prim.Native.Nat.{ℕ, _<_}
 use lib.ListN.{length, take}
 use Rattle.ber.specs.Field.{first}
-use Rattle.ber.specs.Read.{nowhere, Reads, Lies, contentsOf}
-use Rattle.ber.proofs.Readers.{under-none, under-some, hollow}
+use Rattle.ber.specs.Read.{nowhere, Reads, Contents, placeAfter}
+use Rattle.ber.proofs.Readers.{under-none, under-some}
 use Rattle.container.specs.declared.Container.{Container}
 use Rattle.container.specs.List.{containers, noContainers, isThere, listed, Listed, ListsAt}
 use Rattle.container.proofs.Padded.{take-padded}
@@ -28,20 +28,19 @@ module _ {s : List ℕ} {at t : ℕ} where
       let z : take n v ≡ [] = rw e in
       record { reads = rw (z, g) r; rest = rw z f; count = rw z (sym e) }
 
-  module _ {from next : ℕ} (p : Lies s at t from next) (h : length s < nowhere) {c : List ℕ} (k : c ≡ contentsOf from next s)
-      {ok : Bool} {n : ℕ} {v : List Container} (l : Listed (containers .dec c) ok n v) where
+  module _ {c : List ℕ} (k : Contents s at t c) {ok : Bool} {n : ℕ} {v : List Container} (l : Listed (containers .dec c) ok n v) where
     -- a list
-    pub lists-there : ok ≡ true → ListsAt s at t n v next
+    pub lists-there : length s < nowhere → ok ≡ true → {next : ℕ} → next ≡ placeAfter at (length c) → ListsAt s at t n v next
     unfolding containers
-    lists-there y =
+    lists-there h y m =
         let q = there-some (containers .dec c) (sym (l .found) ∙ y) in
         let w : take n v ≡ listed (containers .dec c) = rw (l .count, l .values) (take-padded (listed (containers .dec c))) in
         record {
-          reads = rw w (under-some t containers p h k q (hollow refl));
+          reads = rw w (under-some containers k h q refl m);
           rest = rw w (l .values);
           count = rw w (sym (l .count));
         }
 
     -- contents that are no list
     pub lists-bad : ok ≡ false → Reads [] (first t containers) s at [] nowhere
-    lists-bad y = under-none t containers p h k (there-none (containers .dec c) (sym (l .found) ∙ y))
+    lists-bad y = under-none containers k (there-none (containers .dec c) (sym (l .found) ∙ y))

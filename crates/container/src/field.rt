@@ -19,14 +19,14 @@ pub struct ListAt {
 pub fn list_at(s: &[u8], at: usize, tag: u8) -> ListAt
     ensures { λ r. ⌜ ListsAt (now (s .entry)) at tag (r .n) (r .v) (r .next) ⌝ }
 {
-    let part = tlv::part_at(s, at, tag);
-    let l = list::list_of(tlv::contents(s, part));
+    let contents = tlv::contents_at(s, at, tag);
+    let l = list::list_of(contents);
     let v = l.v;
     if l.ok {
         return ListAt {
             n: l.n,
             v,
-            next: part.next,
+            next: tlv::after(at, contents.len()),
         };
     }
     no_list()

@@ -83,8 +83,7 @@ fn qos_after(s: &[u8], last: Container) -> QosAt
 pub fn container_at(s: &[u8], at: usize, last: Container) -> ContainerAt
     ensures { λ r. ⌜ Reads noContainer (first containerTag (container last)) (now (s .entry)) at (r .v) (r .next) ⌝ }
 {
-    let part = tlv::part_at(s, at, tags::CONTAINER);
-    let contents = tlv::contents(s, part);
+    let contents = tlv::contents_at(s, at, tags::CONTAINER);
     let profile = qos_after(contents, last);
     let uplink = field::int_at(contents, profile.next, tags::UPLINK);
     let downlink = field::int_at(contents, uplink.next, tags::DOWNLINK);
@@ -102,7 +101,7 @@ pub fn container_at(s: &[u8], at: usize, last: Container) -> ContainerAt
     if (stamp.next == contents.len()) & container_ok(c) {
         return ContainerAt {
             v: c,
-            next: part.next,
+            next: tlv::after(at, contents.len()),
         };
     }
     ContainerAt {

@@ -55,8 +55,7 @@ pub fn no_qos() -> Qos
 pub fn qos_at(s: &[u8], at: usize, tag: u8) -> QosAt
     ensures { λ r. ⌜ Reads noQos (first tag qos) (now (s .entry)) at (r .v) (r .next) ⌝ }
 {
-    let part = tlv::part_at(s, at, tag);
-    let contents = tlv::contents(s, part);
+    let contents = tlv::contents_at(s, at, tag);
     let reliability = field::octet_at(contents, 0, tags::RELIABILITY);
     let delay = field::octet_at(contents, reliability.next, tags::DELAY);
     let precedence = field::octet_at(contents, delay.next, tags::PRECEDENCE);
@@ -72,7 +71,7 @@ pub fn qos_at(s: &[u8], at: usize, tag: u8) -> QosAt
     if (mean.next == contents.len()) & qos_ok(q) {
         return QosAt {
             v: q,
-            next: part.next,
+            next: tlv::after(at, contents.len()),
         };
     }
     QosAt {

@@ -20,8 +20,8 @@ pub struct StampAt {
 pub fn stamp_at(s: &[u8], at: usize, tag: u8) -> StampAt
     ensures { λ r. ⌜ Reads noStamp (first tag stamp) (now (s .entry)) at (r .v) (r .next) ⌝ }
 {
-    let part = tlv::part_at(s, at, tag);
-    let StampRead::Time(v) = calendar::stamp_of(tlv::contents(s, part)) else {
+    let contents = tlv::contents_at(s, at, tag);
+    let StampRead::Time(v) = calendar::stamp_of(contents) else {
         return StampAt {
             v: Stamp {
                 seconds: 0,
@@ -30,7 +30,10 @@ pub fn stamp_at(s: &[u8], at: usize, tag: u8) -> StampAt
             next: ber::NOWHERE,
         };
     };
-    StampAt { v, next: part.next }
+    StampAt {
+        v,
+        next: tlv::after(at, contents.len()),
+    }
 }
 
 // The time t under the tag, at a place of out. One out of range is not written.

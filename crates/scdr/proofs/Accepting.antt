@@ -1,7 +1,7 @@
 -- What the reader of a record finds: all of the octets under A0, the fields, the duration, the rules.
 use mathlib.Core.Path.{_≡_, refl, sym, ap, subst, _∙_}
 use mathlib.Core.Bool.{Bool, true, false, _&&_}
-use mathlib.Core.Option.{Option, none, some}
+use mathlib.Core.Option.{Option, none, some, Option·none-ne-some}
 use mathlib.Core.List.{List, [], _∷_}
 use Prim.Native.Nat.{ℕ, zero, suc, _+_, _-_, _^_, _≤_, _<_}
 use native.Mathlib.Nat.{le-of-suc-le-suc}
@@ -16,8 +16,8 @@ use Rattle.format.proofs.Tests.{by, either, and-l, T-true, true-T}
 use Rattle.ber.specs.Tlv.{tlvDec}
 use Rattle.ber.specs.Field.{first, end}
 use Rattle.ber.specs.Table.{rowGood}
-use Rattle.ber.specs.Read.{nowhere, Lies, contentsOf}
-use Rattle.ber.proofs.Places.{PartIs, part-is, by-part}
+use Rattle.ber.specs.Read.{nowhere, cut, Contents, placeAfter}
+use Rattle.ber.proofs.Places.{PartIs, part-is, by-part, place-after}
 use Rattle.container.specs.List.{containers}
 use Rattle.ber.proofs.Readers.{part-length}
 use Rattle.scdr.specs.declared.Record.{Record}
@@ -28,7 +28,7 @@ use Rattle.scdr.specs.Table.{recordTag, NodeId}
 use Rattle.scdr.specs.Layout.{Fields, body, fieldsOf, toRecord, durationRight, inside, scdr}
 use Rattle.scdr.specs.Private.Pieces.{NameEnds, Wired}
 use Rattle.scdr.specs.Answers.{readOf, ReadsRecord}
-use Rattle.scdr.specs.Apn.{walk, walkIn, cut, apnPlace, apnOf, ShowsApn}
+use Rattle.scdr.specs.Apn.{walk, walkIn, apnPlace, apnOf, ShowsApn}
 use Rattle.scdr.specs.Private.Taken.{Taken, NotTaken}
 use Rattle.scdr.proofs.BodyLaw.{body-law}
 use Rattle.octets.proofs.Filled.{fill-length}
@@ -70,17 +70,20 @@ module _ (s : List ℕ) where
     scdr-after k = split ∙ rw (drop-cons s e 0 (below e (length s) (p .inside) k)) (closed-more (inside .dec (take (e - a) (drop a s))) (getD s e 0)
         (drop (suc e) s))
 
--- what was answered of the value under A0, and its contents c
-module _ {s : List ℕ} {from next : ℕ} (l : Lies s 0 recordTag from next) (h : length s < nowhere) where
-  pub record-not : (next ≡ length s → ⊥) → scdr .dec s ≡ none
-  record-not n = by-part l h refl (λ a _ _. scdr-absent s a) (λ p _. scdr-after s p n)
+-- empty contents are no record
+inside-hollow : inside .dec [] ≡ none
+unfolding inside body first tlvDec
+inside-hollow = refl
 
-  module _ {c : List ℕ} (k : c ≡ contentsOf from next s) (q : next ≡ length s) where
-    record-part : PartIs s 0 recordTag from next × (c ≡ take (next - from) (drop from s))
-    record-part = by-part l h k (λ _ n _. absurd (omega arith)) (λ p e. (p, e))
+-- the contents c of the value under A0, and the place after it
+module _ {s : List ℕ} (h : length s < nowhere) {c : List ℕ} (k : Contents s 0 recordTag c) where
+  pub record-not : (placeAfter 0 (length c) ≡ length s → ⊥) → scdr .dec s ≡ none
+  record-not n = by-part k (λ d _. scdr-absent s d) (λ a e p q. scdr-after s p (λ w. n (place-after h p q ∙ w)))
 
-    pub record-is : scdr .dec s ≡ inside .dec c
-    record-is = let (p, e) = record-part in scdr-whole s p q ∙ ap (inside .dec) (sym e)
+  pub record-is : placeAfter 0 (length c) ≡ length s → scdr .dec s ≡ inside .dec c
+  record-is w = by-part k
+      (λ d q. scdr-absent s d ∙ sym (ap (inside .dec) q ∙ inside-hollow))
+      (λ a e p q. scdr-whole s p (sym (place-after h p q) ∙ w) ∙ ap (inside .dec) (sym q))
 
 -- ---- what was read has the shape of a record
 
@@ -156,32 +159,31 @@ part-of-part s a n x y h k =
     let e : a + y - (a + x) ≡ y - x = omega arith in
     rw (e, ← drop-drop x a s) (sym (take-inside x y n (drop a s) h k))
 
-pub taken-record : {s : List ℕ} {from next : ℕ} (l : Lies s 0 recordTag from next) (h : length s < nowhere) {c : List ℕ} (k : c ≡ contentsOf from next s)
-    (q : next ≡ length s) {w : Wire} → NameEnds c w → scdr .dec s ≡ some (w .cdr)
-    → Taken s 0 (w .cdr) (from + w .apnend - w .cdr .apnlen) (from + w .apnend)
+pub taken-record : {s : List ℕ} (h : length s < nowhere) {c : List ℕ} (k : Contents s 0 recordTag c) → placeAfter 0 (length c) ≡ length s
+    → {w : Wire} → NameEnds c w → scdr .dec s ≡ some (w .cdr)
+    → Taken s 0 (w .cdr) (length s - length c + w .apnend - w .cdr .apnlen) (length s - length c + w .apnend)
 unfolding apnOf apnPlace
-taken-record {s} {from} {next} l h k q {w} v d =
-    let (p, f) = record-part l h k q in
-    let u : NameEnds (take (next - from) (drop from s)) w = subst (λ z. NameEnds z w) f v in
-    let start = w .apnend - w .cdr .apnlen in
-    let n = part-length p in
-    let m : from + w .apnend - w .cdr .apnlen ≡ from + start = omega (arith, u .order) in
-    let j : w .cdr .apnlen ≡ w .apnend - start = omega (arith, u .order) in
-    let name = subst (λ (z : ℕ). take z (drop start (take (next - from) (drop from s))) ≡ take (w .cdr .apnlen) (w .cdr .apn)) j (u .is) in
-    rw m record {
-      reads = reads-record s d;
-      place = ap (λ (z : ℕ × ℕ). (from + z .0, from + z .1)) (u .place) ∙ sym (rw (d, part-is s 0 recordTag (p .order) (p .inside) (p .is)));
-      order = omega (arith, u .order);
-      inside = omega (arith, u .inside, n, p .order, p .inside);
-      name = part-of-part s from (next - from) start (w .apnend) (omega arith) (omega (arith, u .inside, n)) ∙ name ∙ rw d;
-    }
-
--- so the end of the name lies in s
-pub record-inside : {s : List ℕ} {from next : ℕ} (l : Lies s 0 recordTag from next) (h : length s < nowhere) {c : List ℕ} (k : c ≡ contentsOf from next s)
-    (q : next ≡ length s) {w : Wire} → NameEnds c w → from + w .apnend ≤ length s
-record-inside l h k q v =
-    let (p, f) = record-part l h k q in
-    omega (arith, v .inside, ap length f, part-length p, p .order, p .inside)
+taken-record {s} h {c} k end {w} v d = by-part k
+    (λ n _. absurd (Option·none-ne-some (w .cdr) (sym (scdr-absent s n) ∙ d)))
+    found
+  where
+    found : (a e : ℕ) → PartIs s 0 recordTag a e → c ≡ take (e - a) (drop a s)
+        → Taken s 0 (w .cdr) (length s - length c + w .apnend - w .cdr .apnlen) (length s - length c + w .apnend)
+    found a e p q =
+        let u : NameEnds (take (e - a) (drop a s)) w = subst (λ z. NameEnds z w) q v in
+        let start = w .apnend - w .cdr .apnlen in
+        let n = part-length p in
+        let l : length s - length c ≡ a = omega (arith, place-after h p q, end, ap length q, n, p .order) in
+        let m : a + w .apnend - w .cdr .apnlen ≡ a + start = omega (arith, u .order) in
+        let j : w .cdr .apnlen ≡ w .apnend - start = omega (arith, u .order) in
+        let name = subst (λ (z : ℕ). take z (drop start (take (e - a) (drop a s))) ≡ take (w .cdr .apnlen) (w .cdr .apn)) j (u .is) in
+        rw (l, m) record {
+          reads = reads-record s d;
+          place = ap (λ (z : ℕ × ℕ). (a + z .0, a + z .1)) (u .place) ∙ sym (rw (d, part-is s 0 recordTag (p .order) (p .inside) (p .is)));
+          order = omega (arith, u .order);
+          inside = omega (arith, u .inside, n, p .order, p .inside);
+          name = part-of-part s a (e - a) start (w .apnend) (omega arith) (omega (arith, u .inside, n)) ∙ name ∙ rw d;
+        }
 
 pub taken-nothing : (s : List ℕ) {n : ℕ} {r : Record} {from to : ℕ} → scdr .dec s ≡ none → NotTaken n r from to → Taken s n r from to
 unfolding readOf apnOf apnPlace

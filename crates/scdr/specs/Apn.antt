@@ -8,17 +8,13 @@ use Prim.Native.Nat.{ℕ, zero, suc, _+_, _-_, _≤_}
 use lib.Dec.{eqb}
 use lib.ListN.{length, take, drop, getD}
 use denote.Ref.{RefT, ptr, now}
-use Rattle.ber.specs.Read.{partAt}
+use Rattle.ber.specs.Read.{partAt, cut}
 use Rattle.ber.specs.Table.{tag}
 use Rattle.scdr.specs.declared.Record.{Record}
 use Rattle.scdr.specs.Table.{recordTag, Apn, table}
 use Rattle.scdr.specs.Layout.{scdr}
 
 -- ---- a part of octets: where it begins, and where it ends
-
--- what lies there
-abbrev pub cut : ℕ × ℕ → List ℕ → List ℕ
-cut z s = take (z .1 - z .0) (drop (z .0) s)
 
 -- a value was found: its contents, if it is the one that is looked for; else go on after it
 abbrev pub seen : Bool → (ℕ → ℕ × ℕ) → Option (ℕ × ℕ) → ℕ × ℕ

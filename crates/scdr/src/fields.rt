@@ -33,7 +33,7 @@ pub fn read_fields(s: &[u8]) -> Wire
     let charging = word::word_at(s, sgsn.next, tags::CHARGING_ID);
     let ggsn = address::address_at(s, charging.next, tags::GGSN);
     let mut apn = [0u8; 63];
-    let name = text::octets_at(s, ggsn.next, tags::APN, 1, &mut apn);
+    let name = text::octets_at(s, ggsn.next, tags::APN, 0, &mut apn);
     let pdptype = fixed::two_octets_at(s, name.next, tags::PDP_TYPE);
     let served = address::address_in_at(s, pdptype.next, tags::SERVED);
     let list = containers::list_at(s, served.next, tags::CONTAINERS);

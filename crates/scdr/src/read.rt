@@ -52,14 +52,14 @@ struct Whole {
 fn take_apart(s: &[u8]) -> Whole
     ensures { λ z. ⌜ Taken (now (s .entry)) (z .answer) (z .cdr) (z .from) (z .to) ⌝ }
 {
-    let part = tlv::part_at(s, 0, tags::RECORD);
-    if part.next != s.len() {
+    let contents = tlv::contents_at(s, 0, tags::RECORD);
+    if tlv::after(0, contents.len()) != s.len() {
         return no_record();
     }
-    let wire = fields::read_fields(tlv::contents(s, part));
+    let wire = fields::read_fields(contents);
     let cdr = wire.cdr;
     if wire.ok & passes(cdr, wire.lasts) {
-        let to = part.from + wire.apnend;
+        let to = s.len() - contents.len() + wire.apnend;
         return Whole {
             answer: 0,
             cdr,

@@ -6,7 +6,8 @@ use lib.ListN.{length}
 use Rattle.scdr.specs.declared.Record.{Record}
 use Rattle.scdr.specs.Layout.{scdr}
 use Rattle.scdr.specs.Answers.{noRecord, blankRecord, ReadsRecord}
-use Rattle.scdr.specs.Apn.{cut, apnPlace, apnOf}
+use Rattle.ber.specs.Read.{cut}
+use Rattle.scdr.specs.Apn.{apnPlace, apnOf}
 
 pub record Taken (s : List ℕ) (answer : ℕ) (r : Record) (from to : ℕ) : Type 0 where
   pub reads : ReadsRecord s answer r

@@ -7,19 +7,13 @@ use Rattle.container.proofs.field.list_at.Tie as tie
 
 returns : tie.Need-returns
 returns c =
-    let list = c .before .before in
-    let contents = list .before in
-    let part = contents .before in
-    lists-there (part .part-at .ensures) (omega arith) (contents .contents .ensures .octets) (list .list-of .ensures) (c .if1 .taken)
+    let list = c .before .before .before in
+    lists-there (list .before .contents-at .ensures .octets) (list .list-of .ensures) (omega arith) (c .before .if1 .taken) (c .after .ensures)
 
 returns-2 : tie.Need-returns-2
 returns-2 c =
-    let none = c .before in
-    let list = none .before .before in
-    let contents = list .before in
-    let part = contents .before in
-    lists-none (c .no-list .ensures)
-    (lists-bad (part .part-at .ensures) (omega arith) (contents .contents .ensures .octets) (list .list-of .ensures) (none .if1 .left))
+    let list = c .before .before .before in
+    lists-none (c .no-list .ensures) (lists-bad (list .before .contents-at .ensures .octets) (list .list-of .ensures) (c .before .if1 .left))
 
 pub list-at-spec : {M : Type 1} → statement M
 list-at-spec =

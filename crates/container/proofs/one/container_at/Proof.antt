@@ -5,52 +5,45 @@ use lib.ListN.{length}
 use borrow.Author.Needs.{needs}
 use Rattle.ber.specs.Read.{nowhere}
 use Rattle.ber.proofs.Places.{contents-less}
-use Rattle.ber.proofs.Readers.{under-none, under-some, hollow}
-use Rattle.container.specs.Container.{containerTag, container}
+use Rattle.ber.proofs.Readers.{under-none, under-some}
+use Rattle.container.specs.Container.{container}
 use Rattle.container.proofs.Fields.{reads-as, container-yes, container-no, container-hollow}
 use Rattle.container.proofs.one.container_at.Statement.{statement}
 use Rattle.container.proofs.one.container_at.Tie as tie
 
 returns : tie.Need-returns
 returns c =
-    let ok = c .before in
+    let ok = c .before .before in
     let time = ok .before .before .before .before in
     let condition = time .before in
     let downlink = condition .before in
     let uplink = downlink .before in
     let profile = uplink .before in
     let contents = profile .before in
-    let part = contents .before in
-    let start = part .before .before in
+    let start = contents .before .before in
     let a = start .args in
     let h : length (a .s .now) < nowhere = omega (arith, start .good .0 .1) in
-    let l = part .part-at .ensures in
-    let k = contents .contents .ensures .octets in
-    under-some containerTag (container (a .last)) l h k (container-yes (a .last) (contents-less l h k)
-    (profile .qos-after .ensures) (uplink .int-at .ensures)
-    (downlink .int-at2 .ensures) (condition .octet-at .ensures) (time .stamp-at .ensures)
-    (rw (ok .container-ok .ensures) at (c .if1 .taken))) (hollow (container-hollow (a .last)))
+    let k = contents .contents-at .ensures .octets in
+    under-some (container (a .last)) k h (container-yes (a .last) (contents-less k h)
+    (profile .qos-after .ensures) (uplink .int-at .ensures) (downlink .int-at2 .ensures)
+    (condition .octet-at .ensures) (time .stamp-at .ensures) (rw (ok .container-ok .ensures) at (c .before .if1 .taken))) (container-hollow (a .last)) (c .after .ensures)
 
 returns-2 : tie.Need-returns-2
 returns-2 c =
-    let left = c .before in
-    let ok = left .before in
+    let ok = c .before .before in
     let time = ok .before .before .before .before in
     let condition = time .before in
     let downlink = condition .before in
     let uplink = downlink .before in
     let profile = uplink .before in
     let contents = profile .before in
-    let part = contents .before in
-    let start = part .before .before in
+    let start = contents .before .before in
     let a = start .args in
     let h : length (a .s .now) < nowhere = omega (arith, start .good .0 .1) in
-    let l = part .part-at .ensures in
-    let k = contents .contents .ensures .octets in
-    reads-as (c .no-container .ensures) (under-none containerTag (container (a .last)) l h k (container-no (a .last) (contents-less l h k)
-    (profile .qos-after .ensures) (uplink .int-at .ensures)
-    (downlink .int-at2 .ensures) (condition .octet-at .ensures) (time .stamp-at .ensures)
-    (rw (ok .container-ok .ensures) at (left .if1 .left))))
+    let k = contents .contents-at .ensures .octets in
+    reads-as (c .no-container .ensures) (under-none (container (a .last)) k (container-no (a .last) (contents-less k h)
+    (profile .qos-after .ensures) (uplink .int-at .ensures) (downlink .int-at2 .ensures)
+    (condition .octet-at .ensures) (time .stamp-at .ensures) (rw (ok .container-ok .ensures) at (c .before .if1 .left))))
 
 pub container-at-spec : {M : Type 1} → statement M
 container-at-spec =
