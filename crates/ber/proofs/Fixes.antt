@@ -3,8 +3,7 @@ use mathlib.Core.Path.{_≡_, sym, _∙_}
 use mathlib.Core.Option.{Option}
 use mathlib.Core.List.{List}
 use Prim.Native.Nat.{ℕ}
-use denote.Ref.{RefT, ptr, now}
-use Rattle.ber.specs.Read.{Reads, Lends}
+use Rattle.ber.specs.Read.{Reads, Lies}
 use Rattle.ber.specs.Write.{Puts, Holds}
 use Rattle.ber.specs.Text.{Copies}
 
@@ -26,7 +25,6 @@ pub copies-fixes : {p : List ℕ → Option (List ℕ × List ℕ)} {s : List �
     → Copies p s at b c k m → Copies p s at b d l n → _≡_ {A = List ℕ × ℕ × ℕ} (c, k, m) (d, l, n)
 copies-fixes a b = a .is ∙ sym (b .is)
 
--- where the contents that are lent begin, and their octets: with its pointer and its length a part is fixed. (The third component of a reference in the
--- logic is the name under which a proof tracks it: no program sees it.)
-pub lends-fixes : {s p q : RefT (List ℕ)} {at t : ℕ} → Lends s at t p → Lends s at t q → (ptr p ≡ ptr q) × (now p ≡ now q)
-lends-fixes a b = (a .place ∙ sym (b .place), a .octets .is ∙ sym (b .octets .is))
+-- where the contents begin and end
+pub lies-fixes : {s : List ℕ} {at t a b m n : ℕ} → Lies s at t a m → Lies s at t b n → _≡_ {A = ℕ × ℕ} (a, m) (b, n)
+lies-fixes a b = a .is ∙ sym (b .is)

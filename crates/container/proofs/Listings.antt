@@ -3,10 +3,10 @@ use mathlib.Core.Path.{_≡_, refl, sym, _∙_}
 use mathlib.Core.Bool.{Bool, true, false}
 use mathlib.Core.Option.{Option, none, some}
 use mathlib.Core.List.{List, []}
-use Prim.Native.Nat.{ℕ, _<_}
+use Prim.Native.Nat.{ℕ}
 use lib.ListN.{length, take}
 use Rattle.ber.specs.Field.{first}
-use Rattle.ber.specs.Read.{nowhere, Reads, Contents, placeAfter}
+use Rattle.ber.specs.Read.{nowhere, Reads, cut, Lies}
 use Rattle.ber.proofs.Readers.{under-none, under-some}
 use Rattle.container.specs.declared.Container.{Container}
 use Rattle.container.specs.List.{containers, noContainers, isThere, listed, Listed, ListsAt}
@@ -28,15 +28,18 @@ module _ {s : List ℕ} {at t : ℕ} where
       let z : take n v ≡ [] = rw e in
       record { reads = rw (z, g) r; rest = rw z f; count = rw z (sym e) }
 
-  module _ {c : List ℕ} (k : Contents s at t c) {ok : Bool} {n : ℕ} {v : List Container} (l : Listed (containers .dec c) ok n v) where
+  module _ {from to : ℕ} (k : Lies s at t from to) {ok : Bool} {n : ℕ} {v : List Container} (l : Listed (containers .dec (cut (from, to) s)) ok n v) where
+    abbrev c : List ℕ
+    c = cut (from, to) s
+
     -- a list
-    pub lists-there : length s < nowhere → ok ≡ true → {next : ℕ} → next ≡ placeAfter at (length c) → ListsAt s at t n v next
+    pub lists-there : ok ≡ true → ListsAt s at t n v to
     unfolding containers
-    lists-there h y m =
+    lists-there y =
         let q = there-some (containers .dec c) (sym (l .found) ∙ y) in
         let w : take n v ≡ listed (containers .dec c) = rw (l .count, l .values) (take-padded (listed (containers .dec c))) in
         record {
-          reads = rw w (under-some containers k h q refl m);
+          reads = rw w (under-some containers k q refl);
           rest = rw w (l .values);
           count = rw w (sym (l .count));
         }

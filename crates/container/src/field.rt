@@ -19,14 +19,17 @@ pub struct ListAt {
 pub fn list_at(s: &[u8], at: usize, tag: u8) -> ListAt
     ensures { λ r. ⌜ ListsAt (now (s .entry)) at tag (r .n) (r .v) (r .next) ⌝ }
 {
-    let contents = tlv::contents_at(s, at, tag);
+    let part = tlv::part_at(s, at, tag);
+    let from = part.from;
+    let to = part.to;
+    let contents = &s[from..to];
     let l = list::list_of(contents);
     let v = l.v;
     if l.ok {
         return ListAt {
             n: l.n,
             v,
-            next: tlv::after(at, contents.len()),
+            next: to,
         };
     }
     no_list()

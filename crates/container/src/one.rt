@@ -83,7 +83,10 @@ fn qos_after(s: &[u8], last: Container) -> QosAt
 pub fn container_at(s: &[u8], at: usize, last: Container) -> ContainerAt
     ensures { λ r. ⌜ Reads noContainer (first containerTag (container last)) (now (s .entry)) at (r .v) (r .next) ⌝ }
 {
-    let contents = tlv::contents_at(s, at, tags::CONTAINER);
+    let part = tlv::part_at(s, at, tags::CONTAINER);
+    let from = part.from;
+    let to = part.to;
+    let contents = &s[from..to];
     let profile = qos_after(contents, last);
     let uplink = field::int_at(contents, profile.next, tags::UPLINK);
     let downlink = field::int_at(contents, uplink.next, tags::DOWNLINK);
@@ -99,10 +102,7 @@ pub fn container_at(s: &[u8], at: usize, last: Container) -> ContainerAt
         time,
     };
     if (stamp.next == contents.len()) & container_ok(c) {
-        return ContainerAt {
-            v: c,
-            next: tlv::after(at, contents.len()),
-        };
+        return ContainerAt { v: c, next: to };
     }
     ContainerAt {
         v: no_container(),

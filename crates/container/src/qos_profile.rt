@@ -55,7 +55,10 @@ pub fn no_qos() -> Qos
 pub fn qos_at(s: &[u8], at: usize, tag: u8) -> QosAt
     ensures { λ r. ⌜ Reads noQos (first tag qos) (now (s .entry)) at (r .v) (r .next) ⌝ }
 {
-    let contents = tlv::contents_at(s, at, tag);
+    let part = tlv::part_at(s, at, tag);
+    let from = part.from;
+    let to = part.to;
+    let contents = &s[from..to];
     let reliability = field::octet_at(contents, 0, tags::RELIABILITY);
     let delay = field::octet_at(contents, reliability.next, tags::DELAY);
     let precedence = field::octet_at(contents, delay.next, tags::PRECEDENCE);
@@ -69,10 +72,7 @@ pub fn qos_at(s: &[u8], at: usize, tag: u8) -> QosAt
         mean: mean.v,
     };
     if (mean.next == contents.len()) & qos_ok(q) {
-        return QosAt {
-            v: q,
-            next: tlv::after(at, contents.len()),
-        };
+        return QosAt { v: q, next: to };
     }
     QosAt {
         v: no_qos(),

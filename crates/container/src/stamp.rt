@@ -20,7 +20,10 @@ pub struct StampAt {
 pub fn stamp_at(s: &[u8], at: usize, tag: u8) -> StampAt
     ensures { λ r. ⌜ Reads noStamp (first tag stamp) (now (s .entry)) at (r .v) (r .next) ⌝ }
 {
-    let contents = tlv::contents_at(s, at, tag);
+    let part = tlv::part_at(s, at, tag);
+    let from = part.from;
+    let to = part.to;
+    let contents = &s[from..to];
     let StampRead::Time(v) = calendar::stamp_of(contents) else {
         return StampAt {
             v: Stamp {
@@ -30,10 +33,7 @@ pub fn stamp_at(s: &[u8], at: usize, tag: u8) -> StampAt
             next: ber::NOWHERE,
         };
     };
-    StampAt {
-        v,
-        next: tlv::after(at, contents.len()),
-    }
+    StampAt { v, next: to }
 }
 
 // The time t under the tag, at a place of out. One out of range is not written.

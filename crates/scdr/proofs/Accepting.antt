@@ -16,8 +16,8 @@ use Rattle.format.proofs.Tests.{by, either, and-l, T-true, true-T}
 use Rattle.ber.specs.Tlv.{tlvDec}
 use Rattle.ber.specs.Field.{first, end}
 use Rattle.ber.specs.Table.{rowGood}
-use Rattle.ber.specs.Read.{nowhere, cut, Contents, placeAfter}
-use Rattle.ber.proofs.Places.{PartIs, part-is, by-part, place-after}
+use Rattle.ber.specs.Read.{cut, Lies}
+use Rattle.ber.proofs.Places.{PartIs, part-is, by-part}
 use Rattle.container.specs.List.{containers}
 use Rattle.ber.proofs.Readers.{part-length}
 use Rattle.scdr.specs.declared.Record.{Record}
@@ -75,15 +75,13 @@ inside-hollow : inside .dec [] ≡ none
 unfolding inside body first tlvDec
 inside-hollow = refl
 
--- the contents c of the value under A0, and the place after it
-module _ {s : List ℕ} (h : length s < nowhere) {c : List ℕ} (k : Contents s 0 recordTag c) where
-  pub record-not : (placeAfter 0 (length c) ≡ length s → ⊥) → scdr .dec s ≡ none
-  record-not n = by-part k (λ d _. scdr-absent s d) (λ a e p q. scdr-after s p (λ w. n (place-after h p q ∙ w)))
+-- what was answered of the value under A0
+module _ {s : List ℕ} {from to : ℕ} (l : Lies s 0 recordTag from to) where
+  pub record-not : (to ≡ length s → ⊥) → scdr .dec s ≡ none
+  record-not n = by-part l (λ d _. scdr-absent s d) (λ p. scdr-after s p n)
 
-  pub record-is : placeAfter 0 (length c) ≡ length s → scdr .dec s ≡ inside .dec c
-  record-is w = by-part k
-      (λ d q. scdr-absent s d ∙ sym (ap (inside .dec) q ∙ inside-hollow))
-      (λ a e p q. scdr-whole s p (sym (place-after h p q) ∙ w) ∙ ap (inside .dec) (sym q))
+  pub record-is : to ≡ length s → scdr .dec s ≡ inside .dec (cut (from, to) s)
+  record-is w = by-part l (λ d q. scdr-absent s d ∙ sym (ap (inside .dec) q ∙ inside-hollow)) (λ p. scdr-whole s p w)
 
 -- ---- what was read has the shape of a record
 
@@ -159,31 +157,24 @@ part-of-part s a n x y h k =
     let e : a + y - (a + x) ≡ y - x = omega arith in
     rw (e, ← drop-drop x a s) (sym (take-inside x y n (drop a s) h k))
 
-pub taken-record : {s : List ℕ} (h : length s < nowhere) {c : List ℕ} (k : Contents s 0 recordTag c) → placeAfter 0 (length c) ≡ length s
-    → {w : Wire} → NameEnds c w → scdr .dec s ≡ some (w .cdr)
-    → Taken s 0 (w .cdr) (length s - length c + w .apnend - w .cdr .apnlen) (length s - length c + w .apnend)
+pub taken-record : {s : List ℕ} {from to : ℕ} (l : Lies s 0 recordTag from to) {w : Wire} → NameEnds (cut (from, to) s) w → scdr .dec s ≡ some (w .cdr)
+    → Taken s 0 (w .cdr) (from + w .apnend - w .cdr .apnlen) (from + w .apnend)
 unfolding apnOf apnPlace
-taken-record {s} h {c} k end {w} v d = by-part k
+taken-record {s} {from} {to} l {w} u d = by-part l
     (λ n _. absurd (Option·none-ne-some (w .cdr) (sym (scdr-absent s n) ∙ d)))
-    found
-  where
-    found : (a e : ℕ) → PartIs s 0 recordTag a e → c ≡ take (e - a) (drop a s)
-        → Taken s 0 (w .cdr) (length s - length c + w .apnend - w .cdr .apnlen) (length s - length c + w .apnend)
-    found a e p q =
-        let u : NameEnds (take (e - a) (drop a s)) w = subst (λ z. NameEnds z w) q v in
-        let start = w .apnend - w .cdr .apnlen in
-        let n = part-length p in
-        let l : length s - length c ≡ a = omega (arith, place-after h p q, end, ap length q, n, p .order) in
-        let m : a + w .apnend - w .cdr .apnlen ≡ a + start = omega (arith, u .order) in
-        let j : w .cdr .apnlen ≡ w .apnend - start = omega (arith, u .order) in
-        let name = subst (λ (z : ℕ). take z (drop start (take (e - a) (drop a s))) ≡ take (w .cdr .apnlen) (w .cdr .apn)) j (u .is) in
-        rw (l, m) record {
-          reads = reads-record s d;
-          place = ap (λ (z : ℕ × ℕ). (a + z .0, a + z .1)) (u .place) ∙ sym (rw (d, part-is s 0 recordTag (p .order) (p .inside) (p .is)));
-          order = omega (arith, u .order);
-          inside = omega (arith, u .inside, n, p .order, p .inside);
-          name = part-of-part s a (e - a) start (w .apnend) (omega arith) (omega (arith, u .inside, n)) ∙ name ∙ rw d;
-        }
+    (λ p.
+    let start = w .apnend - w .cdr .apnlen in
+    let n = part-length p in
+    let m : from + w .apnend - w .cdr .apnlen ≡ from + start = omega (arith, u .order) in
+    let j : w .cdr .apnlen ≡ w .apnend - start = omega (arith, u .order) in
+    let name = subst (λ (z : ℕ). take z (drop start (cut (from, to) s)) ≡ take (w .cdr .apnlen) (w .cdr .apn)) j (u .is) in
+    rw m record {
+      reads = reads-record s d;
+      place = ap (λ (z : ℕ × ℕ). (from + z .0, from + z .1)) (u .place) ∙ sym (rw (d, part-is s 0 recordTag (p .order) (p .inside) (p .is)));
+      order = omega (arith, u .order);
+      inside = omega (arith, u .inside, n, p .order, p .inside);
+      name = part-of-part s from (to - from) start (w .apnend) (omega arith) (omega (arith, u .inside, n)) ∙ name ∙ rw d;
+    })
 
 pub taken-nothing : (s : List ℕ) {n : ℕ} {r : Record} {from to : ℕ} → scdr .dec s ≡ none → NotTaken n r from to → Taken s n r from to
 unfolding readOf apnOf apnPlace

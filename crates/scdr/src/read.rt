@@ -52,19 +52,21 @@ struct Whole {
 fn take_apart(s: &[u8]) -> Whole
     ensures { λ z. ⌜ Taken (now (s .entry)) (z .answer) (z .cdr) (z .from) (z .to) ⌝ }
 {
-    let contents = tlv::contents_at(s, 0, tags::RECORD);
-    if tlv::after(0, contents.len()) != s.len() {
+    let part = tlv::part_at(s, 0, tags::RECORD);
+    let from = part.from;
+    let to = part.to;
+    if to != s.len() {
         return no_record();
     }
-    let wire = fields::read_fields(contents);
+    let wire = fields::read_fields(&s[from..to]);
     let cdr = wire.cdr;
     if wire.ok & passes(cdr, wire.lasts) {
-        let to = s.len() - contents.len() + wire.apnend;
+        let name_end = from + wire.apnend;
         return Whole {
             answer: 0,
             cdr,
-            from: to - cdr.apnlen,
-            to,
+            from: name_end - cdr.apnlen,
+            to: name_end,
         };
     }
     no_record()
