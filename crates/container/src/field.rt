@@ -22,6 +22,9 @@ pub fn list_at(s: &[u8], at: usize, tag: u8) -> ListAt
     let part = tlv::part_at(s, at, tag);
     let from = part.from;
     let to = part.to;
+    if to == 0 {
+        return no_list();
+    }
     let contents = &s[from..to];
     let l = list::list_of(contents);
     let v = l.v;

@@ -86,6 +86,12 @@ pub fn container_at(s: &[u8], at: usize, last: Container) -> ContainerAt
     let part = tlv::part_at(s, at, tags::CONTAINER);
     let from = part.from;
     let to = part.to;
+    if to == 0 {
+        return ContainerAt {
+            v: no_container(),
+            next: ber::NOWHERE,
+        };
+    }
     let contents = &s[from..to];
     let profile = qos_after(contents, last);
     let uplink = field::int_at(contents, profile.next, tags::UPLINK);

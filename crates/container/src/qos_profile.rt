@@ -58,6 +58,12 @@ pub fn qos_at(s: &[u8], at: usize, tag: u8) -> QosAt
     let part = tlv::part_at(s, at, tag);
     let from = part.from;
     let to = part.to;
+    if to == 0 {
+        return QosAt {
+            v: no_qos(),
+            next: ber::NOWHERE,
+        };
+    }
     let contents = &s[from..to];
     let reliability = field::octet_at(contents, 0, tags::RELIABILITY);
     let delay = field::octet_at(contents, reliability.next, tags::DELAY);

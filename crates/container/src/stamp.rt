@@ -23,6 +23,15 @@ pub fn stamp_at(s: &[u8], at: usize, tag: u8) -> StampAt
     let part = tlv::part_at(s, at, tag);
     let from = part.from;
     let to = part.to;
+    if to == 0 {
+        return StampAt {
+            v: Stamp {
+                seconds: 0,
+                zone: 0,
+            },
+            next: ber::NOWHERE,
+        };
+    }
     let contents = &s[from..to];
     let StampRead::Time(v) = calendar::stamp_of(contents) else {
         return StampAt {
