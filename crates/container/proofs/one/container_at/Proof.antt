@@ -30,7 +30,8 @@ returns-2 c =
     let a = start .args in
     let h : length (a .s .now) < nowhere = omega (arith, start .good .0 .1) in
     let l = part .part-at .ensures in
-    under-some (container (a .last)) l (container-yes (a .last) (lies-less l h) (profile .qos-after .ensures) (uplink .int-at .ensures) (downlink .int-at2 .ensures)
+    under-some (container (a .last)) l (container-yes (a .last) (lies-less l h)
+    (profile .qos-after .ensures) (uplink .int-at .ensures) (downlink .int-at2 .ensures)
     (condition .octet-at .ensures) (time .stamp-at .ensures) (rw (ok .container-ok .ensures) at (c .if2 .taken))) (container-hollow (a .last))
 
 returns-3 : tie.Need-returns-3
@@ -46,7 +47,8 @@ returns-3 c =
     let a = start .args in
     let h : length (a .s .now) < nowhere = omega (arith, start .good .0 .1) in
     let l = part .part-at .ensures in
-    reads-as (c .no-container2 .ensures) (under-none (container (a .last)) l (container-no (a .last) (lies-less l h) (profile .qos-after .ensures) (uplink .int-at .ensures) (downlink .int-at2 .ensures)
+    reads-as (c .no-container2 .ensures) (under-none (container (a .last)) l (container-no (a .last) (lies-less l h)
+    (profile .qos-after .ensures) (uplink .int-at .ensures) (downlink .int-at2 .ensures)
     (condition .octet-at .ensures) (time .stamp-at .ensures) (rw (ok .container-ok .ensures) at (c .before .if2 .left))))
 
 pub container-at-spec : {M : Type 1} → statement M

@@ -45,7 +45,8 @@ returns-3 c =
     let a = start .args in
     let h : length (a .s .now) < nowhere = omega (arith, start .good .0 .1) in
     let l = part .part-at .ensures in
-    reads-as (c .no-qos2 .ensures) (under-none qos l (qos-no (lies-less l h) (reliability .octet-at .ensures) (delay .octet-at2 .ensures) (precedence .octet-at3 .ensures)
+    reads-as (c .no-qos2 .ensures) (under-none qos l (qos-no (lies-less l h)
+    (reliability .octet-at .ensures) (delay .octet-at2 .ensures) (precedence .octet-at3 .ensures)
     (peak .octet-at4 .ensures) (mean .octet-at5 .ensures) (rw (ok .qos-ok .ensures) at (c .before .if2 .left))))
 
 pub qos-at-spec : {M : Type 1} → statement M
