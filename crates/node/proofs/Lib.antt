@@ -22,5 +22,11 @@ pub mod Brings
 pub mod TableKept
 pub mod Filled
 pub mod NodeKept
+pub mod StepKept
+pub mod BatchKept
 pub mod Runs
+pub mod Ones
+pub mod Seats
+pub mod Tellings
+pub mod Batches
 pub mod Holds

@@ -2,3 +2,4 @@
 pub mod Premises
 pub mod Range
 pub mod Task
+pub mod Pairs

@@ -5,9 +5,11 @@
 // how the slots hear one after another.
 //
 // No public function has a `requires`: each answers for every input.
+pub mod batch;
 mod closing;
 mod emit;
 mod meaning;
+mod pairs;
 pub mod sound;
 mod standing;
 pub mod step;

@@ -47,7 +47,7 @@ fn quiet() -> Message
     }
 }
 
-fn report(up: u32, down: u32) -> Message
+pub fn report(up: u32, down: u32) -> Message
     ensures { λ r. ⌜ r ≡ report up down ⌝ }
 {
     let mut m = quiet();
