@@ -687,16 +687,63 @@ static struct charging_answer activate(struct charging_node *n, uint32_t t, cons
     return refused(0);
 }
 
+/* The first of the refusals 6 and 7 that fits, or 0. */
+static uint8_t untimely(const struct charging_node *n, uint32_t t) {
+    if (t > latest || t < n->clock) return 6;
+    return n->accepted >= most_accepted ? 7 : 0;
+}
+
 struct charging_answer plain_step(struct charging_node *n, const uint8_t *e, size_t event_len, uint8_t *out, size_t out_len) {
     if (!sound(n)) return refused(13);
     int k = refusal(e, event_len);
     if (k) return refused((uint8_t)k);
     uint32_t t = four(e + 3);
-    if (t > latest || t < n->clock) return refused(6);
-    if (n->accepted >= most_accepted) return refused(7);
+    k = untimely(n, t);
+    if (k) return refused((uint8_t)k);
     if (e[2] == 1) return activate(n, t, e);
     if (e[2] == 4 || e[2] == 6) return hear(n, 0, CHARGING_CONTEXTS, t, e, out, out_len);
     int i = find(n, four(e + 7), four(e + 11));
     if (i < 0) return refused(8);
     return hear(n, i, i + 1, t, e, out, out_len);
+}
+
+/* ---- a minute of reports ---- */
+
+/* The reports of one context, where it lies. What its open record has left up to the limit is worked out once, and kept. */
+static struct charging_batched count_pairs(struct charging_node *n, struct charging_context *c, uint32_t t, const uint32_t *volumes, size_t pairs,
+                                           uint8_t *out, size_t out_len) {
+    struct plain_record r;
+    uint64_t limit = n->profile.limits.volume, left = limit - counted(c, limit);
+    size_t written = 0;
+    for (size_t i = 0; i < pairs; i++) {
+        uint32_t up = volumes[2 * i], down = volumes[2 * i + 1];
+        uint64_t both = (uint64_t)up + down;
+        if (n->accepted >= most_accepted) return (struct charging_batched){7, i, written};
+        if (both < left) {
+            c->current.uplink += up;
+            c->current.downlink += down;
+            left -= both;
+        } else {
+            record_of(&n->profile, c, t, up, down, 16, &r);
+            if (2 + record_size(&r) > out_len - written) return (struct charging_batched){11, i, written};
+            written = (size_t)(put_marked(out + written, &r) - out);
+            reopen(&n->profile, c, t);
+            left = limit;
+        }
+        n->clock = t;
+        n->accepted++;
+    }
+    return (struct charging_batched){0, pairs, written};
+}
+
+struct charging_batched plain_batch(struct charging_node *n, uint32_t id, uint32_t ggsn, uint32_t t, const uint32_t *volumes, size_t volumes_len,
+                                    uint8_t *out, size_t out_len) {
+    if (!sound(n)) return (struct charging_batched){13, 0, 0};
+    if (volumes_len % 2 != 0) return (struct charging_batched){14, 0, 0};
+    if (volumes_len == 0) return (struct charging_batched){0, 0, 0};
+    uint8_t k = untimely(n, t);
+    if (k) return (struct charging_batched){k, 0, 0};
+    int i = find(n, id, ggsn);
+    if (i < 0) return (struct charging_batched){8, 0, 0};
+    return count_pairs(n, &n->contexts[i], t, volumes, volumes_len / 2, out, out_len);
 }
