@@ -1,14 +1,27 @@
 /* The plain C beside the proved program's `testing pace`, doing the same with the same files (bench/run).
  *
  *     plain PROFILE EVENTS          the record list of the events, on standard output
- *     plain PROFILE EVENTS RECORDS  three lines: what the step, the writer and the reader did, and how long they took
+ *     plain PROFILE EVENTS RECORDS  five lines: what the step, the batch, steps in its place, the writer and the reader did, and how long
+ *                                   they took
+ *
+ * The batch is measured on a busy node, and so are the steps in its place: the node that all events of the file, once, make of a fresh
+ * one. Each minute is 60 pairs at the node's clock for one of its active contexts, slot by slot and again from the first, free slots
+ * left out; the node goes on from minute to minute. `batch` takes a minute in one call, `steps` a pair in one traffic event. Both count
+ * pairs as their calls, and their sum is that of the written octets.
+ *
+ * The pairs are a list of 61 minutes, 7,320 numbers, used from its start on and again after its end. It is made before the clock is
+ * looked at, of the numbers x that follow 1 by x * 25,173 + 13,849 modulo 65,536, the first being 39,022: at an even place x modulo
+ * 60,000, an uplink, at an odd one 3 x, a downlink. So reports are as large as those of bench/generate.
  */
 #include "libc.h"
 #include "plain.h"
 
 enum { HELD = 65536, MOST_RECORDS = 64, EVENTS = 90000, WRITES = 20000, READS = 100000 };
+enum { PAIRS = 60, MINUTE = 2 * PAIRS, VOLUMES = 61 * MINUTE, BATCHES = 50000, STEPPED = 2000 };
 
 static uint8_t held[HELD];
+static struct charging_node node;
+static uint32_t volumes[VOLUMES];
 static struct plain_record records[MOST_RECORDS];
 static uint8_t out[CHARGING_MOST_OUTPUT];
 
@@ -53,7 +66,6 @@ static size_t event_length(const uint8_t *e) {
 
 /* Events one after another, from a fresh node on again after the last. */
 static size_t run(const struct charging_node *fresh, size_t n, size_t calls, int show) {
-    static struct charging_node node;
     size_t octets = 0;
     for (size_t at = 0; calls > 0; calls--) {
         if (at >= n) at = 0;
@@ -72,6 +84,59 @@ static size_t events_in(size_t n) {
     size_t events = 0;
     for (size_t at = 0; at < n; events++) at += event_length(held + at);
     return events;
+}
+
+static void make_volumes(void) {
+    uint32_t x = 1;
+    for (size_t i = 0; i < VOLUMES; i++) {
+        x = (x * 25173 + 13849) % 65536;
+        volumes[i] = i % 2 == 0 ? x % 60000 : 3 * x;
+    }
+}
+
+/* The names of the active contexts, in slot order. */
+static size_t active_names(struct charging_name names[CHARGING_CONTEXTS]) {
+    size_t n = 0;
+    for (size_t i = 0; i < CHARGING_CONTEXTS; i++)
+        if (node.contexts[i].active) names[n++] = node.contexts[i].name;
+    if (n == 0) stop(1, "plain: no context is active\n");
+    return n;
+}
+
+static size_t batch_minute(struct charging_name name, const uint32_t *minute) {
+    struct charging_batched a = plain_batch(&node, name.id, name.ggsn, node.clock, minute, MINUTE, out, sizeof out);
+    if (a.answer) stop(1, "plain: a batch was refused\n");
+    return a.written;
+}
+
+static uint8_t *put_four(uint8_t *p, uint32_t v) {
+    for (int i = 24; i >= 0; i -= 8) *p++ = (uint8_t)(v >> i);
+    return p;
+}
+
+static size_t step_minute(struct charging_name name, const uint32_t *minute) {
+    size_t octets = 0;
+    for (size_t i = 0; i < MINUTE; i += 2) {
+        uint8_t e[23] = {0xC3, 0x5E, 2};
+        put_four(put_four(put_four(put_four(put_four(e + 3, node.clock), name.id), name.ggsn), minute[i]), minute[i + 1]);
+        struct charging_answer a = plain_step(&node, e, sizeof e, out, sizeof out);
+        if (a.answer) stop(1, "plain: a report was refused\n");
+        octets += a.written;
+    }
+    return octets;
+}
+
+/* Minutes one after another, from a busy node on. */
+static size_t run_minutes(const struct charging_node *busy, size_t minutes, size_t (*take)(struct charging_name, const uint32_t *)) {
+    struct charging_name names[CHARGING_CONTEXTS];
+    node = *busy;
+    size_t n = active_names(names), octets = 0, who = 0, at = 0;
+    for (; minutes > 0; minutes--, who++, at += MINUTE) {
+        if (who >= n) who = 0;
+        if (at >= VOLUMES) at = 0;
+        octets += take(names[who], volumes + at);
+    }
+    return octets;
 }
 
 /* The length of the record that stands after the mark at a place. */
@@ -121,7 +186,7 @@ int main(int argc, char **argv) {
     if (argc != 3 && argc != 4) {
         stop(2, "usage: plain PROFILE EVENTS [RECORDS]\n");
     }
-    static struct charging_node fresh;
+    static struct charging_node fresh, busy;
     fresh_node(argv[1], &fresh);
     size_t n = load(argv[2]);
     if (argc == 3) {
@@ -130,6 +195,13 @@ int main(int argc, char **argv) {
     }
     long from = clock();
     say("step", EVENTS, run(&fresh, n, EVENTS, 0), from);
+    run(&fresh, n, events_in(n), 0);
+    busy = node;
+    make_volumes();
+    from = clock();
+    say("batch", (size_t)BATCHES * PAIRS, run_minutes(&busy, BATCHES, batch_minute), from);
+    from = clock();
+    say("steps", (size_t)STEPPED * PAIRS, run_minutes(&busy, STEPPED, step_minute), from);
     n = load(argv[3]);
     size_t kept = keep(n);
     from = clock();

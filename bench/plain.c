@@ -559,8 +559,9 @@ static struct charging_container ended(const struct charging_profile *p, const s
     return x;
 }
 
-/* The record that closes. The report of a traffic event is in it. */
-static void record_of(const struct charging_profile *p, const struct charging_context *c, uint32_t t, const uint8_t *e, int cause, struct plain_record *r) {
+/* The record that closes. The report of a traffic event is in it; of any other event both volumes are 0. */
+static void record_of(const struct charging_profile *p, const struct charging_context *c, uint32_t t, uint32_t up, uint32_t down, int cause,
+                      struct plain_record *r) {
     memset(r, 0, sizeof *r);
     r->network = c->flags & 1;
     memcpy(r->imsi, c->imsi, 8);
@@ -574,17 +575,32 @@ static void record_of(const struct charging_profile *p, const struct charging_co
     memcpy(r->containers, c->current.containers, c->current.count * sizeof r->containers[0]);
     struct charging_container *x = &r->containers[c->current.count];
     *x = ended(p, c, t, 2);
-    if (e[2] == 2) {
-        x->uplink += four(e + 15);
-        x->downlink += four(e + 19);
-    }
+    x->uplink += up;
+    x->downlink += down;
     r->count = c->current.count + 1;
     r->opening = c->current.opening;
     r->change = (c->flags & 2) && c->closed == 0;
     r->cause = (uint8_t)cause;
-    r->number = e[2] == 5 && c->closed == 0 ? 0 : c->closed + 1;
+    r->number = is_release(r->cause) && c->closed == 0 ? 0 : c->closed + 1;
     memcpy(r->nodeid, p->nodeid, 20);
     r->nodelen = p->nodelen;
+}
+
+/* A record after its mark. */
+static uint8_t *put_marked(uint8_t *p, const struct plain_record *r) {
+    *p++ = 0xC3;
+    *p++ = 0x5A;
+    return put_record(p, r);
+}
+
+/* The next record of a context opens. */
+static void reopen(const struct charging_profile *p, struct charging_context *c, uint32_t t) {
+    c->current.uplink = c->current.downlink = 0;
+    c->current.opening = (struct charging_stamp){t, p->zone};
+    c->current.changes = 0;
+    memset(c->current.containers, 0, sizeof c->current.containers);
+    c->current.count = 0;
+    c->closed++;
 }
 
 /* What stands of a context that wrote its record. */
@@ -594,12 +610,7 @@ static void next_record(const struct charging_profile *p, struct charging_contex
         return;
     }
     if (e[2] == 3) memcpy(&c->current.qos, e + 15, 5);
-    c->current.uplink = c->current.downlink = 0;
-    c->current.opening = (struct charging_stamp){t, p->zone};
-    c->current.changes = 0;
-    memset(c->current.containers, 0, sizeof c->current.containers);
-    c->current.count = 0;
-    c->closed++;
+    reopen(p, c, t);
 }
 
 /* What an event that closes nothing does to a context. */
@@ -621,13 +632,14 @@ static struct charging_answer refused(uint8_t answer) { return (struct charging_
 static struct charging_answer hear(struct charging_node *n, int from, int to, uint32_t t, const uint8_t *e, uint8_t *out, size_t out_len) {
     struct plain_record r;
     int causes[CHARGING_CONTEXTS];
+    uint32_t up = e[2] == 2 ? four(e + 15) : 0, down = e[2] == 2 ? four(e + 19) : 0;
     size_t size = 0;
     for (int i = from; i < to; i++) {
         struct charging_context *c = &n->contexts[i];
         if (c->active != 1) continue;
         causes[i] = closing(&n->profile, c, t, e);
         if (causes[i] < 0) continue;
-        record_of(&n->profile, c, t, e, causes[i], &r);
+        record_of(&n->profile, c, t, up, down, causes[i], &r);
         size += 2 + record_size(&r);
     }
     if (size > out_len) return refused(11);
@@ -639,10 +651,8 @@ static struct charging_answer hear(struct charging_node *n, int from, int to, ui
             go_on(&n->profile, c, t, e);
             continue;
         }
-        record_of(&n->profile, c, t, e, causes[i], &r);
-        *p++ = 0xC3;
-        *p++ = 0x5A;
-        p = put_record(p, &r);
+        record_of(&n->profile, c, t, up, down, causes[i], &r);
+        p = put_marked(p, &r);
         next_record(&n->profile, c, t, e);
     }
     n->clock = t;
@@ -677,16 +687,63 @@ static struct charging_answer activate(struct charging_node *n, uint32_t t, cons
     return refused(0);
 }
 
+/* The first of the refusals 6 and 7 that fits, or 0. */
+static uint8_t untimely(const struct charging_node *n, uint32_t t) {
+    if (t > latest || t < n->clock) return 6;
+    return n->accepted >= most_accepted ? 7 : 0;
+}
+
 struct charging_answer plain_step(struct charging_node *n, const uint8_t *e, size_t event_len, uint8_t *out, size_t out_len) {
     if (!sound(n)) return refused(13);
     int k = refusal(e, event_len);
     if (k) return refused((uint8_t)k);
     uint32_t t = four(e + 3);
-    if (t > latest || t < n->clock) return refused(6);
-    if (n->accepted >= most_accepted) return refused(7);
+    k = untimely(n, t);
+    if (k) return refused((uint8_t)k);
     if (e[2] == 1) return activate(n, t, e);
     if (e[2] == 4 || e[2] == 6) return hear(n, 0, CHARGING_CONTEXTS, t, e, out, out_len);
     int i = find(n, four(e + 7), four(e + 11));
     if (i < 0) return refused(8);
     return hear(n, i, i + 1, t, e, out, out_len);
+}
+
+/* ---- a minute of reports ---- */
+
+/* The reports of one context, where it lies. What its open record has left up to the limit is worked out once, and kept. */
+static struct charging_batched count_pairs(struct charging_node *n, struct charging_context *c, uint32_t t, const uint32_t *volumes, size_t pairs,
+                                           uint8_t *out, size_t out_len) {
+    struct plain_record r;
+    uint64_t limit = n->profile.limits.volume, left = limit - counted(c, limit);
+    size_t written = 0;
+    for (size_t i = 0; i < pairs; i++) {
+        uint32_t up = volumes[2 * i], down = volumes[2 * i + 1];
+        uint64_t both = (uint64_t)up + down;
+        if (n->accepted >= most_accepted) return (struct charging_batched){7, i, written};
+        if (both < left) {
+            c->current.uplink += up;
+            c->current.downlink += down;
+            left -= both;
+        } else {
+            record_of(&n->profile, c, t, up, down, 16, &r);
+            if (2 + record_size(&r) > out_len - written) return (struct charging_batched){11, i, written};
+            written = (size_t)(put_marked(out + written, &r) - out);
+            reopen(&n->profile, c, t);
+            left = limit;
+        }
+        n->clock = t;
+        n->accepted++;
+    }
+    return (struct charging_batched){0, pairs, written};
+}
+
+struct charging_batched plain_batch(struct charging_node *n, uint32_t id, uint32_t ggsn, uint32_t t, const uint32_t *volumes, size_t volumes_len,
+                                    uint8_t *out, size_t out_len) {
+    if (!sound(n)) return (struct charging_batched){13, 0, 0};
+    if (volumes_len % 2 != 0) return (struct charging_batched){14, 0, 0};
+    if (volumes_len == 0) return (struct charging_batched){0, 0, 0};
+    uint8_t k = untimely(n, t);
+    if (k) return (struct charging_batched){k, 0, 0};
+    int i = find(n, id, ggsn);
+    if (i < 0) return (struct charging_batched){8, 0, 0};
+    return count_pairs(n, &n->contexts[i], t, volumes, volumes_len / 2, out, out_len);
 }

@@ -22,8 +22,15 @@ struct plain_record {
     size_t nodelen;
 };
 
+/* what a batch answers; stands here until charging.h has it */
+struct charging_batched { uint8_t answer; size_t applied; size_t written; };
+
 /* An event: the answer; the node changes where it lies. */
 struct charging_answer plain_step(struct charging_node *node, const uint8_t *event, size_t event_len, uint8_t *out, size_t out_len);
+/* The reports of one context at one time, uplink and downlink by turns: the number that ended the call or 0, how many pairs were applied,
+ * and what they wrote; a refusal keeps what was applied before it. The node changes where it lies. */
+struct charging_batched plain_batch(struct charging_node *node, uint32_t id, uint32_t ggsn, uint32_t time, const uint32_t *volumes, size_t volumes_len,
+                                    uint8_t *out, size_t out_len);
 /* A record without its mark: 0, 24 or 11. */
 struct charging_answer plain_write(const struct plain_record *r, uint8_t *out, size_t out_len);
 /* 0 or 20; the record is all zero with 20. */
