@@ -22,9 +22,6 @@ struct plain_record {
     size_t nodelen;
 };
 
-/* what a batch answers; stands here until charging.h has it */
-struct charging_batched { uint8_t answer; size_t applied; size_t written; };
-
 /* An event: the answer; the node changes where it lies. */
 struct charging_answer plain_step(struct charging_node *node, const uint8_t *event, size_t event_len, uint8_t *out, size_t out_len);
 /* The reports of one context at one time, uplink and downlink by turns: the number that ended the call or 0, how many pairs were applied,

@@ -71,4 +71,11 @@ struct charging_start charging_fresh(struct charging_node *node, const uint8_t *
 struct charging_answer { uint8_t answer; size_t written; };
 struct charging_answer charging_step(struct charging_node *node, const uint8_t *event, size_t event_len, uint8_t *out, size_t out_len);
 
+/* A list of reports for the context of a name, all at one time: uplink and downlink by turns. 0, or the number of the refusal that ended the
+ * call; how many pairs were applied, and how many octets these wrote from out's start. What the pairs before a refusal did stays. 13 (a node
+ * that breaks a rule) and 14 (a list of odd length) apply none; an empty list changes nothing, the clock included. */
+struct charging_batched { uint8_t answer; size_t applied; size_t written; };
+struct charging_batched charging_batch(struct charging_node *node, uint32_t id, uint32_t ggsn, uint32_t time, const uint32_t *volumes,
+                                       size_t volumes_len, uint8_t *out, size_t out_len);
+
 #endif

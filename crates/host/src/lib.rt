@@ -2,6 +2,7 @@
 // hands back, so it answers the same.
 use node::Node;
 ghost use Rattle.node.specs.Step.{Steps};
+ghost use Rattle.node.specs.Batch.{nameWith, Batches};
 ghost use Rattle.host.specs.Begin.{Begins};
 
 // What is answered beside the node: 0 or the number of a refusal, and how many octets were written.
@@ -20,6 +21,35 @@ pub extern "C" fn charging_step(node: &mut Node, event: &[u8], out: &mut [u8]) -
     *node = r.node;
     Answer {
         answer: r.answer,
+        written: r.written,
+    }
+}
+
+// What is answered beside the node: 0, or the number of a refusal; how many pairs were applied, and how many octets these wrote.
+#[repr(C)]
+pub struct BatchAnswer {
+    pub answer: u8,
+    pub applied: usize,
+    pub written: usize,
+}
+
+// Takes a list of reports, uplink and downlink by turns, for the context of a name at one time: any list, any node, any buffer.
+#[no_mangle]
+pub extern "C" fn charging_batch(
+    node: &mut Node,
+    id: u32,
+    ggsn: u32,
+    t: u32,
+    volumes: &[u32],
+    out: &mut [u8],
+) -> BatchAnswer
+    ensures { λ r. ⌜ Batches (now (node .entry)) (nameWith id ggsn) t (now (volumes .entry)) (now (out .entry)) (now (out .exit)) (r .answer) (r .applied) (now (node .exit)) (r .written) ⌝ }
+{
+    let r = node::batch::batch(*node, id, ggsn, t, volumes, out);
+    *node = r.node;
+    BatchAnswer {
+        answer: r.answer,
+        applied: r.applied,
         written: r.written,
     }
 }
