@@ -93,7 +93,7 @@ fn batch_past(passed: usize, node: &Node, batch: &Batch, room: usize) -> Batched
 /// a refusal keeps the applied pairs' node, output and written length"
 fn one_by_one(mut done: Batched, batch: &Batch, room: usize) -> Batched {
     for event in batch.events() {
-        let left = room - done.output.len();
+        let left = room.saturating_sub(done.output.len());
         let one = step_of_sound(&done.node, &event, left);
         if one.answer != 0 {
             done.answer = one.answer;

@@ -57,6 +57,20 @@ impl Run {
         self.send_batch(Batch { time, name, volumes });
     }
 
+    /// More records by one batch than there were events before it, where two
+    /// volumes can meet the limit.
+    pub fn early_batch(&mut self) {
+        self.activate_now();
+        let Some(name) = self.active_name() else { return };
+        let most = u64::from(u32::MAX);
+        let limit = self.node.profile.volume_limit.min(2 * most);
+        let up = self.random.between(limit.saturating_sub(most), limit.min(most));
+        let pair = [up as u32, (limit - up) as u32];
+        let volumes = pair.repeat(self.node.accepted as usize + 3);
+        self.call_batch(&Batch { time: self.node.clock, name, volumes }, ROOM);
+        self.say_at(self.node.clock, What::Management(name));
+    }
+
     /// As many pairs as there may be, of so little that all are applied.
     pub fn longest_batch(&mut self) {
         let Some(name) = self.active_name() else { return };

@@ -8,6 +8,9 @@ impl Run {
         if run == 0 {
             self.printed_sessions();
         }
+        if run % 3 == 0 {
+            self.early_batch();
+        }
         if run % 6 == 0 || run % 6 == 2 {
             self.first_february();
         }
