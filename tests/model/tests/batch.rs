@@ -125,6 +125,7 @@ fn order_of_the_numbers() {
     let asked = [
         (with(5, NAME, &[]), 0),
         (with(5, NAME, &[1]), 14),
+        (with(5, NAME, &[1, 2, 3]), 14),
         (with(5, NAME, &[1000, 0, 1]), 14),
         (with(4, NAME, &[1000, 0, 1]), 14),
         (with(4, other, &[1]), 14),
