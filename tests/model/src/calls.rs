@@ -14,7 +14,7 @@ pub enum Lent<'a> {
     Batch(Batch),
 }
 
-/// "a length of FFFF": a batch stands in the place of an event's octets.
+/// "FFFF, where a batch follows in its place"
 const BATCH: usize = 0xFFFF;
 
 /// The octets of the file that are still to be read.
@@ -53,8 +53,8 @@ impl<'a> Rest<'a> {
         Ok(Call { room, what })
     }
 
-    /// "time 4, charging ID 4, GGSN 4, how many numbers 2, and so many numbers
-    /// of 4 octets"
+    /// Time, charging ID and GGSN, "how many numbers follow" and "so many
+    /// numbers of 4 octets"
     fn batch(&mut self) -> Result<Batch, String> {
         let time = self.number()?;
         let name = Name { charging_id: self.number()?, ggsn: self.four()? };

@@ -175,6 +175,7 @@ impl Aims {
     pub fn new_run(&mut self) {
         self.released.clear();
         self.refused_for_room.clear();
+        self.batches.no_batch();
     }
 
     fn met(&mut self, name: &'static str, when: bool) {
@@ -233,7 +234,7 @@ impl Aims {
 
     /// An event, likewise.
     pub fn count(&mut self, node: &Node, event: &[u8], room: usize, done: &Step) {
-        self.batches.event();
+        self.batches.no_batch();
         *self.answers.entry(done.answer).or_default() += 1;
         self.lengths.insert(event.len());
         self.count_pairs(node, event, room, done.answer);

@@ -100,7 +100,8 @@ fn closings(node: &Node, batch: &Batch, pairs: usize) -> Vec<usize> {
 }
 
 impl Batches {
-    pub fn event(&mut self) {
+    /// An event comes next, or a new run.
+    pub fn no_batch(&mut self) {
         self.last = None;
     }
 
