@@ -1,4 +1,4 @@
-/* Calls charging_step on nodes that are handed over, and writes what it answers and leaves.
+/* Calls charging_step and charging_batch on nodes that are handed over, and writes what they answer and leave.
  *
  * Standard input has cases, standard output gets a result for each; tests/model/src/bin/nodes/cases.rs says how both look.
  * There is no rule of charging here: a node's fields are put where the header says, and read back. */
@@ -16,6 +16,7 @@ enum { FIELDS = 47 + 12 + CHARGING_CONTEXTS * (139 + CHARGING_CONTAINERS * 28), 
 
 static struct charging_node node;
 static uint8_t before[FIELDS], after[FIELDS], event[MOST], area[GUARD + MOST + GUARD], was[GUARD + MOST + GUARD];
+static uint32_t name_and_time[3], volumes[MOST];
 
 static void get(void *to, size_t n) {
     if (fread(to, 1, n, stdin) != n) exit(2);
@@ -129,26 +130,38 @@ static void put_difference(const uint8_t *one, const uint8_t *other, size_t n) {
     put(run, sizeof run);
 }
 
+/* What a call answers; an event applies no pair. */
+static struct charging_batched call(int batch, size_t length, size_t room) {
+    uint8_t *out = area + GUARD;
+    if (batch) return charging_batch(&node, name_and_time[0], name_and_time[1], name_and_time[2], volumes, length, out, room);
+    struct charging_answer a = charging_step(&node, event, length, out, room);
+    return (struct charging_batched){a.answer, 0, a.written};
+}
+
+static void put_long(uint64_t n) { put(&n, sizeof n); }
+
 int main(void) {
-    uint8_t more;
-    while (fread(&more, 1, 1, stdin) == 1) {
+    uint8_t batch;
+    while (fread(&batch, 1, 1, stdin) == 1) {
         uint16_t length, room;
         uint8_t fill;
         memset(before, 0, sizeof before);
         get_difference(before, sizeof before);
+        if (batch) get(name_and_time, sizeof name_and_time);
         get(&length, sizeof length);
-        get(event, length);
+        if (batch) get(volumes, length * sizeof volumes[0]);
+        else get(event, length);
         get(&room, sizeof room);
         get(&fill, sizeof fill);
         size_t whole = GUARD + (size_t)room + GUARD;
         for (size_t i = 0; i < whole; i++) was[i] = area[i] = (uint8_t)(fill + 7 * i);
         memset(&node, fill, sizeof node); /* its padding: anything */
         fields(before, 1);
-        struct charging_answer a = charging_step(&node, event, length, area + GUARD, room);
+        struct charging_batched a = call(batch, length, room);
         fields(after, 0);
-        uint64_t written = a.written;
         put(&a.answer, sizeof a.answer);
-        put(&written, sizeof written);
+        if (batch) put_long(a.applied);
+        put_long(a.written);
         put_difference(before, after, FIELDS);
         put_difference(was, area, whole);
     }

@@ -1,6 +1,8 @@
-//! The rules of document 01 a second time, in plain Rust, written from the
-//! document alone. Words in quotes are the document's.
+//! The rules of document 01, and of the requests of 02 that are in, a second
+//! time, in plain Rust, written from the documents alone. Words in quotes are
+//! the documents'.
 
+pub mod batch;
 pub mod calls;
 pub mod clock;
 pub mod event;

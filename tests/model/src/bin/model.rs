@@ -1,8 +1,26 @@
 //! model PROFILE CALLS: the lines that `calls` should write.
 
-use charging_model::{calls, node::Node, profile::Profile, step::step};
+use charging_model::batch::batch;
+use charging_model::calls::{self, Call, Lent};
+use charging_model::{node::Node, profile::Profile, step::step};
 use std::io::Write;
 use std::process::ExitCode;
+
+/// The node after a call, and the call's line.
+fn answer(node: &Node, call: &Call) -> (Node, String) {
+    match &call.what {
+        Lent::Event(event) => {
+            let done = step(node, event, call.room);
+            let line = calls::line(done.answer, &done.output);
+            (done.node, line)
+        }
+        Lent::Batch(reports) => {
+            let done = batch(node, reports, call.room);
+            let line = calls::batch_line(&done);
+            (done.node, line)
+        }
+    }
+}
 
 fn run(profile: &str, file: &str) -> Result<(), String> {
     let text = std::fs::read(profile).map_err(|e| format!("{profile}: {e}"))?;
@@ -11,10 +29,9 @@ fn run(profile: &str, file: &str) -> Result<(), String> {
     let mut node = Node::fresh(profile);
     let mut out = std::io::BufWriter::new(std::io::stdout().lock());
     for call in calls::read(&octets)? {
-        let done = step(&node, call.event, call.room);
-        out.write_all(calls::line(done.answer, &done.output).as_bytes())
-            .map_err(|e| e.to_string())?;
-        node = done.node;
+        let (after, line) = answer(&node, &call);
+        out.write_all(line.as_bytes()).map_err(|e| e.to_string())?;
+        node = after;
     }
     out.flush().map_err(|e| e.to_string())
 }

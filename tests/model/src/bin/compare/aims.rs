@@ -1,6 +1,8 @@
 //! What a set of calls has to meet to be worth comparing, counted call by
 //! call: a table of aims, none of which may stay at zero.
 
+use crate::batches::Batches;
+use charging_model::batch::{Batch, Batched};
 use charging_model::clock::{self, LAST_SECOND};
 use charging_model::event::{self, Name, What};
 use charging_model::node::{Node, SLOTS};
@@ -148,6 +150,7 @@ pub struct Aims {
     pub aims: BTreeMap<&'static str, u64>,
     pub pairs: BTreeMap<(u8, u8), u64>,
     pub lengths: BTreeSet<usize>,
+    batches: Batches,
     released: BTreeSet<Name>,
     refused_for_room: Vec<u8>,
 }
@@ -160,6 +163,7 @@ impl Default for Aims {
             aims: NAMES.iter().map(|n| (*n, 0)).collect(),
             pairs: PAIRS.iter().map(|n| (*n, 0)).collect(),
             lengths: BTreeSet::new(),
+            batches: Batches::default(),
             released: BTreeSet::new(),
             refused_for_room: Vec::new(),
         }
@@ -171,6 +175,7 @@ impl Aims {
     pub fn new_run(&mut self) {
         self.released.clear();
         self.refused_for_room.clear();
+        self.batches.no_batch();
     }
 
     fn met(&mut self, name: &'static str, when: bool) {
@@ -192,6 +197,7 @@ impl Aims {
         missed.extend(
             (0..=300).filter(|l| !self.lengths.contains(l)).map(|l| format!("event of length {l}")),
         );
+        missed.extend(self.batches.missed());
         missed
     }
 
@@ -214,11 +220,21 @@ impl Aims {
         for name in NAMES {
             text += &format!("  {:>9}  {name}\n", self.aims[name]);
         }
-        text + &format!("  {:>9}  different lengths of an event\n", self.lengths.len())
+        text += &format!("  {:>9}  different lengths of an event\n", self.lengths.len());
+        text + &self.batches.table()
     }
 
-    /// One call, with the node before it and what the model makes of it.
+    /// A batch, with the node before it and what the model makes of it.
+    pub fn count_batch(&mut self, node: &Node, batch: &Batch, room: usize, done: &Batched) {
+        self.batches.count(node, batch, room, done);
+        for record in &done.records {
+            self.count_record(node, record);
+        }
+    }
+
+    /// An event, likewise.
     pub fn count(&mut self, node: &Node, event: &[u8], room: usize, done: &Step) {
+        self.batches.no_batch();
         *self.answers.entry(done.answer).or_default() += 1;
         self.lengths.insert(event.len());
         self.count_pairs(node, event, room, done.answer);

@@ -2,11 +2,13 @@
 //! of every run in RUNS, line by line. Then the table of what the calls met.
 
 mod aims;
+mod batches;
 
 use crate::aims::Aims;
-use charging_model::calls::{self, hex};
+use charging_model::batch::batch;
+use charging_model::calls::{self, hex, Call, Lent};
 use charging_model::clock;
-use charging_model::event;
+use charging_model::event::{self, Name};
 use charging_model::node::Node;
 use charging_model::profile::Profile;
 use charging_model::step::step;
@@ -35,6 +37,17 @@ fn shown(line: Option<&[u8]>, around: usize) -> String {
     format!("{} .. (from character {from}) {} ..", &text[..20], &text[from..to])
 }
 
+fn time_in_words(time: u32) -> String {
+    match time <= clock::LAST_SECOND {
+        true => format!(" at {time} = {}", hex(&clock::time_stamp(time, 0)[..6])),
+        false => format!(" at {time}"),
+    }
+}
+
+fn name_in_words(name: Name) -> String {
+    format!(", name {:08X} {:?}", name.charging_id, name.ggsn)
+}
+
 fn event_in_words(octets: &[u8]) -> String {
     if octets.len() < event::HEAD {
         return "under 7 octets".into();
@@ -42,16 +55,65 @@ fn event_in_words(octets: &[u8]) -> String {
     let kinds = ["?", "activate", "traffic", "QoS", "tariff", "release", "tick", "management"];
     let kind = event::kind(octets);
     let mut words = format!("{} ({kind})", kinds.get(usize::from(kind)).unwrap_or(&"?"));
-    let time = event::time(octets);
-    words += &format!(" at {time}");
-    if time <= clock::LAST_SECOND {
-        words += &format!(" = {}", hex(&clock::time_stamp(time, 0)[..6]));
-    }
+    words += &time_in_words(event::time(octets));
     if event::has_name(kind) && octets.len() >= 15 {
-        let name = event::name(octets);
-        words += &format!(", name {:08X} {:?}", name.charging_id, name.ggsn);
+        words += &name_in_words(event::name(octets));
     }
     words
+}
+
+/// How many pairs of a batch are shown.
+const PAIRS_SHOWN: usize = 12;
+
+/// The pairs of a list: `uplink+downlink`, and the number that has no other.
+fn pairs_in_words(volumes: &[u32]) -> String {
+    let pair = |pair: &[u32]| pair.iter().map(u32::to_string).collect::<Vec<_>>().join("+");
+    let mut pairs: Vec<String> = volumes.chunks(2).take(PAIRS_SHOWN).map(pair).collect();
+    let more = volumes.len().saturating_sub(2 * PAIRS_SHOWN);
+    if more > 0 {
+        pairs.push(format!("and {more} numbers more"));
+    }
+    if pairs.is_empty() {
+        "(an empty list)".into()
+    } else {
+        pairs.join(", ")
+    }
+}
+
+/// A call for a reader, in two lines.
+fn call_in_words(call: &Call) -> String {
+    let room = call.room;
+    match &call.what {
+        Lent::Event(event) => format!(
+            "  event    {}\n           {} octets, room {room}: {}",
+            hex(event),
+            event.len(),
+            event_in_words(event)
+        ),
+        Lent::Batch(batch) => format!(
+            "  batch    {}\n           {} numbers, room {room}: traffic{}{}",
+            pairs_in_words(&batch.volumes),
+            batch.volumes.len(),
+            time_in_words(batch.time),
+            name_in_words(batch.name)
+        ),
+    }
+}
+
+/// The node after a call; what the call meets is counted.
+fn follow(node: &Node, call: &Call, aims: &mut Aims) -> Node {
+    match &call.what {
+        Lent::Event(event) => {
+            let done = step(node, event, call.room);
+            aims.count(node, event, call.room, &done);
+            done.node
+        }
+        Lent::Batch(reports) => {
+            let done = batch(node, reports, call.room);
+            aims.count_batch(node, reports, call.room, &done);
+            done.node
+        }
+    }
 }
 
 fn compare(runs: &Path, expected: &Path, found: &Path) -> Result<bool, String> {
@@ -83,8 +145,7 @@ fn compare(runs: &Path, expected: &Path, found: &Path) -> Result<bool, String> {
         aims.new_run();
         let mut node = Node::fresh(profile);
         for (at, call) in made.iter().enumerate() {
-            let done = step(&node, call.event, call.room);
-            aims.count(&node, call.event, call.room, &done);
+            let after = follow(&node, call, &mut aims);
             let (one, two) = (model[at], other.get(at).copied());
             if Some(one) == two {
                 same += 1;
@@ -94,13 +155,7 @@ fn compare(runs: &Path, expected: &Path, found: &Path) -> Result<bool, String> {
                     let two_octets = two.unwrap_or(&[]);
                     let first = one.iter().zip(two_octets).take_while(|(a, b)| a == b).count();
                     println!("run {name}, call {} of {}: the outputs differ", at + 1, made.len());
-                    println!("  event    {}", hex(call.event));
-                    println!(
-                        "           {} octets, room {}: {}",
-                        call.event.len(),
-                        call.room,
-                        event_in_words(call.event)
-                    );
+                    println!("{}", call_in_words(call));
                     println!(
                         "  node     clock {}, {} contexts, {} events accepted",
                         node.clock,
@@ -112,7 +167,7 @@ fn compare(runs: &Path, expected: &Path, found: &Path) -> Result<bool, String> {
                     println!("  first difference at character {} of the line", first + 1);
                 }
             }
-            node = done.node;
+            node = after;
         }
         if other.len() > made.len() {
             differing += other.len() - made.len();

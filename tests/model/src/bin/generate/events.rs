@@ -19,7 +19,8 @@ impl Run {
     }
 
     pub fn traffic(&mut self, name: Name) -> u8 {
-        let (uplink, downlink) = self.volumes(name);
+        let left = self.volume_left(name);
+        let (uplink, downlink) = self.volumes(left);
         self.say(What::Traffic(name, uplink, downlink))
     }
 

@@ -1,9 +1,10 @@
 //! generate SEED COUNT DIR: writes DIR/000.profile, DIR/000.calls and so on,
-//! altogether COUNT calls. The model runs beside it, so that the generator can
-//! aim at limits, rooms and names.
+//! altogether COUNT events, and a batch after every few. The model runs beside
+//! it, so that the generator can aim at limits, rooms and names.
 //! generate numbers DIR: writes DIR/numbers.profile and DIR/numbers.calls, in
 //! which one activation closes 32,776 records.
 
+mod batches;
 mod calendar;
 mod edges;
 mod events;
@@ -22,7 +23,7 @@ use crate::run::Run;
 use std::path::Path;
 use std::process::ExitCode;
 
-const CALLS_OF_A_RUN: usize = 2_500;
+const EVENTS_OF_A_RUN: usize = 2_500;
 
 fn generate_numbers(folder: &Path) -> std::io::Result<()> {
     std::fs::create_dir_all(folder)?;
@@ -36,16 +37,18 @@ fn generate(seed: u64, count: usize, folder: &Path) -> std::io::Result<()> {
     std::fs::create_dir_all(folder)?;
     let mut left = count;
     let mut run = 0;
+    let mut batches = 0;
     while left > 0 {
-        let most = left.min(CALLS_OF_A_RUN);
+        let most = left.min(EVENTS_OF_A_RUN);
         let mut one = Run::new(seed, run, most);
         one.fill_up(run);
         assert_eq!(one.count, most);
         one.write(folder, &format!("{run:03}"))?;
         left -= most;
+        batches += one.batches;
         run += 1;
     }
-    println!("{count} calls in {run} runs, seed {seed}");
+    println!("{count} events and {batches} batches in {run} runs, seed {seed}");
     Ok(())
 }
 

@@ -50,11 +50,16 @@ impl Run {
         }
     }
 
-    pub fn volumes(&mut self, name: Name) -> (u32, u32) {
-        let most = u64::from(u32::MAX);
+    /// How many octets more meet the volume limit.
+    pub fn volume_left(&self, name: Name) -> u64 {
         let slot = self.node.find(name).unwrap();
         let have = self.node.slots[slot].as_ref().unwrap().record_volume();
-        let left = self.node.profile.volume_limit - have;
+        self.node.profile.volume_limit - have
+    }
+
+    /// Two volumes, often such that the limit is just met or just missed.
+    pub fn volumes(&mut self, left: u64) -> (u32, u32) {
+        let most = u64::from(u32::MAX);
         let sum = match self.random.below(10) {
             0 => 0,
             1 | 2 => left,

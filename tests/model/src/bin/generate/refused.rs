@@ -64,16 +64,21 @@ impl Run {
         }
     }
 
-    pub fn spoil_time(&mut self, event: &mut [u8]) {
+    /// A time above the last second or, mostly, before the clock.
+    pub fn bad_time(&mut self) -> u32 {
         let clock = self.node.clock;
-        let time = match self.random.below(6) {
+        match self.random.below(6) {
             0 => LAST_SECOND + 1,
             1 => u32::MAX,
             2 => self.random.between(u64::from(LAST_SECOND) + 1, u32::MAX.into()) as u32,
             3 => 0,
             4 => self.random.below(u64::from(clock) + 1) as u32,
             _ => clock.saturating_sub(1),
-        };
+        }
+    }
+
+    pub fn spoil_time(&mut self, event: &mut [u8]) {
+        let time = self.bad_time();
         event[3..7].copy_from_slice(&time.to_be_bytes());
     }
 

@@ -2,6 +2,7 @@
 //! beside, so that later calls can aim at what the node holds.
 
 use crate::profiles::profile;
+use charging_model::batch::{self, Batch};
 use charging_model::clock::LAST_SECOND;
 use charging_model::event::{self, octets, Name, What};
 use charging_model::node::Node;
@@ -11,6 +12,8 @@ use std::path::Path;
 
 /// The largest room of a call.
 pub const ROOM: usize = 20_000;
+/// The most numbers of a batch.
+pub const NUMBERS: usize = 1_000;
 
 /// How the time of a run goes on.
 #[derive(Clone, Copy, PartialEq)]
@@ -31,8 +34,10 @@ pub struct Run {
     pub node: Node,
     pub pace: Pace,
     pub calls: Vec<u8>,
+    /// How many events, and how many there are to be; and how many batches.
     pub count: usize,
     pub most: usize,
+    pub batches: usize,
     /// Names released in this run.
     pub released: Vec<Name>,
 }
@@ -54,6 +59,7 @@ impl Run {
             calls: Vec::new(),
             count: 0,
             most,
+            batches: 0,
             released: Vec::new(),
         }
     }
@@ -76,6 +82,19 @@ impl Run {
         }
         self.node = done.node;
         done.answer
+    }
+
+    /// A batch: its answer, and how many pairs were applied.
+    pub fn call_batch(&mut self, reports: &Batch, room: usize) -> (u8, usize) {
+        if self.full() {
+            return (255, 0);
+        }
+        assert!(reports.volumes.len() <= NUMBERS && room <= ROOM);
+        self.batches += 1;
+        calls::append_batch(&mut self.calls, room, reports);
+        let done = batch::batch(&self.node, reports, room);
+        self.node = done.node;
+        (done.answer, done.applied)
     }
 
     /// The event with a room that fits, is exact, or is too small first.

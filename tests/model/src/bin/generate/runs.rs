@@ -8,6 +8,9 @@ impl Run {
         if run == 0 {
             self.printed_sessions();
         }
+        if run % 3 == 0 {
+            self.early_batch();
+        }
         if run % 6 == 0 || run % 6 == 2 {
             self.first_february();
         }
@@ -27,6 +30,7 @@ impl Run {
                 6 if run % 4 == 3 => self.other_fields(),
                 7 => self.heads(),
                 8 => self.changes(),
+                9 if run % 4 == 1 => self.longest_batch(),
                 _ => {}
             }
             scene += 1;
@@ -34,6 +38,9 @@ impl Run {
                 self.walk();
                 if self.random.percent(40) {
                     self.bad();
+                }
+                while self.random.percent(33) {
+                    self.some_batch();
                 }
             }
             if self.pace == Pace::End && self.count > self.most * 2 / 3 {

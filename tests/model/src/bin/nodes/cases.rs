@@ -1,31 +1,45 @@
 //! The file of cases that the C program reads, and the file of results that it
 //! writes. Numbers are little-endian.
 //!
-//! case:   1 octet, any; the node as a difference from all zero; 2 octets
-//!         length, the event; 2 octets room, 1 octet fill
-//! result: 1 octet answer; 8 octets written length; the node as a difference
-//!         from the one before; the area around the buffer, likewise
+//! case:   1 octet, 0 for an event and 1 for a batch; the node as a difference
+//!         from all zero; the event or the batch; 2 octets room, 1 octet fill
+//! event:  2 octets length, the event
+//! batch:  4 octets charging ID, 4 octets GGSN, 4 octets time; 2 octets how
+//!         many numbers, these, of 4 octets each
+//! result: 1 octet answer; of a batch 8 octets how many pairs were applied;
+//!         8 octets written length; the node as a difference from the one
+//!         before; the area around the buffer, likewise
 //!
 //! A difference: 2 octets how many are the same, 2 octets how many follow,
 //! these; and so on, up to two numbers of 0.
 
 use crate::stored::{Stored, OCTETS};
+use charging_model::batch::Batch;
+use charging_model::event::Name;
 
 /// Octets before and after the buffer, which a call may not touch.
 pub const GUARD: usize = 16;
 
+/// What a call is lent beside its buffer.
+#[derive(Clone)]
+pub enum Lent {
+    Event(Vec<u8>),
+    Batch(Batch),
+}
+
 pub struct Case {
     pub node: Stored,
-    pub event: Vec<u8>,
+    pub lent: Lent,
     pub room: usize,
     pub fill: u8,
 }
 
 /// What a call answers and leaves: the node's fields, and the buffer between
-/// its guards.
+/// its guards. No pair is applied by an event.
 #[derive(Debug, PartialEq, Eq)]
 pub struct Outcome {
     pub answer: u8,
+    pub applied: u64,
     pub written: u64,
     pub node: Vec<u8>,
     pub area: Vec<u8>,
@@ -56,11 +70,25 @@ fn put_difference(file: &mut Vec<u8>, before: &[u8], after: &[u8]) {
     put(0, &[]);
 }
 
+fn put_lent(file: &mut Vec<u8>, lent: &Lent) {
+    match lent {
+        Lent::Event(event) => {
+            file.extend((event.len() as u16).to_le_bytes());
+            file.extend(event);
+        }
+        Lent::Batch(Batch { time, name, volumes }) => {
+            let head = [name.charging_id, u32::from_be_bytes(name.ggsn), *time];
+            file.extend(head.map(u32::to_le_bytes).concat());
+            file.extend((volumes.len() as u16).to_le_bytes());
+            file.extend(volumes.iter().flat_map(|volume| volume.to_le_bytes()));
+        }
+    }
+}
+
 pub fn put_case(file: &mut Vec<u8>, case: &Case) {
-    file.push(0);
+    file.push(matches!(case.lent, Lent::Batch(_)).into());
     put_difference(file, &[0; OCTETS], &case.node.octets());
-    file.extend((case.event.len() as u16).to_le_bytes());
-    file.extend(&case.event);
+    put_lent(file, &case.lent);
     file.extend((case.room as u16).to_le_bytes());
     file.push(case.fill);
 }
@@ -90,6 +118,14 @@ impl<'a> File<'a> {
         Some(u16::from_le_bytes(self.octets(2)?.try_into().ok()?).into())
     }
 
+    fn number(&mut self) -> Option<u32> {
+        Some(u32::from_le_bytes(self.octets(4)?.try_into().ok()?))
+    }
+
+    fn long(&mut self) -> Option<u64> {
+        Some(u64::from_le_bytes(self.octets(8)?.try_into().ok()?))
+    }
+
     fn difference(&mut self, octets: &mut [u8]) -> Option<()> {
         let mut at = 0;
         loop {
@@ -103,29 +139,44 @@ impl<'a> File<'a> {
         }
     }
 
+    fn event(&mut self) -> Option<Vec<u8>> {
+        let length = self.short()?;
+        Some(self.octets(length)?.to_vec())
+    }
+
+    fn batch(&mut self) -> Option<Batch> {
+        let name = Name { charging_id: self.number()?, ggsn: self.number()?.to_be_bytes() };
+        let time = self.number()?;
+        let count = self.short()?;
+        let volumes = (0..count).map(|_| self.number()).collect::<Option<_>>()?;
+        Some(Batch { time, name, volumes })
+    }
+
     /// Nothing where the file ends within a case.
     pub fn case(&mut self) -> Option<Case> {
         let mut node = [0; OCTETS];
-        self.octet()?;
+        let batch = self.octet()? == 1;
         self.difference(&mut node)?;
-        let length = self.short()?;
-        let event = self.octets(length)?.to_vec();
-        Some(Case {
-            node: Stored::of_octets(&node),
-            event,
-            room: self.short()?,
-            fill: self.octet()?,
-        })
+        let node = Stored::of_octets(&node);
+        let lent = match batch {
+            true => Lent::Batch(self.batch()?),
+            false => Lent::Event(self.event()?),
+        };
+        Some(Case { node, lent, room: self.short()?, fill: self.octet()? })
     }
 
     /// Nothing where the file ends within a result, or is none.
     pub fn result(&mut self, case: &Case) -> Option<Outcome> {
         let answer = self.octet()?;
-        let written = u64::from_le_bytes(self.octets(8)?.try_into().ok()?);
+        let applied = match case.lent {
+            Lent::Event(_) => 0,
+            Lent::Batch(_) => self.long()?,
+        };
+        let written = self.long()?;
         let mut node = case.node.octets();
         self.difference(&mut node)?;
         let mut area = area(case.room, case.fill);
         self.difference(&mut area)?;
-        Some(Outcome { answer, written, node, area })
+        Some(Outcome { answer, applied, written, node, area })
     }
 }

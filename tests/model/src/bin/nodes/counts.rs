@@ -1,10 +1,12 @@
 //! What the cases have met, and what they must meet.
 
-use crate::cases::Case;
+use crate::batches::pair_refused;
+use crate::cases::{Case, Lent};
 use crate::limits::LIMITS;
 use crate::sound::{broken, RULES};
 use crate::stored::{Stored, APN, NODE_ID, PLACES};
-use charging_model::step::Step;
+use charging_model::batch::{Batch, Batched};
+use charging_model::node::MOST_ACCEPTED;
 use std::collections::hash_map::DefaultHasher;
 use std::collections::{BTreeMap, BTreeSet, HashSet};
 use std::hash::{Hash, Hasher};
@@ -12,6 +14,9 @@ use std::hash::{Hash, Hasher};
 /// "at least 20,000 nodes", and how often each rule, part, limit and answer.
 pub const NODES: usize = 20_000;
 pub const TIMES: usize = 100;
+/// Batches in all, and how often each rule is broken where one is asked for.
+pub const BATCHES: usize = 3_000;
+pub const BATCH_TIMES: usize = 10;
 
 /// How often something was met in all, and how often in the way that tells
 /// most: a rule as the only one broken, a limit gone over.
@@ -31,7 +36,35 @@ pub struct Counts {
     causes: BTreeMap<u8, usize>,
     /// Octets and places that were not zero and had to be.
     octets: BTreeMap<(&'static str, usize), usize>,
+    batches: Batches,
 }
+
+/// What the batches among the cases have met; all other counts are of events.
+#[derive(Default)]
+struct Batches {
+    all: usize,
+    answers: BTreeMap<u8, usize>,
+    rules: BTreeMap<&'static str, usize>,
+    limits: BTreeMap<&'static str, usize>,
+    met: BTreeMap<&'static str, usize>,
+}
+
+const BATCH_ANSWERS: [u8; 7] = [0, 6, 7, 8, 11, 13, 14];
+const BATCH_MET: [&str; 13] = [
+    "13 for an empty list",
+    "13 for a list of odd length",
+    "13 for pairs",
+    "an empty list on a sound node",
+    "an empty list whose name or time a pair would be refused for",
+    "14 where a pair would be refused with 6, 7 or 8",
+    "7 in the middle",
+    "7 at the first pair",
+    "11 in the middle",
+    "11 with records kept",
+    "several records",
+    "a record of several containers",
+    "the last event that may be accepted",
+];
 
 const ANSWERS: [u8; 13] = [0, 1, 2, 3, 4, 5, 6, 7, 8, 9, 10, 11, 13];
 const CAUSES: [u8; 7] = [0, 4, 16, 17, 18, 19, 20];
@@ -47,13 +80,19 @@ fn of<K: Ord, V: Copy + Default>(counts: &BTreeMap<K, V>, key: K) -> V {
 }
 
 impl Counts {
-    /// Adds a case; of a sound node the step too.
-    pub fn add(&mut self, case: &Case, answer: u8, step: Option<&Step>) {
-        let node = &case.node;
+    /// Adds a case; of a sound node what the model makes of it too.
+    pub fn add(&mut self, case: &Case, answer: u8, done: Option<&Batched>) {
+        self.cases += 1;
+        match &case.lent {
+            Lent::Event(_) => self.add_event(&case.node, answer, done),
+            Lent::Batch(batch) => self.batches.add(&case.node, batch, answer, done),
+        }
+    }
+
+    fn add_event(&mut self, node: &Stored, answer: u8, done: Option<&Batched>) {
         let mut hasher = DefaultHasher::new();
         node.octets().hash(&mut hasher);
         self.nodes.insert(hasher.finish());
-        self.cases += 1;
         self.zero += usize::from(*node == Stored::zero());
         *self.answers.entry(answer).or_default() += 1;
         let parts = broken(node);
@@ -65,12 +104,12 @@ impl Counts {
         for part in &parts {
             count(&mut self.parts, *part, parts.len() == 1);
         }
-        if let Some(step) = step {
-            for record in &step.records {
+        if let Some(done) = done {
+            for record in &done.records {
                 *self.causes.entry(record.cause).or_default() += 1;
             }
             for limit in LIMITS.iter().filter(|limit| (limit.at)(node)) {
-                count(&mut self.limits, limit.name, (limit.over)(node, step));
+                count(&mut self.limits, limit.name, (limit.over)(node, done));
             }
         }
         self.add_octets(node);
@@ -146,6 +185,7 @@ impl Counts {
             let least = (from..to).map(|at| of(&self.octets, (name, at))).min().unwrap();
             line(format!("or more: {name} not zero, each of {from}..{}", to - 1), least, 1);
         }
+        lines.extend(self.batches.lines());
         lines
     }
 
@@ -156,5 +196,61 @@ impl Counts {
     pub fn missed(&self) -> Vec<String> {
         let lines = self.lines().into_iter().filter(|(_, met, least)| met < least);
         lines.map(|(name, met, least)| format!("{name}: {met}, not {least}")).collect()
+    }
+}
+
+impl Batches {
+    fn add(&mut self, node: &Stored, batch: &Batch, answer: u8, done: Option<&Batched>) {
+        self.all += 1;
+        *self.answers.entry(answer).or_default() += 1;
+        let rules: BTreeSet<usize> = broken(node).iter().map(|part| part.0).collect();
+        for rule in rules {
+            *self.rules.entry(RULES[rule].name).or_default() += 1;
+        }
+        let odd = batch.volumes.len() % 2 != 0;
+        let mut met = |name, when| *self.met.entry(name).or_default() += usize::from(when);
+        let Some(done) = done else {
+            met("13 for an empty list", batch.volumes.is_empty());
+            met("13 for a list of odd length", odd);
+            met("13 for pairs", !batch.volumes.is_empty() && !odd);
+            return;
+        };
+        let full = node.accepted == MOST_ACCEPTED;
+        let pair_refused = full || pair_refused(&node.view(), batch.time, batch.name);
+        let empty = batch.volumes.is_empty();
+        met("an empty list on a sound node", empty);
+        met("an empty list whose name or time a pair would be refused for", empty && pair_refused);
+        met("14 where a pair would be refused with 6, 7 or 8", odd && pair_refused);
+        met("7 in the middle", answer == 7 && done.applied > 0);
+        met("7 at the first pair", answer == 7 && done.applied == 0);
+        met("11 in the middle", answer == 11 && done.applied > 0);
+        met("11 with records kept", answer == 11 && !done.records.is_empty());
+        met("several records", done.records.len() > 1);
+        met("a record of several containers", done.records.iter().any(|r| r.containers.len() > 1));
+        let last = !full && done.node.accepted == MOST_ACCEPTED;
+        met("the last event that may be accepted", last);
+        for limit in LIMITS.iter().filter(|limit| (limit.at)(node)) {
+            *self.limits.entry(limit.name).or_default() += 1;
+        }
+    }
+
+    fn lines(&self) -> Vec<(String, usize, usize)> {
+        let mut lines = vec![("batches".into(), self.all, BATCHES)];
+        for rule in RULES {
+            let met = of(&self.rules, rule.name);
+            lines.push((format!("batches on a node that breaks {}", rule.name), met, BATCH_TIMES));
+        }
+        for limit in LIMITS {
+            let met = of(&self.limits, limit.name);
+            lines.push((format!("batches on a sound node, with {}", limit.name), met, TIMES / 2));
+        }
+        for answer in BATCH_ANSWERS {
+            let met = of(&self.answers, answer);
+            lines.push((format!("batches with answer {answer}"), met, TIMES / 2));
+        }
+        for name in BATCH_MET {
+            lines.push((format!("batches: {name}"), of(&self.met, name), TIMES / 2));
+        }
+        lines
     }
 }

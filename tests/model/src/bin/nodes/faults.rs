@@ -3,9 +3,9 @@
 //! of none: a fault is a rule left out, a bound moved, a rule that sees a node
 //! with something changed, or an outcome that is changed afterwards.
 
-use crate::cases::{Case, Outcome};
+use crate::cases::{Case, Lent, Outcome};
 use crate::expected::outcome;
-use crate::outcomes::OUTCOMES;
+use crate::outcomes::{OF_BATCHES, OUTCOMES};
 use crate::sound::{broken_by, Found, Test, RANGES, RULES};
 use crate::stored::{Context, Stored};
 use crate::unseen::UNSEEN;
@@ -26,15 +26,18 @@ pub enum Fault {
     Unseen(Option<&'static str>, See),
     /// The rule of this name has another test.
     Other(&'static str, Test),
-    /// The outcome is changed.
+    /// The outcome of an event is changed, or that of a batch.
     Changed(Change),
+    OfBatch(Change),
 }
 
 /// What the faulty test and the faulty call make of a case.
 pub fn faulty(case: &Case, fault: Fault) -> Outcome {
     let mut outcome = outcome(case, finds_sound(&case.node, fault));
-    if let Fault::Changed(change) = fault {
-        change(&mut outcome, case);
+    match (fault, &case.lent) {
+        (Fault::Changed(change), Lent::Event(_)) => change(&mut outcome, case),
+        (Fault::OfBatch(change), Lent::Batch(_)) => change(&mut outcome, case),
+        _ => {}
     }
     outcome
 }
@@ -64,7 +67,7 @@ fn finds_sound(node: &Stored, fault: Fault) -> bool {
             broken_by(node, RANGES, |rule| if rule.name == name { test } else { rule.test })
                 .is_empty()
         }
-        Fault::Changed(_) => by_all().is_empty(),
+        Fault::Changed(_) | Fault::OfBatch(_) => by_all().is_empty(),
     }
 }
 
@@ -103,6 +106,9 @@ pub fn all() -> Vec<(Fault, String, String)> {
     ));
     for (name, what, change) in OUTCOMES {
         all.push((Fault::Changed(*change), name.to_string(), what.to_string()));
+    }
+    for (name, what, change) in OF_BATCHES {
+        all.push((Fault::OfBatch(*change), name.to_string(), what.to_string()));
     }
     all
 }

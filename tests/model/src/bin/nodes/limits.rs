@@ -3,11 +3,12 @@
 use crate::runs;
 use crate::sound::record_volume;
 use crate::stored::{Context, Stored};
+use charging_model::batch::Batched;
 use charging_model::clock::LAST_SECOND;
 use charging_model::event::{octets, Name, What};
 use charging_model::node::MOST_ACCEPTED;
 use charging_model::random::Random;
-use charging_model::step::{step, Step, CHANGES, VOLUME};
+use charging_model::step::{step, CHANGES, VOLUME};
 
 /// A limit: its name; brings a node to it and says an event, or nothing where
 /// the node can't be brought there; whether a node is at it; and whether a call
@@ -16,7 +17,7 @@ pub struct Limit {
     pub name: &'static str,
     pub reach: fn(&mut Stored, &mut Random) -> Option<Vec<u8>>,
     pub at: fn(&Stored) -> bool,
-    pub over: fn(&Stored, &Step) -> bool,
+    pub over: fn(&Stored, &Batched) -> bool,
 }
 
 macro_rules! limits {
@@ -47,8 +48,8 @@ limits! {
     "all slots taken" full, |n| n.slots(0).is_empty(), |_, s| s.answer == 10;
 }
 
-fn cause(step: &Step, cause: u8) -> bool {
-    step.records.iter().any(|record| record.cause == cause)
+fn cause(done: &Batched, cause: u8) -> bool {
+    done.records.iter().any(|record| record.cause == cause)
 }
 
 fn some(node: &Stored, at: impl Fn(&Context) -> bool) -> bool {
@@ -209,15 +210,20 @@ fn full(node: &mut Stored, random: &mut Random) -> Option<Vec<u8>> {
     })
 }
 
-/// Every octet closes a record.
-fn volume_limit(node: &mut Stored, random: &mut Random) -> Option<Vec<u8>> {
-    let slot = any_active(node, random)?;
+/// Nothing was reported since the records opened, so any volume limit will do.
+pub fn no_volumes(node: &mut Stored) {
     for context in node.contexts.iter_mut() {
         (context.uplink, context.downlink) = (0, 0);
         for container in context.containers.iter_mut() {
             (container.uplink, container.downlink) = (0, 0);
         }
     }
+}
+
+/// Every octet closes a record.
+fn volume_limit(node: &mut Stored, random: &mut Random) -> Option<Vec<u8>> {
+    let slot = any_active(node, random)?;
+    no_volumes(node);
     node.profile.volume = 1;
     let (up, down) = random.pick(&[(0, 0), (0, 1), (1, 0), (u32::MAX, 0)]);
     say(node, random, What::Traffic(node.contexts[slot].name(), up, down))

@@ -7,6 +7,7 @@
 //! nodes faults CASES RESULTS EVERY: the same with faults planted, each Nth.
 //! nodes shows CASES RESULTS: the first case that differs, of a faulty model.
 
+mod batches;
 mod breaks;
 mod cases;
 mod counts;
@@ -19,17 +20,17 @@ mod sound;
 mod stored;
 mod unseen;
 
-use crate::breaks::BREAKERS;
-use crate::cases::{put_case, Case, File, Outcome, GUARD};
+use crate::breaks::{Breaker, BREAKERS};
+use crate::cases::{put_case, Case, File, Lent, Outcome, GUARD};
 use crate::counts::Counts;
-use crate::expected::expected;
+use crate::expected::{done, expected};
 use crate::limits::LIMITS;
 use crate::sound::{broken, is_sound, RULES};
 use crate::stored::{field_at, Stored, OCTETS};
+use charging_model::batch::Batch;
 use charging_model::calls::hex;
 use charging_model::node::Node;
 use charging_model::random::Random;
-use charging_model::step::step;
 use std::panic::{catch_unwind, set_hook, RefUnwindSafe};
 use std::process::ExitCode;
 
@@ -41,6 +42,14 @@ const SPOILT: usize = 16;
 /// Runs of events a round, and pairs of breaks.
 const RUNS: usize = 4;
 const PAIRS: usize = 30;
+/// Batches a round on nodes that were reached, on ones whose events run out,
+/// and with several closings; one limit of so many, and one break of so many,
+/// has a batch too.
+const BATCHES: usize = 5;
+const RUN_OUT: usize = 3;
+const CLOSINGS: usize = 3;
+const LIMIT_OF: usize = 2;
+const BREAK_OF: usize = 10;
 /// Nodes that breaks and limits begin from: those of the last runs.
 const POOL: usize = 1200;
 
@@ -52,14 +61,15 @@ struct Maker {
 
 impl Maker {
     /// A case of a node; the room follows from the output of a sound one.
-    fn put(&mut self, node: Stored, event: Vec<u8>) {
+    fn put(&mut self, node: Stored, lent: Lent) {
         let random = &mut self.random;
-        let room = match is_sound(&node) {
-            true => runs::room(random, &node.view(), &event),
-            false => random.pick(&[0, 1, 113, 1024, runs::ROOM]),
+        let room = match (is_sound(&node), &lent) {
+            (true, Lent::Event(event)) => runs::room(random, &node.view(), event),
+            (true, Lent::Batch(batch)) => batches::room(random, &node.view(), batch),
+            (false, _) => random.pick(&[0, 1, 113, 1024, runs::ROOM]),
         };
         let fill = random.octet();
-        put_case(&mut self.file, &Case { node, event, room, fill });
+        put_case(&mut self.file, &Case { node, lent, room, fill });
     }
 
     fn any(&mut self) -> Stored {
@@ -72,7 +82,7 @@ impl Maker {
                 let stored = Stored::store(&node);
                 assert!(is_sound(&stored));
                 let event = runs::event(&mut self.random, &node);
-                self.put(stored.clone(), event);
+                self.put(stored.clone(), Lent::Event(event));
                 self.pool.push(stored);
             }
         }
@@ -89,27 +99,33 @@ impl Maker {
                 })
                 .unwrap_or_else(|| panic!("no node comes to {}", limit.name));
             assert!(is_sound(&node) && (limit.at)(&node), "{}", limit.name);
-            self.put(node, event);
+            self.put(node, Lent::Event(event));
         }
+    }
+
+    /// A node that breaks a rule this way, and the node before.
+    fn break_by(&mut self, breaker: &Breaker) -> (Stored, Stored) {
+        let (before, node) = (0..10_000)
+            .find_map(|_| {
+                let before = self.any();
+                let mut node = before.clone();
+                (breaker.apply)(&mut node, &mut self.random)?;
+                Some((before, node))
+            })
+            .unwrap_or_else(|| panic!("no node breaks {}: {}", breaker.rule, breaker.part));
+        let found = broken(&node);
+        let aim = |(rule, part): &(usize, &str)| {
+            RULES[*rule].name == breaker.rule && *part == breaker.part
+        };
+        assert!(found.iter().any(aim), "{}: {} is kept", breaker.rule, breaker.part);
+        (before, node)
     }
 
     fn broken_once(&mut self) {
         for breaker in BREAKERS {
-            let (before, node) = (0..10_000)
-                .find_map(|_| {
-                    let before = self.any();
-                    let mut node = before.clone();
-                    (breaker.apply)(&mut node, &mut self.random)?;
-                    Some((before, node))
-                })
-                .unwrap_or_else(|| panic!("no node breaks {}: {}", breaker.rule, breaker.part));
-            let found = broken(&node);
-            let aim = |(rule, part): &(usize, &str)| {
-                RULES[*rule].name == breaker.rule && *part == breaker.part
-            };
-            assert!(found.iter().any(aim), "{}: {} is kept", breaker.rule, breaker.part);
+            let (before, node) = self.break_by(breaker);
             let event = runs::event(&mut self.random, &before.view());
-            self.put(node, event);
+            self.put(node, Lent::Event(event));
         }
     }
 
@@ -128,7 +144,39 @@ impl Maker {
                 }
             }
             let event = runs::event(&mut self.random, &before.view());
-            self.put(node, event);
+            self.put(node, Lent::Event(event));
+        }
+    }
+
+    /// A batch on a node that is brought somewhere; most can be.
+    fn batch_at(&mut self, bring: impl Fn(&mut Stored, &mut Random) -> Option<Batch>) {
+        let found = (0..10_000).find_map(|_| {
+            let mut node = self.any();
+            let batch = bring(&mut node, &mut self.random)?;
+            Some((node, batch))
+        });
+        let (node, batch) = found.expect("a node that can be brought there");
+        assert!(is_sound(&node));
+        self.put(node, Lent::Batch(batch));
+    }
+
+    fn batches(&mut self, round: usize) {
+        for _ in 0..BATCHES {
+            self.batch_at(|node, random| Some(batches::batch(random, &node.view())));
+        }
+        for _ in 0..RUN_OUT {
+            self.batch_at(batches::events_run_out);
+        }
+        for _ in 0..CLOSINGS {
+            self.batch_at(batches::closings);
+        }
+        for limit in (round % LIMIT_OF..LIMITS.len()).step_by(LIMIT_OF) {
+            self.batch_at(|node, random| batches::at_limit(node, random, limit));
+        }
+        for breaker in BREAKERS.iter().skip(round % BREAK_OF).step_by(BREAK_OF) {
+            let (before, node) = self.break_by(breaker);
+            let batch = batches::batch(&mut self.random, &before.view());
+            self.put(node, Lent::Batch(batch));
         }
     }
 
@@ -143,8 +191,11 @@ impl Maker {
         for octet in &mut octets {
             *octet = if round % 4 == 3 { self.random.octet() } else { all };
         }
-        let event = runs::event(&mut self.random, &Node::fresh(runs::profile(&mut Random::new(1))));
-        self.put(Stored::of_octets(&octets), event);
+        let fresh = Node::fresh(runs::profile(&mut Random::new(1)));
+        let event = runs::event(&mut self.random, &fresh);
+        self.put(Stored::of_octets(&octets), Lent::Event(event));
+        let batch = batches::batch(&mut self.random, &fresh);
+        self.put(Stored::of_octets(&octets), Lent::Batch(batch));
     }
 }
 
@@ -159,6 +210,7 @@ fn make(seed: u64, rounds: usize) -> Vec<u8> {
         maker.at_limits();
         maker.broken_once();
         maker.broken_twice();
+        maker.batches(round);
         maker.garbage(round);
     }
     maker.file
@@ -176,6 +228,12 @@ fn difference(expected: &Outcome, found: &Outcome) -> String {
         return format!(
             "answer {} and {} octets by the rules, {} and {} by the library",
             expected.answer, expected.written, found.answer, found.written
+        );
+    }
+    if expected.applied != found.applied {
+        return format!(
+            "answer {}, and {} pairs applied by the rules, {} by the library",
+            found.answer, expected.applied, found.applied
         );
     }
     if let Some(at) = differ(&expected.node, &found.node) {
@@ -201,13 +259,18 @@ fn in_words(case: &Case) -> String {
     let broken = broken(&case.node);
     let rules: Vec<String> =
         broken.iter().map(|(rule, part)| format!("{} ({part})", RULES[*rule].name)).collect();
+    let lent = match &case.lent {
+        Lent::Event(event) => format!("event  {}", hex(event)),
+        Lent::Batch(Batch { time, name, volumes }) => {
+            format!("batch  {volumes:?} at {time}, name {:08X} {:?}", name.charging_id, name.ggsn)
+        }
+    };
     format!(
-        "  node   clock {}, {} events accepted, {} contexts; breaks: {}\n  event  {}\n  room   {}",
+        "  node   clock {}, {} events accepted, {} contexts; breaks: {}\n  {lent}\n  room   {}",
         case.node.clock,
         case.node.accepted,
         case.node.active().count(),
         if rules.is_empty() { "nothing".into() } else { rules.join(", ") },
-        hex(&case.event),
         case.room
     )
 }
@@ -225,7 +288,7 @@ fn compare(cases: &[u8], results: &[u8]) -> bool {
         };
         let expected = expected(&case);
         let sound = is_sound(&case.node);
-        let done = sound.then(|| step(&case.node.view(), &case.event, case.room));
+        let done = sound.then(|| done(&case));
         counts.add(&case, expected.answer, done.as_ref());
         if expected == found {
             same += 1;

@@ -1,14 +1,16 @@
 //! Faults in what a call answers and leaves.
 
-use crate::cases::{Case, GUARD};
+use crate::cases::{Case, Lent, Outcome, GUARD};
 use crate::expected::{of_sound, refused};
 use crate::faults::Change;
 use crate::stored::Stored;
+use charging_model::batch::Batch;
+use charging_model::clock::LAST_SECOND;
 use charging_model::event;
 use charging_model::node::MOST_ACCEPTED;
 use charging_model::step;
 
-/// A name, what is wrong, and what becomes of the outcome.
+/// A name, what is wrong, and what becomes of the outcome of an event.
 pub const OUTCOMES: &[(&str, &str, Change)] = &[
     ("short-before-13", "1 is answered before 13", |o, case| {
         if o.answer == 13 && row(case, 1) {
@@ -31,8 +33,8 @@ pub const OUTCOMES: &[(&str, &str, Change)] = &[
         }
     }),
     ("unsound-clock", "13 moves the clock", |o, case| {
-        if o.answer == 13 && case.event.len() >= event::HEAD {
-            o.node = with(case, |node| node.clock = event::time(&case.event));
+        if o.answer == 13 && event(case).len() >= event::HEAD {
+            o.node = with(case, |node| node.clock = event::time(event(case)));
         }
     }),
     ("refused-written", "a refusal has a written length of 1", |o, _| {
@@ -57,10 +59,7 @@ pub const OUTCOMES: &[(&str, &str, Change)] = &[
     }),
     ("never-7", "7 is never answered", |o, case| {
         if o.answer == 7 {
-            let node = case.node.clone();
-            let mut fewer = Case { node, event: case.event.clone(), ..*case };
-            fewer.node.accepted -= 1;
-            *o = of_sound(&fewer);
+            *o = of_sound(&with_accepted(case, case.node.accepted - 1));
         }
     }),
     ("early-7", "7 is answered one event too early", |o, case| {
@@ -80,15 +79,162 @@ pub const OUTCOMES: &[(&str, &str, Change)] = &[
     }),
     ("clock-7", "7 moves the clock", |o, case| {
         if o.answer == 7 {
-            o.node = with(case, |node| node.clock = event::time(&case.event));
+            o.node = with(case, |node| node.clock = event::time(event(case)));
         }
     }),
 ];
 
+/// The same for the outcome of a batch.
+pub const OF_BATCHES: &[(&str, &str, Change)] = &[
+    ("batch-odd-before-13", "14 is answered before 13", |o, case| {
+        if o.answer == 13 && numbers(case).len() % 2 != 0 {
+            o.answer = 14;
+        }
+    }),
+    ("batch-empty-before-13", "an empty list is 0 on an unsound node too", |o, case| {
+        if o.answer == 13 && numbers(case).is_empty() {
+            o.answer = 0;
+        }
+    }),
+    ("batch-unsound-cleaned", "after 13 free slots and what is unused are zero", |o, case| {
+        if o.answer == 13 {
+            o.node = Stored::store(&case.node.view()).octets();
+        }
+    }),
+    ("batch-unsound-clock", "13 moves the clock", |o, case| {
+        if o.answer == 13 {
+            o.node = with(case, |node| node.clock = batch(case).time);
+        }
+    }),
+    ("batch-odd-clock", "14 moves the clock", |o, case| {
+        if o.answer == 14 && batch(case).time <= LAST_SECOND {
+            o.node = with(case, |node| node.clock = batch(case).time.max(node.clock));
+        }
+    }),
+    ("batch-odd-counted", "14 has its pairs counted as applied", |o, case| {
+        if o.answer == 14 {
+            o.applied = numbers(case).len() as u64 / 2;
+        }
+    }),
+    ("batch-empty-counted", "an empty list counts as an accepted event", |o, case| {
+        if o.answer == 0 && numbers(case).is_empty() {
+            after(o, |node| node.accepted += 1);
+        }
+    }),
+    ("batch-counted-once", "a batch counts as one accepted event", |o, case| {
+        if o.applied > 1 {
+            after(o, |node| node.accepted = case.node.accepted + 1);
+        }
+    }),
+    ("batch-refused-counted", "the refused pair counts as an accepted event", |o, _| {
+        if matches!(o.answer, 8 | 11) {
+            after(o, |node| node.accepted += 1);
+        }
+    }),
+    ("batch-never-7", "7 is never answered", |o, case| {
+        if o.answer == 7 {
+            *o = of_sound(&with_accepted(case, 1));
+        }
+    }),
+    ("batch-7-at-first", "7 is tried at the first pair only", |o, case| {
+        if o.answer == 7 && o.applied > 0 {
+            *o = of_sound(&with_accepted(case, 1));
+            after(o, |node| node.accepted += case.node.accepted - 1);
+        }
+    }),
+    ("batch-7-ahead", "7 for a batch that has more pairs than may be accepted", |o, case| {
+        if o.answer == 7 && o.applied > 0 {
+            *o = refused(case, 7);
+        }
+    }),
+    ("batch-early-7", "7 is answered one pair too early", |o, case| {
+        let last = Stored::of_octets(&o.node).accepted == MOST_ACCEPTED;
+        if last && o.applied > 0 {
+            *o = of_sound(&with_accepted(case, case.node.accepted + 1));
+            after(o, |node| node.accepted -= 1);
+        }
+    }),
+    ("batch-hasty-7", "7 is answered before 6", |o, case| {
+        if o.answer == 6 && case.node.accepted == MOST_ACCEPTED {
+            o.answer = 7;
+        }
+    }),
+    ("batch-late-7", "7 is answered after 8", |o, case| {
+        if o.answer == 7 && case.node.view().find(batch(case).name).is_none() {
+            o.answer = 8;
+        }
+    }),
+    ("batch-clock-back", "a refusal takes the clock back", |o, case| {
+        if o.answer != 0 && o.applied > 0 {
+            after(o, |node| node.clock = case.node.clock);
+        }
+    }),
+    ("batch-count-back", "a refusal takes the accepted count back", |o, case| {
+        if o.answer != 0 && o.applied > 0 {
+            after(o, |node| node.accepted = case.node.accepted);
+        }
+    }),
+    ("batch-all-back", "a refusal takes the applied pairs back", |o, case| {
+        if o.answer != 0 && o.applied > 0 {
+            *o = refused(case, o.answer);
+        }
+    }),
+    ("batch-written-back", "a refusal has a written length of 0", |o, _| {
+        if o.answer != 0 {
+            o.written = 0;
+        }
+    }),
+    ("batch-refused-writes", "a refused pair clears the octet after the output", |o, case| {
+        if o.answer == 11 && (o.written as usize) < case.room {
+            o.area[GUARD + o.written as usize] = 0;
+        }
+    }),
+    ("batch-rest-cleared", "the octet after the output is zero", |o, case| {
+        if o.answer == 0 && (o.written as usize) < case.room {
+            o.area[GUARD + o.written as usize] = 0;
+        }
+    }),
+    ("batch-rest-beyond", "the octet after the buffer is zero", |o, case| {
+        o.area[GUARD + case.room] = 0;
+    }),
+    ("batch-first-octet", "the octet before the buffer is zero", |o, _| o.area[GUARD - 1] = 0),
+];
+
+fn event(case: &Case) -> &[u8] {
+    match &case.lent {
+        Lent::Event(event) => event,
+        Lent::Batch(_) => panic!("a batch is no event"),
+    }
+}
+
+fn batch(case: &Case) -> &Batch {
+    match &case.lent {
+        Lent::Event(_) => panic!("an event is no batch"),
+        Lent::Batch(batch) => batch,
+    }
+}
+
+fn numbers(case: &Case) -> &[u32] {
+    &batch(case).volumes
+}
+
+/// The outcome's node with a change.
+fn after(outcome: &mut Outcome, change: impl Fn(&mut Stored)) {
+    let mut node = Stored::of_octets(&outcome.node);
+    change(&mut node);
+    outcome.node = node.octets();
+}
+
+/// The case with another accepted count.
+fn with_accepted(case: &Case, accepted: u64) -> Case {
+    let node = Stored { accepted, ..case.node.clone() };
+    Case { node, lent: case.lent.clone(), ..*case }
+}
+
 /// Does this row of the refusal table apply?
 fn row(case: &Case, number: u8) -> bool {
     let (_, applies) = step::TABLE.iter().find(|row| row.0 == number).unwrap();
-    applies(&case.node.view(), &case.event, case.room)
+    applies(&case.node.view(), event(case), case.room)
 }
 
 /// The node of a case with a change.

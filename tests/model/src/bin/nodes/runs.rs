@@ -87,7 +87,7 @@ pub fn qos(random: &mut Random) -> Qos {
     })
 }
 
-fn name(random: &mut Random) -> Name {
+pub fn name(random: &mut Random) -> Name {
     Name { charging_id: random.pick(&IDS), ggsn: random.pick(&GGSNS) }
 }
 
@@ -137,7 +137,7 @@ pub fn other_qos(random: &mut Random, old: Qos) -> Qos {
     }
 }
 
-fn active(random: &mut Random, node: &Node) -> Option<Context> {
+pub fn active(random: &mut Random, node: &Node) -> Option<Context> {
     let active: Vec<&Context> = node.slots.iter().flatten().collect();
     (!active.is_empty()).then(|| active[random.below(active.len() as u64) as usize].clone())
 }
