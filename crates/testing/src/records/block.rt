@@ -30,7 +30,7 @@ pub fn two(b: &[u8], at: usize) -> usize
     (number(b, at, 2) % 65536) as usize
 }
 
-fn four(b: &[u8], at: usize) -> u32 {
+pub fn four(b: &[u8], at: usize) -> u32 {
     (number(b, at, 4) % 4294967296) as u32
 }
 
