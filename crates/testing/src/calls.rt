@@ -68,12 +68,16 @@ fn fed(fd: i32, s: State, held: &mut [u8; 4096]) -> State {
 fn fed_list(fd: i32, s: State, room: usize, held: &mut [u8; 4096]) -> State {
     let p = s.place;
     let here = window::left(p);
+    if 20000 < room {
+        say_wrong(s, 1, room);
+        return moved(s, p, false);
+    }
     if here < 18 {
         return read_on(fd, s, held);
     }
     let count = two(held, wrapping_add_usize(p.at, 16));
-    if (20000 < room) | (1000 < count) {
-        say_long(s, room, count);
+    if 1000 < count {
+        say_wrong(s, 3, count);
         return moved(s, p, false);
     }
     let length = 14 + 4 * count;
@@ -126,14 +130,6 @@ fn say_large(s: State, room: usize, length: usize) {
         return;
     }
     say_wrong(s, 2, length);
-}
-
-fn say_long(s: State, room: usize, count: usize) {
-    if 20000 < room {
-        say_wrong(s, 1, room);
-        return;
-    }
-    say_wrong(s, 3, count);
 }
 
 // The event of a call.
