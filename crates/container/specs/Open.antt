@@ -110,6 +110,10 @@ volumeOf (c ∷ cs) = c .uplink + c .downlink + volumeOf cs
 abbrev pub volumeMet : ℕ → OpenRecord → Bool
 volumeMet limit o = leb limit (volumeOf (used o) + o .uplink + o .downlink)
 
+-- what they leave of the limit: 0 where it is met
+abbrev pub volumeLeft : ℕ → OpenRecord → ℕ
+volumeLeft limit o = limit - (volumeOf (used o) + o .uplink + o .downlink)
+
 -- "now minus opening is at least the time limit"
 abbrev pub timeMet : ℕ → ℕ → OpenRecord → Bool
 timeMet limit now o = leb limit (now - o .opening .seconds)

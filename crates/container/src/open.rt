@@ -14,7 +14,7 @@ ghost use mathlib.Core.Path.{_≡_};
 ghost use mathlib.Core.Bool.{cond, _&&_};
 ghost use lib.Dec.{ltb};
 ghost use Rattle.container.specs.Open.{noOpen, opened, reported, running, ended, changed, ample, roomy};
-ghost use Rattle.container.specs.Open.{volumeMet, timeMet, changesMet, soundOpen, blankOpen};
+ghost use Rattle.container.specs.Open.{volumeMet, volumeLeft, timeMet, changesMet, soundOpen, blankOpen};
 
 // A record that opens now, with nothing counted.
 pub fn opened(now: Stamp, q: Qos) -> OpenRecord
@@ -125,6 +125,15 @@ pub fn volume_met(o: OpenRecord, limit: u64) -> bool
     let v = o.containers;
     let left = held::rest_of(held::left_after(v, o.count, limit), o.uplink);
     left <= o.downlink
+}
+
+// What the octets counted since the record opened leave of the limit: 0 where it is met.
+pub fn volume_left(o: OpenRecord, limit: u64) -> u64
+    ensures { λ r. ⌜ r ≡ volumeLeft limit o ⌝ }
+{
+    let v = o.containers;
+    let left = held::rest_of(held::left_after(v, o.count, limit), o.uplink);
+    held::rest_of(left, o.downlink)
 }
 
 // Has it been open for at least the limit, at a time?

@@ -6,3 +6,4 @@ pub mod Saying
 pub mod Theorems
 pub mod Printed
 pub mod Framed
+pub mod Traffics

@@ -33,7 +33,7 @@ use Rattle.context.proofs.Sounds.{good-is}
 use Rattle.history.specs.Log.{Said, activates, tells, tellsAll, nothing}
 use Rattle.node.specs.declared.Message.{Message}
 use Rattle.node.specs.Step.{Brought, broughtBy, takes, activated}
-use Rattle.node.specs.Meaning.{tariffChange, tick, meaningOf}
+use Rattle.node.specs.Meaning.{report, tariffChange, tick, meaningOf}
 use Rattle.node.specs.Private.Premises.{InRange, ReportFits}
 use Rattle.node.specs.Private.Task.{MeaningInRange}
 use Rattle.node.specs.Held.{Octets, HeldContext}
@@ -85,17 +85,18 @@ plain m c u d b k r = record {
   managed = λ e. absurd (differ (sym e ∙ k));
 }
 
+pub report-in-range : (up down : ℕ) → InRange (report up down)
+report-in-range up down = record {
+  uncounted = λ e. absurd (differ e);
+  qos = λ e. absurd (differ (sym e));
+  released = λ e. absurd (differ (sym e));
+  managed = λ e. absurd (differ (sym e));
+}
+
 -- octets that no row refuses say what is in range
 pub fair-meaning : (s : List ℕ) (e : Event) {t : ℕ} → decoded s ≡ D.Said t e → MeaningInRange (meaningOf e)
 fair-meaning s (E.Activate a) d = tt
-fair-meaning s (E.Traffic n up down) d =
-    record {
-      uncounted = λ e. absurd (differ e);
-      qos = λ e. absurd (differ (sym e));
-      released = λ e. absurd (differ (sym e));
-      managed = λ e. absurd
-          (differ (sym e));
-    }
+fair-meaning s (E.Traffic n up down) d = report-in-range up down
 fair-meaning s (E.Qos n q) d =
     record { uncounted = λ e. (refl, refl); qos = λ e. qos-changed s d; released = λ e. absurd (differ (sym e)); managed = λ e. absurd (differ (sym e)) }
 fair-meaning s E.Tariff d = plain tariffChange refl refl refl refl refl refl

@@ -73,12 +73,12 @@ module _ (r : Record) {b b₁ : List ℕ} {at a : ℕ} (w : within r ≡ true) (
 -- ---- what an active context does
 
 module _ (p : Profile) (c : Context) (t : ℕ) (m : Message) where
-  hear-closes : {cause : ℕ} → closing (p .limits) (c .current) t m ≡ some cause
+  pub hear-closes : {cause : ℕ} → closing (p .limits) (c .current) t m ≡ some cause
       → hear p c t m ≡ record { next = afterClosing p c t m; out = closedBy p c t m cause ∷ [] }
   unfolding hear hearWith
   hear-closes e = rw e
 
-  hear-on : closing (p .limits) (c .current) t m ≡ none
+  pub hear-on : closing (p .limits) (c .current) t m ≡ none
       → hear p c t m ≡ record { next = some (going c (goesOn p (c .current) t m (changeOf (c .current) m)) (c .closed)); out = [] }
   unfolding hear hearWith
   hear-on e = rw e
@@ -87,7 +87,7 @@ module _ (p : Profile) (c : Context) (t : ℕ) (m : Message) where
   unfolding octetsOf
   octets-closes {cause} e = rw (hear-closes e) (append-nil (markedOctets (closedBy p c t m cause)))
 
-  octets-on : closing (p .limits) (c .current) t m ≡ none → octetsOf (hear p c t m .out) ≡ []
+  pub octets-on : closing (p .limits) (c .current) t m ≡ none → octetsOf (hear p c t m .out) ≡ []
   unfolding octetsOf
   octets-on e = rw (hear-on e)
 

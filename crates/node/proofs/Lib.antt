@@ -22,5 +22,8 @@ pub mod Brings
 pub mod TableKept
 pub mod Filled
 pub mod NodeKept
+pub mod StepKept
+pub mod BatchKept
 pub mod Runs
+pub mod Ones
 pub mod Holds

@@ -75,7 +75,7 @@ module _ (n : Node) (i t : ℕ) (h : Message) (d : Context) (l : i < length (n .
   placed = across-one (slotNext (n .profile) t h) i (n .contexts) d l
 
   -- what is answered of it is answered of the node, with what then stands in its place
-  served-one : {b b′ : List ℕ} {a k a′ k′ : ℕ} {c : Context} {m : Node} → Tries (n .profile) t h here b b′ a c k → a′ ≡ a
+  pub served-one : {b b′ : List ℕ} {a k a′ k′ : ℕ} {c : Context} {m : Node} → Tries (n .profile) t h here b b′ a c k → a′ ≡ a
       → m ≡ cond (eqb a 0) (advanced n t (set (n .contexts) i c)) n → k′ ≡ cond (eqb a 0) k 0 → Serves n i (i + 1) t h b b′ a′ m k′
   unfolding servedOf triedOf
   served-one {b} {b′} {a} {k} {a′} {k′} {c} {m} w p q r =

@@ -4,5 +4,6 @@ pub mod Sound
 pub mod Step
 pub mod Sample
 pub mod Held
+pub mod Batch
 pub mod Run
 pub mod Private
