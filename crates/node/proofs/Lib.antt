@@ -24,6 +24,7 @@ pub mod Filled
 pub mod NodeKept
 pub mod StepKept
 pub mod BatchKept
+pub mod Singles
 pub mod Runs
 pub mod Ones
 pub mod Holds
