@@ -35,7 +35,7 @@ report-octets m t up down = (omega arith, (omega arith, (omega arith, more t _ (
     more : (x : ℕ) (s : List ℕ) → Octets s → Octets (lowest 4 x ++ s)
     more x s o = all-append (λ y. y < 256) (lowest 4 x) s (lowest-octets 4 x) o
 
-reports-octets : (m : Name) (t : ℕ) (vs : List (ℕ × ℕ)) → All Octets (map (λ v. trafficEvent m t (v .0) (v .1)) vs)
+pub reports-octets : (m : Name) (t : ℕ) (vs : List (ℕ × ℕ)) → All Octets (map (λ v. trafficEvent m t (v .0) (v .1)) vs)
 reports-octets m t [] = tt
 reports-octets m t (v ∷ vs) = (report-octets m t (v .0) (v .1), reports-octets m t vs)
 

@@ -14,12 +14,15 @@ use Rattle.format.proofs.Tests.{by}
 use Rattle.event.specs.declared.Name.{Name}
 use Rattle.event.specs.Fields.{timeOf}
 use Rattle.event.specs.Rows.{firstFit}
+use Rattle.history.specs.Lists.{All}
 use Rattle.node.specs.declared.Node.{Node}
 use Rattle.node.specs.Step.{saidOf, output, stepOf}
-use Rattle.node.specs.Batch.{Done, reportsOf, andThen, oneByOne, listRefusals, batchBy, batchOf}
+use Rattle.node.specs.Held.{Octets}
+use Rattle.node.specs.Batch.{Done, pairsOf, reportsOf, andThen, oneByOne, listRefusals, batchBy, batchOf}
 use Rattle.node.specs.Run.{Call, step, afterOne, after}
 use Rattle.node.proofs.Demands.{answered, accepted, refused}
 use Rattle.node.proofs.NodeKept.{accepts}
+use Rattle.node.proofs.BatchKept.{reports-octets}
 
 -- ---- a buffer after a call: so many octets at its start were written, all later ones are as before
 
@@ -165,6 +168,14 @@ singly (s ∷ ss) n b =
     }))
     (λ e. rw (ones-stop n s ss b e, e) (none-done (r .0) n (s ∷ ss) b))
 
+-- what holds of the events holds of theirs
+done-all : (P : List ℕ → Type 0) (ss : List (List ℕ)) (n : Node) (b : List ℕ) → All P ss → All (λ c. P (c .event)) (done n ss b)
+unfolding done
+done-all P [] n b a = tt
+done-all P (s ∷ ss) n b a =
+    let r = stepOf n s b in
+    by (eqb (r .0) 0) (λ e. rw e (a .0, done-all P ss (r .1 .0) (drop (r .1 .1 .0) (r .1 .1 .1)) (a .1))) (λ e. rw e tt)
+
 pub ones-front : (ss : List (List ℕ)) (n : Node) (b : List ℕ) → Front (oneByOne stepOf n ss b .written) b (oneByOne stepOf n ss b .buffer)
 ones-front [] n b = rw (ones-none n b) (front-none b)
 ones-front (s ∷ ss) n b =
@@ -200,6 +211,10 @@ module _ (n : Node) (m : Name) (t : ℕ) (vs b : List ℕ) where
       by (eqb k 0)
       (λ e. rw (listed e, e) (singly (reportsOf m t vs) n b))
       (λ e. rw (unlisted e, e) (none-done k n (reportsOf m t vs) b))
+
+  pub pairs-octets : All (λ c. Octets (c .event)) pairsDone
+  unfolding pairsDone
+  pairs-octets = by (eqb k 0) (λ e. rw e (done-all Octets (reportsOf m t vs) n b (reports-octets m t (pairsOf vs)))) (λ e. rw e tt)
 
   pub batch-front : Front (batchOf n m t vs b .written) b (batchOf n m t vs b .buffer)
   batch-front =
