@@ -45,10 +45,10 @@ use Rattle.history.specs.Run.{log}
 use Rattle.node.specs.Hear.{reported, qosAfter, changeOf, limitMet, closing, numberFor, recordOf, goesOn, closedBy, afterClosing, hearWith, hear}
 use Rattle.node.specs.Step as step
 use Rattle.node.specs.Sound.{freshNode, sound}
-use Rattle.node.specs.Run.{Call}
+use Rattle.node.specs.Run.{Call, afterOne}
 use Rattle.once.specs.Charging.{Force, Heard, says, meaning, inForceBy, rules, recordFrom}
 use Rattle.once.specs.Once.{marked, machine, outputs}
-use Rattle.once.proofs.Steps.{wrote}
+use Rattle.once.proofs.Calls.{wrote}
 
 abbrev R : Rules Force Heard
 R = rules (session .limits)
@@ -115,7 +115,7 @@ long-records = refl
 -- ---- the node itself accepts the three events, and writes this
 
 abbrev call : List ℕ → Call
-call s = record { event = s; buffer = replicate 113 0 }
+call s = Call.step s (replicate 113 0)
 
 abbrev calls : List Call
 calls = call activate ∷ call traffic ∷ call (released 0) ∷ []
@@ -123,7 +123,7 @@ calls = call activate ∷ call traffic ∷ call (released 0) ∷ []
 pub session-run : (log (machine wrote) (freshNode session) calls ≡ short) × (outputs (freshNode session) calls ≡ 0xC3 ∷ 0x5A ∷ printed)
 unfolding activate traffic released printed spelt octetsFrom numberIn fillTo noContainers
     step.stepOf step.outcome step.refusals step.notActive step.isActive step.allTaken step.output step.recordsOf step.octetsOf step.markedOctets
-    step.nodeAfter step.activated
+    step.nodeAfter step.activated afterOne
     firstFit rows.marked known measured kinds kindIn wholeOf rows.fieldsOk activateOk eventOf
     imsiOk halves leading allF qosOk allOf apnChar release fields.release nodeChar
     sound profileOk limitsOk nodeOk apnOk stampOk distinct slots.isActive isFree bears noneBears sameName
