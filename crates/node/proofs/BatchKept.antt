@@ -1,12 +1,10 @@
 -- A list of reports keeps a sound node sound, whatever it answers, and that is never 13.
-use mathlib.Core.Path.{_≡_, refl, sym, ap, _∙_}
-use mathlib.Core.Bool.{true, false}
+use mathlib.Core.Path.{_≡_}
 use mathlib.Core.List.{List, [], _∷_, _++_, map}
 use Prim.Native.Nat.{ℕ, zero, suc, _%_, _<_}
 use native.Mathlib.Omega.{arith}
 use lib.Dec.{eqb}
 use lib.ListN.{length, drop}
-use borrow.Author.Tests.{eqb-true}
 use Rattle.format.proofs.Tests.{by}
 use Rattle.ber.specs.Int.{lowest}
 use Rattle.event.specs.declared.Name.{Name}

@@ -25,6 +25,7 @@ pub mod NodeKept
 pub mod StepKept
 pub mod BatchKept
 pub mod Singles
+pub mod BatchDemands
 pub mod Runs
 pub mod Ones
 pub mod Holds

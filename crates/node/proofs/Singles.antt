@@ -8,21 +8,17 @@ use native.Mathlib.Numerals.{add-one}
 use native.Mathlib.Omega.{arith}
 use lib.Dec.{eqb}
 use lib.ListN.{length, take, drop, length-append, length-drop}
-use lib.Seq.{length-take-le, take-append-seam, take-append-add, drop-at, drop-drop}
+use lib.Seq.{length-take-le, take-append-seam, take-append-add, drop-append-add, drop-at, drop-drop}
 use borrow.Author.Tests.{eqb-true, eqb-false}
 use Rattle.format.proofs.Tests.{by}
-use Rattle.event.specs.declared.Name.{Name}
 use Rattle.event.specs.Fields.{timeOf}
-use Rattle.event.specs.Rows.{firstFit}
 use Rattle.history.specs.Lists.{All}
 use Rattle.node.specs.declared.Node.{Node}
 use Rattle.node.specs.Step.{saidOf, output, stepOf}
-use Rattle.node.specs.Held.{Octets}
-use Rattle.node.specs.Batch.{Done, pairsOf, reportsOf, andThen, oneByOne, listRefusals, batchBy, batchOf}
+use Rattle.node.specs.Batch.{Done, andThen, oneByOne}
 use Rattle.node.specs.Run.{Call, step, afterOne, after}
 use Rattle.node.proofs.Demands.{answered, accepted, refused}
 use Rattle.node.proofs.NodeKept.{accepts}
-use Rattle.node.proofs.BatchKept.{reports-octets}
 
 -- ---- a buffer after a call: so many octets at its start were written, all later ones are as before
 
@@ -31,7 +27,7 @@ pub record Front (w : ℕ) (b b′ : List ℕ) : Type 0 where
   pub size : length b′ ≡ length b
   pub later : b′ ≡ take w b′ ++ drop w b
 
-front-none : (b : List ℕ) → Front 0 b b
+pub front-none : (b : List ℕ) → Front 0 b b
 front-none b = record { fits = omega arith; size = refl; later = refl }
 
 front-of : (x b : List ℕ) → length x ≤ length b → Front (length x) b (x ++ drop (length x) b)
@@ -47,6 +43,9 @@ module _ {w : ℕ} {b b′ : List ℕ} (f : Front w b b′) where
 
   pub front-taken : (v : ℕ) (c : List ℕ) → take (w + v) (take w b′ ++ c) ≡ take w b′ ++ take v c
   front-taken v c = ap (λ (k : ℕ). take (k + v) (take w b′ ++ c)) (sym front-long) ∙ take-append-add (take w b′) c v
+
+  pub front-dropped : (v : ℕ) (c : List ℕ) → drop (w + v) (take w b′ ++ c) ≡ drop v c
+  front-dropped v c = ap (λ (k : ℕ). drop (k + v) (take w b′ ++ c)) (sym front-long) ∙ drop-append-add (take w b′) c v
 
   -- and then more of it
   front-then : (v : ℕ) (c : List ℕ) → Front v (drop w b′) c → Front (w + v) b (take w b′ ++ c)
@@ -169,7 +168,7 @@ singly (s ∷ ss) n b =
     (λ e. rw (ones-stop n s ss b e, e) (none-done (r .0) n (s ∷ ss) b))
 
 -- what holds of the events holds of theirs
-done-all : (P : List ℕ → Type 0) (ss : List (List ℕ)) (n : Node) (b : List ℕ) → All P ss → All (λ c. P (c .event)) (done n ss b)
+pub done-all : (P : List ℕ → Type 0) (ss : List (List ℕ)) (n : Node) (b : List ℕ) → All P ss → All (λ c. P (c .event)) (done n ss b)
 unfolding done
 done-all P [] n b a = tt
 done-all P (s ∷ ss) n b a =
@@ -187,37 +186,20 @@ ones-front (s ∷ ss) n b =
     (front-then (step-front n s b) (d .written) (d .buffer) (ones-front ss (r .1 .0) (drop (r .1 .1 .0) (r .1 .1 .1)))))
     (λ e. rw (ones-stop n s ss b e) (front-none b))
 
--- ---- a list of reports
+-- a property of 0, and of the answer to each of the events, is one of the answer to all
+pub ones-answer : (Q : ℕ → Type 0) (P : List ℕ → Type 0) → Q 0 → ((n : Node) (s b : List ℕ) → P s → Q (stepOf n s b .0))
+    → (ss : List (List ℕ)) (n : Node) (b : List ℕ) → All P ss → Q (oneByOne stepOf n ss b .answer)
+ones-answer Q P z f [] n b a = rw (ones-none n b) z
+ones-answer Q P z f (s ∷ ss) n b a =
+    let r = stepOf n s b in
+    by (eqb (r .0) 0)
+    (λ e. rw (ones-on n s ss b e) (ones-answer Q P z f ss (r .1 .0) (drop (r .1 .1 .0) (r .1 .1 .1)) (a .1)))
+    (λ e. rw (ones-stop n s ss b e) (f n s b (a .0)))
 
-module _ (n : Node) (m : Name) (t : ℕ) (vs b : List ℕ) where
-  abbrev k : ℕ
-  k = firstFit (listRefusals n vs)
-
-  pub listed : eqb k 0 ≡ true → batchOf n m t vs b ≡ oneByOne stepOf n (reportsOf m t vs) b
-  unfolding batchOf batchBy
-  listed e = rw e
-
-  pub unlisted : eqb k 0 ≡ false → batchOf n m t vs b ≡ stopped k n b
-  unfolding batchOf batchBy
-  unlisted e = rw e
-
-  -- the calls of the pairs that it applies
-  pub pairsDone : List One
-  pairsDone = cond (eqb k 0) (done n (reportsOf m t vs) b) []
-
-  pub batch-singly : Singly n (reportsOf m t vs) (batchOf n m t vs b) pairsDone
-  unfolding pairsDone
-  batch-singly =
-      by (eqb k 0)
-      (λ e. rw (listed e, e) (singly (reportsOf m t vs) n b))
-      (λ e. rw (unlisted e, e) (none-done k n (reportsOf m t vs) b))
-
-  pub pairs-octets : All (λ c. Octets (c .event)) pairsDone
-  unfolding pairsDone
-  pairs-octets = by (eqb k 0) (λ e. rw e (done-all Octets (reportsOf m t vs) n b (reports-octets m t (pairsOf vs)))) (λ e. rw e tt)
-
-  pub batch-front : Front (batchOf n m t vs b .written) b (batchOf n m t vs b .buffer)
-  batch-front =
-      by (eqb k 0)
-      (λ e. rw (listed e) (ones-front (reportsOf m t vs) n b))
-      (λ e. rw (unlisted e) (front-none b))
+-- where the answer to all is 0, the first was accepted, and so were the others
+pub ones-first : (n : Node) (s : List ℕ) (ss : List (List ℕ)) (b : List ℕ) → oneByOne stepOf n (s ∷ ss) b .answer ≡ 0
+    → (eqb (stepOf n s b .0) 0 ≡ true) × (others n s ss b .answer ≡ 0)
+ones-first n s ss b h =
+    by (eqb (stepOf n s b .0) 0)
+    (λ e. (e, rw (ones-on n s ss b e) at h))
+    (λ e. absurd (eqb-false (stepOf n s b .0) 0 e (rw (ones-stop n s ss b e) at h)))

@@ -14,7 +14,8 @@ use Rattle.node.specs.declared.Node.{Node}
 use Rattle.node.specs.Step as step
 use Rattle.node.specs.Batch.{reportsOf, batchOf}
 use Rattle.node.specs.Run.{Call, step, batch, afterOne, after}
-use Rattle.node.proofs.Singles.{Front, front-long, One, call, got, step-front, AllAccepted, octetsBy, pairsDone, batch-singly, batch-front}
+use Rattle.node.proofs.Singles.{Front, front-long, One, call, got, step-front, AllAccepted, octetsBy}
+use Rattle.node.proofs.BatchDemands.{pairsDone, one-by-one, later-octets}
 use Rattle.once.specs.Once.{nodeNow, lengthNow, bufferNow, bufferOf, octetsNow, marked, machine}
 use Rattle.once.proofs.Steps.{wroteOne, called, no-zero, octets-one}
 
@@ -61,12 +62,12 @@ module _ (n : Node) where
   pub node-is : (c : Call) → nodeNow n c ≡ run single n (ones n c)
   unfolding afterOne
   node-is (step s b) = refl
-  node-is (batch m t vs b) = sym (run-single (pairsDone n m t vs b) n ∙ batch-singly n m t vs b .node)
+  node-is (batch m t vs b) = sym (run-single (pairsDone n m t vs b) n ∙ one-by-one n m t vs b .node)
 
   pub events-are : (c : Call) → applied (machine wrote) n c ≡ log single n (ones n c)
   events-are (step s b) = sym (append-nil _)
   events-are (batch m t vs b) =
-      let z = batch-singly n m t vs b in
+      let z = one-by-one n m t vs b in
       take-map at (batchOf n m t vs b .applied) (reportsOf m t vs)
       ∙ ap (λ (ss : List (List ℕ)). map at ss) (sym (z .events))
       ∙ sym (log-single (pairsDone n m t vs b) n (z .accepted))
@@ -79,11 +80,11 @@ module _ (n : Node) where
 
   pub octets-are : (c : Call) → octetsNow n c ≡ marked (wrote n c)
   octets-are (step s b) = octets-one n (record { event = s; buffer = b })
-  octets-are (batch m t vs b) = sym (batch-singly n m t vs b .octets) ∙ octets-single (pairsDone n m t vs b) n
+  octets-are (batch m t vs b) = sym (one-by-one n m t vs b .octets) ∙ octets-single (pairsDone n m t vs b) n
 
   front : (c : Call) → Front (lengthNow n c) (bufferOf c) (bufferNow n c)
   front (step s b) = step-front n s b
-  front (batch m t vs b) = batch-front n m t vs b
+  front (batch m t vs b) = later-octets n m t vs b
 
   pub lengths-are : (c : Call) → lengthNow n c ≡ length (marked (wrote n c))
   lengths-are c = sym (front-long (front c)) ∙ ap length (octets-are c)

@@ -23,7 +23,8 @@ use Rattle.node.proofs.ContextKept.{Fine}
 use Rattle.node.proofs.NodeKept.{records-good}
 use Rattle.node.proofs.Demands.{answered}
 use Rattle.node.proofs.StepKept.{step-kept}
-use Rattle.node.proofs.Singles.{One, pairs-octets}
+use Rattle.node.proofs.Singles.{One}
+use Rattle.node.proofs.BatchDemands.{pairs-octets}
 use Rattle.node.proofs.Runs.{fresh-whole, one-kept}
 use Rattle.once.specs.Once.{marked, machine, outputs}
 use Rattle.once.proofs.Steps.{wroteOne, called, wrote-some, wrote-none}
