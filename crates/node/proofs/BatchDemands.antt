@@ -88,7 +88,7 @@ module _ (n : Node) (m : Name) (t : ℕ) (vs b : List ℕ) where
   unfolding batchOf batchBy
   unlisted e = rw e
 
-  -- 13 and 14: nothing applied, the same node, the same buffer;
+  -- 13 and 14: nothing applied, the same node, the same buffer
   pub unsound : sound n ≡ false → batchOf n m t vs b ≡ stopped 13 n b
   unfolding batchOf batchBy listRefusals firstFit
   unsound e = rw e
@@ -102,9 +102,9 @@ module _ (n : Node) (m : Name) (t : ℕ) (vs b : List ℕ) where
   unfolding batchOf batchBy listRefusals firstFit
   even e o = rw (e, ne-eqb (length vs % 2) 1 o)
 
-  -- and they are given only then
+  -- 13 and 14 are given only then: 13 of a node that the code can hold
   pub only-13 : Held n → batchOf n m t vs b .answer ≡ 13 → sound n ≡ false
-  only-13 h e = by (sound n) (λ ok. absurd (batch-not-13 n m t vs b (record { sound = ok; held = h }) e)) (λ no-more. no-more)
+  only-13 h e = by (sound n) (λ ok. absurd (batch-not-13 n m t vs b (record { sound = ok; held = h }) e)) (λ z. z)
 
   never-14 : batchOf n m t vs b ≡ oneByOne stepOf n (reportsOf m t vs) b → batchOf n m t vs b .answer ≡ 14 → ⊥
   unfolding refusals
@@ -162,9 +162,9 @@ module _ (n : Node) (m : Name) (t : ℕ) (vs b : List ℕ) where
 
 -- ---- which numbers there are: with numbers of 32 bits an event of a pair is never refused with 1 to 5, 9 or 10
 
--- in the order in which they are tried
-abbrev pub given : List ℕ
-given = 0 ∷ 13 ∷ 14 ∷ 6 ∷ 7 ∷ 8 ∷ 11 ∷ []
+-- 0, and the others in the order in which they are tried
+abbrev pub answers : List ℕ
+answers = 0 ∷ 13 ∷ 14 ∷ 6 ∷ 7 ∷ 8 ∷ 11 ∷ []
 
 -- an event that names a context to tell it something is not refused as an activation is
 module _ (n : Node) (s b : List ℕ) (m : Name) (up down : ℕ) (told : eventOf s ≡ E.Traffic m up down) where
@@ -188,12 +188,12 @@ module _ (n : Node) (s b : List ℕ) (m : Name) (up down : ℕ) (told : eventOf 
   unfolding firstFit
   rows-first e = ap (λ (k : ℕ). cond (not (sound n)) 13 k) (fit-more (rows s) (laterRows n (timeOf s) w b) (numbered-rows s) e)
 
-  traffic-numbers : firstFit (rows s) ≡ 0 → among (stepOf n s b .0) given ≡ true
+  traffic-numbers : firstFit (rows s) ≡ 0 → among (stepOf n s b .0) answers ≡ true
   traffic-numbers e = rw (answered n s b ∙ ap firstFit (parted n s b) ∙ rows-first e ∙ later-rows) (in-table of-traffic)
 
 module _ (m : Name) (t : ℕ) (ht : t < 2 ^ 32) (hi : m .id < 2 ^ 32) (hg : m .ggsn < 2 ^ 32) where
   abbrev Fair : List ℕ → Type 0
-  Fair s = (n : Node) (b : List ℕ) → among (stepOf n s b .0) given ≡ true
+  Fair s = (n : Node) (b : List ℕ) → among (stepOf n s b .0) answers ≡ true
 
   said-fair : (s : List ℕ) (up down : ℕ) → decoded s ≡ D.Said t (E.Traffic m up down) → Fair s
   unfolding decoded saidBy
@@ -213,11 +213,11 @@ module _ (m : Name) (t : ℕ) (ht : t < 2 ^ 32) (hi : m .id < 2 ^ 32) (hg : m .g
   reports-fair (up ∷ (down ∷ vs)) a =
       (said-fair (trafficEvent m t up down) up down (traffic-said m t up down ht hi hg (a .0) (a .1 .0)), reports-fair vs (a .1 .1))
 
-  pub numbers : (n : Node) (vs b : List ℕ) → All (λ v. v < 2 ^ 32) vs → among (batchOf n m t vs b .answer) given ≡ true
+  pub numbers : (n : Node) (vs b : List ℕ) → All (λ v. v < 2 ^ 32) vs → among (batchOf n m t vs b .answer) answers ≡ true
   numbers n vs b a =
       by (sound n)
       (λ ok. by (eqb (length vs % 2) 1)
       (λ o. rw (odd n m t vs b ok (eqb-true (length vs % 2) 1 o)))
       (λ o. rw (even n m t vs b ok (eqb-false (length vs % 2) 1 o))
-      (ones-answer (λ k. among k given ≡ true) Fair refl (λ c s d f. f c d) (reportsOf m t vs) n b (reports-fair vs a))))
+      (ones-answer (λ k. among k answers ≡ true) Fair refl (λ c s d f. f c d) (reportsOf m t vs) n b (reports-fair vs a))))
       (λ z. rw (unsound n m t vs b z))

@@ -71,6 +71,10 @@ call c = step (c .event) (c .buffer)
 abbrev pub got : Node → One → ℕ × (Node × (ℕ × List ℕ))
 got n c = stepOf n (c .event) (c .buffer)
 
+-- the octets that it writes
+abbrev pub octetsOne : Node → One → List ℕ
+octetsOne n c = take (got n c .1 .1 .0) (got n c .1 .1 .1)
+
 pub step-refused : (n : Node) (s b : List ℕ) → eqb (stepOf n s b .0) 0 ≡ false → stepOf n s b ≡ (stepOf n s b .0, (n, (0, b)))
 step-refused n s b e = refused n s b (stepOf n s b .0) (sym (answered n s b)) (eqb-false (stepOf n s b .0) 0 e)
 
@@ -92,7 +96,7 @@ AllAccepted n (c ∷ cs) = (got n c .0 ≡ 0) × AllAccepted (got n c .1 .0) cs
 -- all that they write
 abbrev pub octetsBy : Node → List One → List ℕ
 octetsBy n [] = []
-octetsBy n (c ∷ cs) = take (got n c .1 .1 .0) (got n c .1 .1 .1) ++ octetsBy (got n c .1 .0) cs
+octetsBy n (c ∷ cs) = octetsOne n c ++ octetsBy (got n c .1 .0) cs
 
 -- What a call of events ss does is what the calls cs do: these are the events that it applied, each was accepted, and the node and the written
 -- octets are theirs.

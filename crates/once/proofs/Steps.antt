@@ -26,7 +26,7 @@ use Rattle.node.specs.declared.Node.{Node}
 use Rattle.node.specs.Step as step
 use Rattle.node.proofs.Demands.{answered, accepted}
 use Rattle.node.proofs.NodeKept.{Accepts, accepts}
-use Rattle.node.proofs.Singles.{One, got, step-refused}
+use Rattle.node.proofs.Singles.{One, got, octetsOne, step-refused}
 use Rattle.once.specs.Charging.{Force, Heard, says}
 use Rattle.once.specs.Once.{marked}
 use Rattle.once.proofs.Handles.{said, handling, active-alike}
@@ -63,10 +63,6 @@ no-zero (suc k) xs e = refl
 -- the records that it writes
 abbrev pub wroteOne : Node → One → List scdr.Record
 wroteOne n c = cond (eqb (got n c .0) 0) (step.recordsOf n (timeOf (c .event)) (step.saidOf (c .event))) []
-
--- the octets that it writes
-abbrev pub octetsOne : Node → One → List ℕ
-octetsOne n c = take (got n c .1 .1 .0) (got n c .1 .1 .1)
 
 module _ (n : Node) (c : One) where
   abbrev s : List ℕ

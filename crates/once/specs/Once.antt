@@ -67,7 +67,7 @@ abbrev pub eventsOf : Call → List (List ℕ)
 eventsOf (step s b) = s ∷ []
 eventsOf (batch m t vs b) = reportsOf m t vs
 
--- How many of them it applies, from the first on: one event exactly when the answer is 0, of a list as many pairs as are answered.
+-- How many of them it applies, from the first on: its own exactly when the answer is 0; of a list as many as the call says.
 abbrev pub appliesOf : Node → Call → ℕ
 appliesOf n (step s b) = ifZero (stepOf n s b .0)
 appliesOf n (batch m t vs b) = batchOf n m t vs b .applied
