@@ -22,6 +22,7 @@ use Rattle.once.proofs.Five.{five-alone}
 use Rattle.once.proofs.Closings.{one-condition, one-cause}
 use Rattle.once.proofs.Handles.{handling, sound}
 use Rattle.once.proofs.Calls.{wrote, octets-are, lengths-are, lengths-fit, buffer-is, counted}
+use Rattle.once.proofs.Pairs.{pair-says}
 use Rattle.once.proofs.Readable.{output-reads}
 use Rattle.once.proofs.EachCall.{run-same, each-call}
 use Rattle.once.proofs.Serving.{State, state, calls, view, served, run-is, written-is, log-is, all-kept}
@@ -80,6 +81,7 @@ every-octet-once p ok = record {
   all-octets = λ cs. outputs-are cs (freshNode p);
   reads = λ h cs. output-reads p cs ok (outputs-are cs (freshNode p)) h;
   demand = charged p;
+  pair = pair-says;
   counted = λ cs. let e = rw (run-same wrote cs (freshNode p)) at (counted cs (freshNode p)) in omega arith;
   each-call = λ cs s b. each-call p cs s b (one-call p cs (step s b));
   one-call = one-call p;

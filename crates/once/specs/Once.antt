@@ -4,7 +4,7 @@ use mathlib.Core.Path.{_≡_}
 use mathlib.Core.Logic.{_↔_}
 use mathlib.Core.Option.{some}
 use mathlib.Core.List.{List, [], _∷_, _++_, map}
-use Prim.Native.Nat.{ℕ, _≤_}
+use Prim.Native.Nat.{ℕ, _^_, _≤_, _<_}
 use lib.ListN.{length, take, drop}
 use Rattle.scdr.specs.declared.Record as scdr
 use Rattle.scdr.specs.Layout as layout
@@ -12,12 +12,13 @@ use Rattle.scdr.specs.List.{recordList}
 use Rattle.profile.specs.declared.Profile.{Profile}
 use Rattle.event.specs.declared.Name.{Name}
 use Rattle.event.specs.Fields.{timeOf}
+use Rattle.event.specs.Traffic.{trafficEvent}
 use Rattle.context.specs.declared.Context.{Context}
 use Rattle.history.specs.Lists.{each, All}
 use Rattle.history.specs.Run.{Machine, ifZero, allWritten, log}
 use Rattle.history.specs.History.{History}
 use Rattle.history.specs.Records.{sinceOpening}
-use Rattle.history.specs.Log.{heard, histories}
+use Rattle.history.specs.Log.{tells, heard, histories}
 use Rattle.history.specs.Demand.{ClosesNow, Unchanged, Sight, under, Demand3}
 use Rattle.history.specs.Calls.{openOne, closesIn, OneCall}
 use Rattle.node.specs.declared.Node.{Node}
@@ -104,6 +105,13 @@ module _ (p : Profile) (calls : List Call) where
   abbrev pub activations : Name → List (History Force Heard)
   activations name = histories (rules (p .limits)) meaning name tt (log (machine (λ n c. [])) (freshNode p) calls)
 
+-- ---- a pair of a list
+
+-- Its event says its numbers: traffic of that name, at that time, of so many octets up and down.
+pub record PairSays (m : Name) (t up down : ℕ) : Type 0 where
+  pub time : timeOf (trafficEvent m t up down) ≡ t
+  pub traffic : says (trafficEvent m t up down) ≡ tells m (Heard.traffic up down)
+
 -- ---- a call of one event
 
 -- These are one record, and it has this cause.
@@ -164,6 +172,8 @@ pub record Once (p : Profile) : Type 0 where
   -- Under every name these records, and the context that is stored, are exactly what its histories make and leave.
   pub demand : (calls : List Call) (name : Name)
       → Demand3 (rules (p .limits)) meaning (forms p) sight (machine recordsBy) (freshNode p) tt calls name
+  -- A pair of a list is in them with its numbers, which are of 32 bits.
+  pub pair : (m : Name) (t up down : ℕ) → t < 2 ^ 32 → m .id < 2 ^ 32 → m .ggsn < 2 ^ 32 → up < 2 ^ 32 → down < 2 ^ 32 → PairSays m t up down
   -- Each accepted event, and each applied pair of a list, is one of those that the node counts: 02, "Demand 3 counts each applied pair as one
   -- event".
   pub counted : (calls : List Call) → nodeThen p calls .accepted ≡ length (log (machine recordsBy) (freshNode p) calls)

@@ -14,7 +14,7 @@
 // context of a sound node closes is within them is `closed-within` of crates/node.
 //
 // proofs/: Hears (a stored context hears as its history says), Handles (so does the table), Steps (what a call of one event does, by its
-// answer), Calls (any call does what calls of one event do one by one, and what it counts), Readable (the octets read back), Serving
-// (calls serve the table), Five (the closing conditions one by one), Closings (no two of them), EachCall (a call of one event), Once (the
-// theorem), Billed (containers, octets and durations under a name), Activations (each activation, by
+// answer), Calls (any call does what calls of one event do one by one, and what it counts), Pairs (what a pair of a list says), Readable
+// (the octets read back), Serving (calls serve the table), Five (the closing conditions one by one), Closings (no two of them), EachCall
+// (a call of one event), Once (the theorem), Billed (containers, octets and durations under a name), Activations (each activation, by
 // `each-activation-once`), Session (01's session, by the definitions and by the node).
