@@ -39,7 +39,7 @@ use Rattle.node.specs.Held.{Octets, Held, Whole}
 use Rattle.node.proofs.ContextKept.{Fine}
 use Rattle.node.proofs.Demands.{answered}
 use Rattle.node.proofs.NodeKept.{records-good}
-use Rattle.node.proofs.Runs.{step-kept}
+use Rattle.node.proofs.StepKept.{step-kept}
 use Rattle.charging.specs.Done.{Done, andThen}
 use Rattle.charging.specs.File.{nextEvent, roomy, taken, firstOf, chargedIn, charged}
 use Rattle.charging.proofs.Steps.{room-size}

@@ -1,12 +1,10 @@
 -- A list of reports keeps a sound node sound, whatever it answers, and that is never 13.
-use mathlib.Core.Path.{_≡_, refl, sym, ap, _∙_}
-use mathlib.Core.Bool.{true, false}
+use mathlib.Core.Path.{_≡_}
 use mathlib.Core.List.{List, [], _∷_, _++_, map}
 use Prim.Native.Nat.{ℕ, zero, suc, _%_, _<_}
 use native.Mathlib.Omega.{arith}
 use lib.Dec.{eqb}
 use lib.ListN.{length, drop}
-use borrow.Author.Tests.{eqb-true}
 use Rattle.format.proofs.Tests.{by}
 use Rattle.ber.specs.Int.{lowest}
 use Rattle.event.specs.declared.Name.{Name}
@@ -35,7 +33,7 @@ report-octets m t up down = (omega arith, (omega arith, (omega arith, more t _ (
     more : (x : ℕ) (s : List ℕ) → Octets s → Octets (lowest 4 x ++ s)
     more x s o = all-append (λ y. y < 256) (lowest 4 x) s (lowest-octets 4 x) o
 
-reports-octets : (m : Name) (t : ℕ) (vs : List (ℕ × ℕ)) → All Octets (map (λ v. trafficEvent m t (v .0) (v .1)) vs)
+pub reports-octets : (m : Name) (t : ℕ) (vs : List (ℕ × ℕ)) → All Octets (map (λ v. trafficEvent m t (v .0) (v .1)) vs)
 reports-octets m t [] = tt
 reports-octets m t (v ∷ vs) = (report-octets m t (v .0) (v .1), reports-octets m t vs)
 

@@ -1,13 +1,12 @@
 -- Demands 1 and 2 of a call: over any node, any event octets and any lent buffer. `node::step::step` answers `stepOf` (its promise); these
 -- theorems say what that is.
-use mathlib.Core.Path.{_≡_, refl, sym, ap}
-use mathlib.Core.Bool.{Bool, true, false}
+use mathlib.Core.Path.{_≡_, refl, sym, ap, _∙_}
+use mathlib.Core.Bool.{Bool, true, false, _||_, or-true, false≢true}
 use mathlib.Core.List.{List, [], _∷_, _++_, map}
 use Prim.Native.Nat.{ℕ}
-use native.Mathlib.Omega.{arith}
 use lib.ListN.{length, take, drop}
 use lib.Dec.{eqb}
-use borrow.Author.Tests.{ne-eqb, eqb-true}
+use borrow.Author.Tests.{ne-eqb, eq-eqb, eqb-true}
 use Rattle.format.proofs.Tests.{by}
 use Rattle.event.specs.Fields.{timeOf}
 use Rattle.event.specs.Rows.{Row, row, firstFit, rows}
@@ -15,7 +14,7 @@ use Rattle.history.specs.Lists.{All}
 use Rattle.node.specs.declared.Node.{Node}
 use Rattle.node.specs.Step.{saidOf, nodeAfter, output, refusals, outcome, stepOf}
 
-abbrev numberOf : Row → ℕ
+abbrev pub numberOf : Row → ℕ
 numberOf (row k t) = k
 
 abbrev Fits : Row → Type 0
@@ -70,6 +69,26 @@ only-then (row k false ∷ rs) z =
       };
       number = g .number;
     }
+
+-- k is one of these
+abbrev pub among : ℕ → List ℕ → Bool
+among k [] = false
+among k (j ∷ js) = eqb k j || among k js
+
+-- what is given is 0, or a number of the table
+pub in-table : (rs : List Row) → among (firstFit rs) (0 ∷ map numberOf rs) ≡ true
+unfolding firstFit
+in-table [] = refl
+in-table (row k true ∷ rs) = rw (eq-eqb k k refl) (or-true (eqb k 0))
+in-table (row k false ∷ rs) = one-more (eqb (firstFit rs) 0) (eqb (firstFit rs) k) (among (firstFit rs) (map numberOf rs)) (in-table rs)
+  where
+    one-more : (a b c : Bool) → (a || c) ≡ true → (a || (b || c)) ≡ true
+    one-more true b c e = refl
+    one-more false b c e = rw e (or-true b)
+
+-- and no other
+pub not-given : (k : ℕ) (rs : List Row) → among k (0 ∷ map numberOf rs) ≡ false → firstFit rs ≡ k → ⊥
+not-given k rs h e = false≢true (sym h ∙ rw e at (in-table rs))
 
 module _ (n : Node) (s b : List ℕ) where
   -- ---- demand 1

@@ -24,6 +24,8 @@ pub mod Filled
 pub mod NodeKept
 pub mod StepKept
 pub mod BatchKept
+pub mod Singles
+pub mod BatchDemands
 pub mod Runs
 pub mod Ones
 pub mod Seats

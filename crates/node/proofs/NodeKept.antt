@@ -10,7 +10,7 @@ use borrow.Author.Tests.{le-leb, leb-false, ltb-false, not-false as not-false-tr
 use Rattle.event.specs.declared.Name.{Name}
 use Rattle.event.specs.declared.Decoded.the-variants as D
 use Rattle.event.specs.Fields.{timeOf}
-use Rattle.event.specs.Rows.{row, firstFit, rows}
+use Rattle.event.specs.Rows.{row, firstFit, known, rows}
 use Rattle.event.specs.Event.{eventOf, saidBy, decoded}
 use Rattle.event.proofs.Firsts.{passed}
 use Rattle.context.specs.declared.Context.{Context}
@@ -43,6 +43,7 @@ use Rattle.node.proofs.Filled.{slots-later, filled-slots}
 -- what is known of it
 pub record Accepts (n : Node) (s b : List ℕ) : Type 0 where
   pub sound : sound n ≡ true
+  pub kind : known s ≡ true
   pub said : decoded s ≡ D.Said (timeOf s) (eventOf s)
   pub since : n .clock ≤ timeOf s
   pub until : timeOf s ≤ latest
@@ -51,6 +52,13 @@ pub record Accepts (n : Node) (s b : List ℕ) : Type 0 where
   pub new : isActive (n .profile) (saidOf s) (slots n) ≡ false
   pub room : allTaken (saidOf s) (slots n) ≡ false
   pub fits : length (output n (timeOf s) (saidOf s)) ≤ length b
+
+is-known : (s : List ℕ) → firstFit (rows s) ≡ 0 → known s ≡ true
+unfolding rows
+is-known s e =
+    let p₁ = passed _ _ _ (omega arith) e in
+    let p₂ = passed _ _ _ (omega arith) (p₁ .rest) in
+    not-false-true (known s) (passed _ _ _ (omega arith) (p₂ .rest) .fails)
 
 said-what : (s : List ℕ) → firstFit (rows s) ≡ 0 → decoded s ≡ D.Said (timeOf s) (eventOf s)
 unfolding decoded saidBy
@@ -79,6 +87,7 @@ module _ (n : Node) (s b : List ℕ) where
       let v = neither (ltb latest t) (ltb t (n .clock)) (p₆ .fails) in
       record {
         sound = not-false-true (sound n) (p₁₃ .fails);
+        kind = is-known s (q .0);
         said = said-what s (q .0);
         since = ltb-false t (n .clock) (v .1);
         until = ltb-false latest t (v .0);

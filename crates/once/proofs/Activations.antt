@@ -20,8 +20,8 @@ use Rattle.history.specs.Demand.{InTime, under}
 use Rattle.history.proofs.Lists.{each-one, each-map, map-map, map-id, each-of-map, all-of-map, all-both, notFalling-whole}
 use Rattle.history.proofs.Everything.{read-one, count-one}
 use Rattle.node.specs.Sound.{freshNode}
-use Rattle.node.specs.Run.{Call}
-use Rattle.node.specs.Held.{Octets, HeldProfile}
+use Rattle.node.specs.Run.{Call, Given}
+use Rattle.node.specs.Held.{HeldProfile}
 use Rattle.once.specs.Charging.{Force, Heard, same, up, down, rules, container, recordFrom, contextFrom, forms}
 use Rattle.once.specs.Once.{machine, sight, activations}
 use Rattle.once.specs.Activations.{containersOf, Activation, containersRead, ChargedOnce, PerActivation}
@@ -80,8 +80,8 @@ module _ (p : Profile) (name : Name) where
 
 -- ---- all of a name's
 
--- For every profile in range that the code can hold, all calls with octets for events, and every name.
-pub each-activation-once : (p : Profile) → profileOk p ≡ true → HeldProfile p → (calls : List Call) → All (λ c. Octets (c .event)) calls
+-- For every profile in range that the code can hold, all calls, of one event with octets for it and of lists of reports, and every name.
+pub each-activation-once : (p : Profile) → profileOk p ≡ true → HeldProfile p → (calls : List Call) → All Given calls
     → (name : Name) → PerActivation p calls name
 each-activation-once p ok h calls octets name =
     let o = every-octet-once p ok in

@@ -1,4 +1,4 @@
--- Demand 3 of one call of the node, from the same for calls of any kind.
+-- Demand 3 of a call of one event, after calls of any kind, from the same for calls of any kind.
 use mathlib.Core.Path.{_≡_, refl, sym, ap, _∙_}
 use mathlib.Core.Option.{Option, none, some}
 use mathlib.Core.List.{List, [], _∷_, map, cons≢nil}
@@ -19,11 +19,11 @@ use Rattle.history.specs.Calls.{openOne, closesIn, OneCall}
 use Rattle.history.proofs.Lists.{each-one}
 use Rattle.node.specs.declared.Node.{Node}
 use Rattle.node.specs.Sound.{freshNode}
-use Rattle.node.specs.Run.{Call, after}
+use Rattle.node.specs.Run.{Call, step, after}
 use Rattle.once.specs.Charging.{Force, Heard, says, same, meaning, rules, recordFrom, forms}
 use Rattle.once.specs.Once.{answer, nodeNow, marked, machine, sight, nodeThen, activations, OneFor, recordsUnder, ClosesUnder, EachCall}
 use Rattle.once.proofs.Five.{says-so, holds-so}
-use Rattle.once.proofs.Steps.{wrote, octets-are}
+use Rattle.once.proofs.Calls.{wrote, octets-are}
 
 -- ---- the node after calls and their log are the same, whichever records they are said to write
 
@@ -39,29 +39,32 @@ module _ (records : Node → Call → List scdr.Record) where
 
 -- ---- one call
 
-module _ (p : Profile) (calls : List Call) (c : Call)
-    (one-call : (name : Name) → OneCall (rules (p .limits)) meaning (forms p) sight (machine wrote) (freshNode p) tt calls c name) where
+module _ (p : Profile) (calls : List Call) (s b : List ℕ)
+    (one-call : (name : Name) → OneCall (rules (p .limits)) meaning (forms p) sight (machine wrote) (freshNode p) tt calls (step s b) name) where
   abbrev R : Rules Force Heard
   R = rules (p .limits)
 
   abbrev n : Node
   n = nodeThen p calls
 
+  abbrev c : Call
+  c = step s b
+
   abbrev t : ℕ
-  t = timeOf (c .event)
+  t = timeOf s
 
   abbrev applied-one : Accepted (List ℕ)
-  applied-one = record { time = t; event = c .event }
+  applied-one = record { time = t; event = s }
 
   refused : (answer n c ≡ 0 → ⊥) → wrote n c ≡ []
   refused z = rw (ne-eqb (answer n c) 0 z)
 
   module _ (name : Name) where
     abbrev closed : List (Record Force Heard)
-    closed = closesIn R (openOne R (activations p calls name)) t (heard R meaning name (says (c .event)))
+    closed = closesIn R (openOne R (activations p calls name)) t (heard R meaning name (says s))
 
     abbrev out : List scdr.Record
-    out = recordsUnder p wrote calls c name
+    out = recordsUnder p wrote calls s b name
 
     accepted : answer n c ≡ 0 → out ≡ map (recordFrom p name) closed
     accepted z =
@@ -85,7 +88,7 @@ module _ (p : Profile) (calls : List Call) (c : Call)
           q ∙ ap some (sym j ∙ w .for)
 
       found : answer n c ≡ 0 → (o : Option (History Force Heard)) (q : Option Heard) → openOne R (activations p calls name) ≡ o
-          → heard R meaning name (says (c .event)) ≡ q → OneFor (map (recordFrom p name) (closesIn R o t q)) cause → ClosesUnder p wrote calls c name cause
+          → heard R meaning name (says s) ≡ q → OneFor (map (recordFrom p name) (closesIn R o t q)) cause → ClosesUnder p wrote calls s b name cause
       found z none q i j w = absurd (cons≢nil (sym (w .alone)))
       found z (some h) none i j w = absurd (cons≢nil (sym (w .alone)))
       found z (some h) (some e) i j w = record {
@@ -97,12 +100,12 @@ module _ (p : Profile) (calls : List Call) (c : Call)
         condition = says-so (p .limits) (sinceOpening R h) t e cause (by-closing h e (closes R h t e) refl w);
       }
 
-      why : OneFor out cause → ClosesUnder p wrote calls c name cause
+      why : OneFor out cause → ClosesUnder p wrote calls s b name cause
       why w = by (eqb (answer n c) 0)
           (λ z. let a = eqb-true (answer n c) 0 z in found a _ _ refl refl (rw (accepted a) at w))
           (λ z. absurd (cons≢nil (sym (w .alone) ∙ ap (λ (rs : List scdr.Record). under same (sight .nameOf) name rs) (refused (eqb-false (answer n c) 0 z)))))
 
-      written-so : ClosesUnder p wrote calls c name cause → OneFor out cause
+      written-so : ClosesUnder p wrote calls s b name cause → OneFor out cause
       written-so z =
           let k = holds-so (p .limits) (sinceOpening R (z .history)) t (z .event) cause (z .condition) in
           record {
@@ -111,7 +114,7 @@ module _ (p : Profile) (calls : List Call) (c : Call)
             for = refl;
           }
 
-  pub each-call : EachCall p wrote calls c
+  pub each-call : EachCall p wrote calls s b
   each-call = record {
     refused = λ z. octets-are n c ∙ ap marked (refused z);
     accepted = λ z name. accepted name z;

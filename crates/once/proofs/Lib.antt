@@ -1,6 +1,8 @@
 pub mod Hears
 pub mod Handles
 pub mod Steps
+pub mod Calls
+pub mod Pairs
 pub mod Readable
 pub mod Serving
 pub mod Five

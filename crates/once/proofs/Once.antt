@@ -1,5 +1,6 @@
 -- Every octet once, of the node (demand 3): the theorem.
 use mathlib.Core.Path.{_≡_, refl, sym}
+use native.Mathlib.Omega.{arith}
 use mathlib.Core.Bool.{true}
 use mathlib.Core.List.{List, [], _∷_}
 use Rattle.profile.specs.declared.Profile.{Profile}
@@ -14,16 +15,17 @@ use Rattle.history.proofs.Demand.{demand3}
 use Rattle.history.proofs.Calls as history-calls
 use Rattle.node.specs.declared.Node.{Node}
 use Rattle.node.specs.Sound.{freshNode, freshOf}
-use Rattle.node.specs.Run.{Call}
+use Rattle.node.specs.Run.{Call, step}
 use Rattle.once.specs.Charging.{Brought, Force, Heard, after, rules, meaning, forms}
 use Rattle.once.specs.Once.{nodeNow, marked, machine, sight, outputs, Once}
 use Rattle.once.proofs.Five.{five-alone}
 use Rattle.once.proofs.Closings.{one-condition, one-cause}
 use Rattle.once.proofs.Handles.{handling, sound}
-use Rattle.once.proofs.Steps.{wrote, octets-are, lengths-are, lengths-fit, buffer-is}
+use Rattle.once.proofs.Calls.{wrote, octets-are, lengths-are, lengths-fit, buffer-is, counted}
+use Rattle.once.proofs.Pairs.{pair-says}
 use Rattle.once.proofs.Readable.{output-reads}
-use Rattle.once.proofs.EachCall.{each-call}
-use Rattle.once.proofs.Serving.{State, state, calls, view, served, run-is, written-is, log-is}
+use Rattle.once.proofs.EachCall.{run-same, each-call}
+use Rattle.once.proofs.Serving.{State, state, calls, view, served, run-is, written-is, log-is, all-kept}
 
 -- the octets of all calls are the records of all calls
 outputs-are : (cs : List Call) (n : Node) → outputs n cs ≡ marked (allWritten (machine wrote) n cs)
@@ -42,10 +44,10 @@ module _ (p : Profile) (cs : List Call) where
   charged : (n : Name) → Demand3 (rules (p .limits)) meaning (forms p) sight (machine wrote) (freshNode p) tt cs n
   charged n =
       let d = charged-apart n in
-      let l = log-is p cs fresh in
+      let l = log-is p (machine wrote) all-kept cs fresh in
       record {
-        closed = rw (written-is p cs fresh, l) (d .closed);
-        open-now = rw (run-is p cs fresh, l) (d .open-now);
+        closed = rw (written-is p (machine wrote) all-kept cs fresh, l) (d .closed);
+        open-now = rw (run-is p (machine wrote) all-kept cs fresh, l) (d .open-now);
         released = rw l (d .released);
         all-reported = rw l (d .all-reported);
         in-order = rw l (d .in-order);
@@ -79,7 +81,9 @@ every-octet-once p ok = record {
   all-octets = λ cs. outputs-are cs (freshNode p);
   reads = λ h cs. output-reads p cs ok (outputs-are cs (freshNode p)) h;
   demand = charged p;
-  each-call = λ cs c. each-call p cs c (one-call p cs c);
+  pair = pair-says;
+  counted = λ cs. let e = rw (run-same wrote cs (freshNode p)) at (counted cs (freshNode p)) in omega arith;
+  each-call = λ cs s b. each-call p cs s b (one-call p cs (step s b));
   one-call = one-call p;
   five = five-alone (p .limits);
   one-condition = one-condition (p .limits);

@@ -1,4 +1,5 @@
--- 01's "One session, whole", by the definitions: the histories of its events, the records that they make, and 01's octets.
+-- 01's "One session, whole", by the definitions: the histories of its events, the records that they make, and 01's octets; and the same by calls of
+-- the node, two of its reports in one call (02, W2) among them.
 use mathlib.Core.Path.{_≡_, refl, ap, _∙_}
 use mathlib.Core.List.{List, [], _∷_, _++_, map}
 use Prim.Native.Nat.{ℕ}
@@ -27,6 +28,7 @@ use Rattle.profile.specs.Sample.{session}
 use Rattle.profile.specs.Profile.{limitsOk, profileOk}
 use Rattle.event.specs.declared.Name.{Name}
 use Rattle.event.specs.Sample.{activate, traffic, released}
+use Rattle.event.specs.Traffic.{trafficEvent}
 use Rattle.event.specs.Fields as fields
 use Rattle.event.specs.Fields.{activateOk}
 use Rattle.event.specs.Kinds.{kinds, kindIn, wholeOf}
@@ -45,10 +47,11 @@ use Rattle.history.specs.Run.{log}
 use Rattle.node.specs.Hear.{reported, qosAfter, changeOf, limitMet, closing, numberFor, recordOf, goesOn, closedBy, afterClosing, hearWith, hear}
 use Rattle.node.specs.Step as step
 use Rattle.node.specs.Sound.{freshNode, sound}
-use Rattle.node.specs.Run.{Call}
+use Rattle.node.specs.Batch.{pairsOf, andThen, oneByOne, listRefusals, batchBy, batchOf}
+use Rattle.node.specs.Run.{Call, afterOne, after}
 use Rattle.once.specs.Charging.{Force, Heard, says, meaning, inForceBy, rules, recordFrom}
-use Rattle.once.specs.Once.{marked, machine, outputs}
-use Rattle.once.proofs.Steps.{wrote}
+use Rattle.once.specs.Once.{answer, marked, machine, outputs, nodeThen, activations}
+use Rattle.once.proofs.Calls.{wrote}
 
 abbrev R : Rules Force Heard
 R = rules (session .limits)
@@ -112,18 +115,47 @@ long-records : map (λ r. brief (recordFrom session name r)) (records R long) �
 unfolding activate fillTo noContainers duration lastTime
 long-records = refl
 
--- ---- the node itself accepts the three events, and writes this
+-- ---- the same of the node itself, by calls
 
 abbrev call : List ℕ → Call
-call s = record { event = s; buffer = replicate 113 0 }
+call s = Call.step s (replicate 113 0)
 
 abbrev calls : List Call
 calls = call activate ∷ call traffic ∷ call (released 0) ∷ []
 
-pub session-run : (log (machine wrote) (freshNode session) calls ≡ short) × (outputs (freshNode session) calls ≡ 0xC3 ∷ 0x5A ∷ printed)
-unfolding activate traffic released printed spelt octetsFrom numberIn fillTo noContainers
+-- the reports of 5 and 6 in one list at 6, in a buffer of so many octets
+abbrev reports : ℕ → Call
+reports room = Call.batch name 6 (400 ∷ 599 ∷ 0 ∷ 1 ∷ []) (replicate room 0)
+
+abbrev listed : ℕ → List Call
+listed room = call activate ∷ reports room ∷ []
+
+abbrev both-reports : History Force Heard
+both-reports = start 0 (inForceBy activate) ▸ 6 ∶ Heard.traffic 400 599 ▸ 6 ∶ Heard.traffic 0 1
+
+both-close : map (λ r. brief (recordFrom session name r)) (records R both-reports) ≡
+    record { number = 1; cause = 16; opening = 0; lasts = 6; parts = part 400 600 2 6 ∷ [] } ∷ []
+unfolding activate fillTo noContainers duration lastTime
+both-close = refl
+
+pub record SessionRun : Type 0 where
+  -- It accepts the three events, and writes 01's octets.
+  pub accepted : log (machine wrote) (freshNode session) calls ≡ short
+  pub output : outputs (freshNode session) calls ≡ 0xC3 ∷ 0x5A ∷ printed
+  -- Both reports are applied, are in the history, and close one record;
+  pub answered : answer (nodeThen session (call activate ∷ [])) (reports 116) ≡ 0
+  pub both : log (machine wrote) (freshNode session) (listed 116) ≡ at 0 activate ∷ at 6 (trafficEvent name 6 400 599) ∷ at 6 (trafficEvent name 6 0 1) ∷ []
+  pub heard : activations session (listed 116) name ≡ both-reports ∷ []
+  pub closed : outputs (freshNode session) (listed 116) ≡ marked (map (recordFrom session name) (records R both-reports))
+  -- and with an octet less the second is refused for lack of room, and the first stays.
+  pub no-room : answer (nodeThen session (call activate ∷ [])) (reports 115) ≡ 11
+  pub first : log (machine wrote) (freshNode session) (listed 115) ≡ at 0 activate ∷ at 6 (trafficEvent name 6 400 599) ∷ []
+  pub silent : outputs (freshNode session) (listed 115) ≡ []
+
+pub session-run : SessionRun
+unfolding activate traffic released printed says spelt octetsFrom numberIn fillTo noContainers
     step.stepOf step.outcome step.refusals step.notActive step.isActive step.allTaken step.output step.recordsOf step.octetsOf step.markedOctets
-    step.nodeAfter step.activated
+    step.nodeAfter step.activated batchOf batchBy listRefusals pairsOf oneByOne andThen trafficEvent afterOne after
     firstFit rows.marked known measured kinds kindIn wholeOf rows.fieldsOk activateOk eventOf
     imsiOk halves leading allF qosOk allOf apnChar release fields.release nodeChar
     sound profileOk limitsOk nodeOk apnOk stampOk distinct slots.isActive isFree bears noneBears sameName
@@ -133,4 +165,14 @@ unfolding activate traffic released printed spelt octetsFrom numberIn fillTo noC
     layout.scdr layout.inside layout.body layout.ofRecord layout.fieldsOf duration lastTime tlvEnc lenEnc intEnc lowest imsiEnc stampEnc monthDay seek
     monthLen isNew told
     containers container qos
-session-run = (refl, eqs-eq (outputs (freshNode session) calls) (0xC3 ∷ 0x5A ∷ printed) tt)
+session-run = record {
+  accepted = refl;
+  output = eqs-eq (outputs (freshNode session) calls) (0xC3 ∷ 0x5A ∷ printed) tt;
+  answered = refl;
+  both = refl;
+  heard = refl;
+  closed = eqs-eq (outputs (freshNode session) (listed 116)) (marked (map (recordFrom session name) (records R both-reports))) tt;
+  no-room = refl;
+  first = refl;
+  silent = refl;
+}

@@ -52,7 +52,7 @@ pub record ChargedOnce (p : Profile) (name : Name) (a : Activation) : Type 0 whe
   pub uplink : sumOf (λ c. c .uplink) (containersRead a) + sumOf (λ c. c .current .uplink) (a .still-open) ≡ total up (a .history)
   pub downlink : sumOf (λ c. c .downlink) (containersRead a) + sumOf (λ c. c .current .downlink) (a .still-open) ≡ total down (a .history)
 
--- Any calls from a fresh node with this profile, and a name.
+-- Any calls, of one event and of lists of reports, from a fresh node with this profile, and a name.
 pub record PerActivation (p : Profile) (calls : List Call) (name : Name) : Type 0 where
   -- All the octets that the calls wrote, read mark by mark, are these records.
   pub output : List scdr.Record

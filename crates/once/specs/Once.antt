@@ -1,10 +1,10 @@
--- Every octet once (demand 3), of the node: the statement. It is about what the step answers to calls, the octets that it writes
--- included, and about nothing else of the node.
+-- Every octet once (demand 3), of the node: the statement. It is about what the node answers to calls, of one event and of a list of reports
+-- (02, W2), the octets that they write included, and about nothing else of the node.
 use mathlib.Core.Path.{_≡_}
 use mathlib.Core.Logic.{_↔_}
 use mathlib.Core.Option.{some}
 use mathlib.Core.List.{List, [], _∷_, _++_, map}
-use Prim.Native.Nat.{ℕ, _≤_}
+use Prim.Native.Nat.{ℕ, _^_, _≤_, _<_}
 use lib.ListN.{length, take, drop}
 use Rattle.scdr.specs.declared.Record as scdr
 use Rattle.scdr.specs.Layout as layout
@@ -12,40 +12,50 @@ use Rattle.scdr.specs.List.{recordList}
 use Rattle.profile.specs.declared.Profile.{Profile}
 use Rattle.event.specs.declared.Name.{Name}
 use Rattle.event.specs.Fields.{timeOf}
+use Rattle.event.specs.Traffic.{trafficEvent}
 use Rattle.context.specs.declared.Context.{Context}
 use Rattle.history.specs.Lists.{each, All}
 use Rattle.history.specs.Run.{Machine, ifZero, allWritten, log}
 use Rattle.history.specs.History.{History}
 use Rattle.history.specs.Records.{sinceOpening}
-use Rattle.history.specs.Log.{heard, histories}
+use Rattle.history.specs.Log.{tells, heard, histories}
 use Rattle.history.specs.Demand.{ClosesNow, Unchanged, Sight, under, Demand3}
 use Rattle.history.specs.Calls.{openOne, closesIn, OneCall}
 use Rattle.node.specs.declared.Node.{Node}
 use Rattle.node.specs.Sound.{freshNode, freshOf}
 use Rattle.node.specs.Step.{stepOf, slots}
-use Rattle.node.specs.Run.{Call, after}
-use Rattle.node.specs.Held.{Octets, HeldProfile}
+use Rattle.node.specs.Batch.{reportsOf, batchOf}
+use Rattle.node.specs.Run.{Call, step, batch, afterOne, after, Given}
+use Rattle.node.specs.Held.{HeldProfile}
 use Rattle.once.specs.Charging.{Force, Heard, says, same, meaning, Closes, which, rules, recordFrom, forms}
 
 -- ---- calls
 
--- What the step answers to a call on a node: the number 0 or that of a refusal, the node, the written length, the buffer.
-module _ (n : Node) (c : Call) where
-  abbrev pub answer : ℕ
-  answer = stepOf n (c .event) (c .buffer) .0
+-- the octets that stand in the buffer that a call is lent
+abbrev pub bufferOf : Call → List ℕ
+bufferOf (step s b) = b
+bufferOf (batch m t vs b) = b
 
-  abbrev pub nodeNow : Node
-  nodeNow = stepOf n (c .event) (c .buffer) .1 .0
+-- What is answered to a call on a node: the number 0 or that of a refusal, the node, the written length, the buffer.
+module _ (n : Node) where
+  abbrev pub answer : Call → ℕ
+  answer (step s b) = stepOf n s b .0
+  answer (batch m t vs b) = batchOf n m t vs b .answer
 
-  abbrev pub lengthNow : ℕ
-  lengthNow = stepOf n (c .event) (c .buffer) .1 .1 .0
+  abbrev pub nodeNow : Call → Node
+  nodeNow c = afterOne n c
 
-  abbrev pub bufferNow : List ℕ
-  bufferNow = stepOf n (c .event) (c .buffer) .1 .1 .1
+  abbrev pub lengthNow : Call → ℕ
+  lengthNow (step s b) = stepOf n s b .1 .1 .0
+  lengthNow (batch m t vs b) = batchOf n m t vs b .written
+
+  abbrev pub bufferNow : Call → List ℕ
+  bufferNow (step s b) = stepOf n s b .1 .1 .1
+  bufferNow (batch m t vs b) = batchOf n m t vs b .buffer
 
   -- the octets that the call writes
-  abbrev pub octetsNow : List ℕ
-  octetsNow = take lengthNow bufferNow
+  abbrev pub octetsNow : Call → List ℕ
+  octetsNow c = take (lengthNow c) (bufferNow c)
 
 -- "In output each record follows the mark C3 5A."
 abbrev pub marked : List scdr.Record → List ℕ
@@ -53,11 +63,21 @@ marked rs = each (λ r. 0xC3 ∷ 0x5A ∷ layout.scdr .enc r) rs
 
 -- ---- the node as history's specs/Run.antt and specs/Demand.antt see it
 
--- The event of a call is accepted exactly when the answer is 0. `recordsBy` says which records a call writes.
+-- The events that a call holds: its own, or the traffic event of each pair of its list.
+abbrev pub eventsOf : Call → List (List ℕ)
+eventsOf (step s b) = s ∷ []
+eventsOf (batch m t vs b) = reportsOf m t vs
+
+-- How many of them it applies, from the first on: its own exactly when the answer is 0; of a list as many as the call says.
+abbrev pub appliesOf : Node → Call → ℕ
+appliesOf n (step s b) = ifZero (stepOf n s b .0)
+appliesOf n (batch m t vs b) = batchOf n m t vs b .applied
+
+-- Each event has the time that its octets say. `recordsBy` says which records a call writes.
 abbrev pub machine : (Node → Call → List scdr.Record) → Machine Node Call (List ℕ) scdr.Record
 machine recordsBy = record {
-  holds = λ c. record { time = timeOf (c .event); event = c .event } ∷ [];
-  applies = λ n c. ifZero (answer n c);
+  holds = λ c. map (λ s. record { time = timeOf s; event = s }) (eventsOf c);
+  applies = appliesOf;
   after = nodeNow;
   writes = recordsBy;
 }
@@ -85,7 +105,14 @@ module _ (p : Profile) (calls : List Call) where
   abbrev pub activations : Name → List (History Force Heard)
   activations name = histories (rules (p .limits)) meaning name tt (log (machine (λ n c. [])) (freshNode p) calls)
 
--- ---- one call
+-- ---- a pair of a list
+
+-- Its event says its numbers: traffic of that name, at that time, of so many octets up and down.
+pub record PairSays (m : Name) (t up down : ℕ) : Type 0 where
+  pub time : timeOf (trafficEvent m t up down) ≡ t
+  pub traffic : says (trafficEvent m t up down) ≡ tells m (Heard.traffic up down)
+
+-- ---- a call of one event
 
 -- These are one record, and it has this cause.
 pub record OneFor (rs : List scdr.Record) (cause : ℕ) : Type 0 where
@@ -93,36 +120,40 @@ pub record OneFor (rs : List scdr.Record) (cause : ℕ) : Type 0 where
   pub alone : rs ≡ sole ∷ []
   pub for : sole .cause ≡ cause
 
--- A call c after any calls from a fresh node with this profile.
-module _ (p : Profile) (recordsBy : Node → Call → List scdr.Record) (calls : List Call) (c : Call) where
+-- A call with the event s after any calls from a fresh node with this profile.
+module _ (p : Profile) (recordsBy : Node → Call → List scdr.Record) (calls : List Call) (s b : List ℕ) where
+  -- what is answered to it
+  abbrev pub answerThen : ℕ
+  answerThen = answer (nodeThen p calls) (step s b)
+
   -- the records that it writes under a name
   abbrev pub recordsUnder : Name → List scdr.Record
-  recordsUnder name = under same (sight .nameOf) name (recordsBy (nodeThen p calls) c)
+  recordsUnder name = under same (sight .nameOf) name (recordsBy (nodeThen p calls) (step s b))
 
   -- It closes the open record of a name, with this cause: it is accepted, a history of the name is open, this hears the event, and
   -- one of the five closing conditions holds there, read over the open record's past alone.
   pub record ClosesUnder (name : Name) (cause : ℕ) : Type 0 where
-    pub accepted : answer (nodeThen p calls) c ≡ 0
+    pub accepted : answerThen ≡ 0
     pub history : History Force Heard
     pub is-open : openOne (rules (p .limits)) (activations p calls name) ≡ some history
     pub event : Heard
-    pub hears : heard (rules (p .limits)) meaning name (says (c .event)) ≡ some event
-    pub condition : Closes (p .limits) (sinceOpening (rules (p .limits)) history) (timeOf (c .event)) event cause
+    pub hears : heard (rules (p .limits)) meaning name (says s) ≡ some event
+    pub condition : Closes (p .limits) (sinceOpening (rules (p .limits)) history) (timeOf s) event cause
 
   pub record EachCall : Type 0 where
     -- Refused, it writes nothing.
-    pub refused : (answer (nodeThen p calls) c ≡ 0 → ⊥) → octetsNow (nodeThen p calls) c ≡ []
+    pub refused : (answerThen ≡ 0 → ⊥) → octetsNow (nodeThen p calls) (step s b) ≡ []
     -- Accepted, it writes under every name exactly the records that its event closes in the name's open history: nothing where none
     -- is open, and nothing where the name does not hear the event.
-    pub accepted : answer (nodeThen p calls) c ≡ 0 → (name : Name) → recordsUnder name
-        ≡ map (recordFrom p name) (closesIn (rules (p .limits)) (openOne (rules (p .limits)) (activations p calls name)) (timeOf (c .event))
-        (heard (rules (p .limits)) meaning name (says (c .event))))
+    pub accepted : answerThen ≡ 0 → (name : Name) → recordsUnder name
+        ≡ map (recordFrom p name) (closesIn (rules (p .limits)) (openOne (rules (p .limits)) (activations p calls name)) (timeOf s)
+        (heard (rules (p .limits)) meaning name (says s)))
     -- It writes a record with a cause, and no other under the name, exactly when a closing condition holds there with that cause.
     pub exactly : (name : Name) (cause : ℕ) → OneFor (recordsUnder name) cause ↔ ClosesUnder name cause
 
 -- ---- the statement
 
--- Any calls one after another, refused ones among them, from a fresh node with this profile.
+-- Any calls one after another, of one event and of lists of reports, refused ones among them, from a fresh node with this profile.
 pub record Once (p : Profile) : Type 0 where
   -- The fresh node is made.
   pub made : _≡_ {A = ℕ × Node} (freshOf p) (0, freshNode p)
@@ -131,19 +162,24 @@ pub record Once (p : Profile) : Type 0 where
   pub recordsBy : Node → Call → List scdr.Record
   pub octets : (n : Node) (c : Call) → octetsNow n c ≡ marked (recordsBy n c)
   pub lengths : (n : Node) (c : Call) → lengthNow n c ≡ length (marked (recordsBy n c))
-  pub fit : (n : Node) (c : Call) → lengthNow n c ≤ length (c .buffer)
-  pub others : (n : Node) (c : Call) → bufferNow n c ≡ marked (recordsBy n c) ++ drop (lengthNow n c) (c .buffer)
+  pub fit : (n : Node) (c : Call) → lengthNow n c ≤ length (bufferOf c)
+  pub others : (n : Node) (c : Call) → bufferNow n c ≡ marked (recordsBy n c) ++ drop (lengthNow n c) (bufferOf c)
   -- So all the octets that calls write are these records.
   pub all-octets : (calls : List Call) → outputs (freshNode p) calls ≡ marked (allWritten (machine recordsBy) (freshNode p) calls)
   -- Read mark by mark they are these records and nothing else, where events are octets and the profile is one that the code can hold.
-  pub reads : HeldProfile p → (calls : List Call) → All (λ c. Octets (c .event)) calls
+  pub reads : HeldProfile p → (calls : List Call) → All Given calls
       → recordList (outputs (freshNode p) calls) ≡ some (allWritten (machine recordsBy) (freshNode p) calls)
   -- Under every name these records, and the context that is stored, are exactly what its histories make and leave.
   pub demand : (calls : List Call) (name : Name)
       → Demand3 (rules (p .limits)) meaning (forms p) sight (machine recordsBy) (freshNode p) tt calls name
-  -- Each call writes what its event closes, and nothing else: said of the node, and as the theory says it of calls that may apply
-  -- any number of events.
-  pub each-call : (calls : List Call) (c : Call) → EachCall p recordsBy calls c
+  -- A pair of a list is in them with its numbers, which are of 32 bits.
+  pub pair : (m : Name) (t up down : ℕ) → t < 2 ^ 32 → m .id < 2 ^ 32 → m .ggsn < 2 ^ 32 → up < 2 ^ 32 → down < 2 ^ 32 → PairSays m t up down
+  -- Each accepted event, and each applied pair of a list, is one of those that the node counts: 02, "Demand 3 counts each applied pair as one
+  -- event".
+  pub counted : (calls : List Call) → nodeThen p calls .accepted ≡ length (log (machine recordsBy) (freshNode p) calls)
+  -- Each call writes what its events close, and nothing else: said of a call of one event, and of any call as the theory says it of calls that
+  -- may apply any number of events.
+  pub each-call : (calls : List Call) (s b : List ℕ) → EachCall p recordsBy calls s b
   pub one-call : (calls : List Call) (c : Call) (name : Name)
       → OneCall (rules (p .limits)) meaning (forms p) sight (machine recordsBy) (freshNode p) tt calls c name
   -- In every history a record closes exactly when one of the five closing conditions holds, read over the open record's past alone.
