@@ -1,5 +1,5 @@
-/* A host that charges one session through the library: a node where it lies, events one by one, the record list on standard output in
- * hex, and what was refused. See tests/host/run for how it is built. */
+/* A host that charges two sessions through the library: a node where it lies, events one by one and reports by the minute, the record list on
+ * standard output in hex, and what was refused. See tests/host/run for how it is built. */
 #include "charging.h"
 
 int printf(const char *, ...);
@@ -21,12 +21,30 @@ static const uint8_t traffic[] = {
 /* time 6: release 0 */
 static const uint8_t release[] = { 0xC3, 0x5E, 5, 0, 0, 0, 6, 0, 0, 0, 1, 10, 0, 0, 2, 0 };
 
-static void step(const char *what, const uint8_t *event, size_t length, size_t room) {
-    struct charging_answer a = charging_step(&node, event, length, out, room);
-    printf("%s: answer %u, %zu octets", what, a.answer, a.written);
-    for (size_t i = 0; i < a.written; i++)
+/* time 7: activate the same again; and reports, uplink and downlink by turns: the second pair meets the volume limit, and so does the third */
+static uint8_t activate_again[sizeof activate];
+static const uint32_t reports[] = { 400, 599, 0, 1, 600, 400, 5 };
+/* time 60: release 0 */
+static const uint8_t release_again[] = { 0xC3, 0x5E, 5, 0, 0, 0, 60, 0, 0, 0, 1, 10, 0, 0, 2, 0 };
+
+static void written(size_t n) {
+    printf(", %zu octets", n);
+    for (size_t i = 0; i < n; i++)
         printf(i % 32 == 0 ? "\n    %02X" : " %02X", out[i]);
     printf("\n");
+}
+
+static void step(const char *what, const uint8_t *event, size_t length, size_t room) {
+    struct charging_answer a = charging_step(&node, event, length, out, room);
+    printf("%s: answer %u", what, a.answer);
+    written(a.written);
+}
+
+/* of charging ID 1, GGSN 10.0.0.2, at time 59 */
+static void batch(const char *what, const uint32_t *volumes, size_t count, size_t room) {
+    struct charging_batched b = charging_batch(&node, 1, 0x0A000002, 59, volumes, count, out, room);
+    printf("%s: answer %u, %zu pairs", what, b.answer, b.applied);
+    written(b.written);
 }
 
 int main(void) {
@@ -41,6 +59,16 @@ int main(void) {
     step("release, with a room of 112", release, sizeof release, 112);
     step("release", release, sizeof release, sizeof out);
     step("release again", release, sizeof release, sizeof out);
+    printf("clock %u, accepted %u\n", node.clock, (unsigned)node.accepted);
+    for (size_t i = 0; i < sizeof activate; i++)
+        activate_again[i] = i == 6 ? 7 : activate[i];
+    step("activate again, at 7", activate_again, sizeof activate_again, sizeof out);
+    batch("reports, a number too many", reports, 7, sizeof out);
+    batch("no reports", reports, 0, sizeof out);
+    printf("clock %u, accepted %u\n", node.clock, (unsigned)node.accepted);
+    batch("reports, with a room of 116", reports, 6, 116);
+    batch("those that were left", reports + 4, 2, sizeof out);
+    step("release, at 60", release_again, sizeof release_again, sizeof out);
     printf("clock %u, accepted %u\n", node.clock, (unsigned)node.accepted);
     return 0;
 }
