@@ -3,11 +3,13 @@ use mathlib.Core.Path.{_≡_, sym, _∙_}
 use mathlib.Core.List.{List}
 use Prim.Native.Nat.{ℕ}
 use Rattle.profile.specs.declared.Profile.{Profile}
+use Rattle.event.specs.declared.Name.{Name}
 use Rattle.context.specs.declared.Context.{Context}
 use Rattle.node.specs.declared.Message.{Message}
 use Rattle.node.specs.declared.Node.{Node}
 use Rattle.node.specs.Sound.{Makes}
 use Rattle.node.specs.Step.{Steps}
+use Rattle.node.specs.Batch.{Done, Batches}
 use Rattle.node.specs.Private.Range.{Counts, Tries, Serves}
 
 -- ---- what public functions promise
@@ -20,6 +22,13 @@ makes-fixes p q = p .is ∙ sym (q .is)
 pub steps-fixes : {n n₁ n₂ : Node} {s b b₁ b₂ : List ℕ} {a₁ a₂ w₁ w₂ : ℕ} → Steps n s b b₁ a₁ n₁ w₁ → Steps n s b b₂ a₂ n₂ w₂
     → _≡_ {A = ℕ × (Node × (ℕ × List ℕ))} (a₁, (n₁, (w₁, b₁))) (a₂, (n₂, (w₂, b₂)))
 steps-fixes p q = p .is ∙ sym (q .is)
+
+-- `batch::batch`: the answer, how many pairs were applied, the node, the written length and the buffer
+pub batches-fixes : {n n₁ n₂ : Node} {m : Name} {t : ℕ} {vs b b₁ b₂ : List ℕ} {a₁ a₂ k₁ k₂ w₁ w₂ : ℕ}
+    → Batches n m t vs b b₁ a₁ k₁ n₁ w₁ → Batches n m t vs b b₂ a₂ k₂ n₂ w₂
+    → _≡_ {A = Done Node} (record { answer = a₁; applied = k₁; left = n₁; written = w₁; buffer = b₁ })
+    (record { answer = a₂; applied = k₂; left = n₂; written = w₂; buffer = b₂ })
+batches-fixes p q = p .is ∙ sym (q .is)
 
 -- ---- what private functions promise
 
