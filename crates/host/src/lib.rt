@@ -43,7 +43,8 @@ pub extern "C" fn charging_batch(
     volumes: &[u32],
     out: &mut [u8],
 ) -> BatchAnswer
-    ensures { λ r. ⌜ Batches (now (node .entry)) (nameWith id ggsn) t (now (volumes .entry)) (now (out .entry)) (now (out .exit)) (r .answer) (r .applied) (now (node .exit)) (r .written) ⌝ }
+    ensures { λ r. ⌜ Batches (now (node .entry)) (nameWith id ggsn) t (now (volumes .entry)) (now (out .entry))
+        (now (out .exit)) (r .answer) (r .applied) (now (node .exit)) (r .written) ⌝ }
 {
     let r = node::batch::batch(*node, id, ggsn, t, volumes, out);
     *node = r.node;

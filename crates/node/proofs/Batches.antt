@@ -38,7 +38,7 @@ use Rattle.node.specs.Step.{taken, stepOf}
 use Rattle.node.specs.Held.{Shaped, HeldContext, Held, Whole}
 use Rattle.node.specs.Batch.{Done, pairsOf, reportsOf, andThen, oneByOne, listRefusals, batchBy, batchOf, Batches}
 use Rattle.node.specs.Private.Task.{namedTask, taskOf, timelyTask, taskFor, doneBy}
-use Rattle.node.specs.Private.Pairs.{Seat, seated, seatAt, moved, seatStep, Listens, Tells, tellAt, reportsFor}
+use Rattle.node.specs.Private.Pairs.{Seat, seated, seatAt, moved, seatStep, Listens, Tells, tellAt, firstPair, reportsFor}
 use Rattle.node.proofs.Rules.{rules}
 use Rattle.node.proofs.Found.{named, named-at}
 use Rattle.node.proofs.TableKept.{shapes}
@@ -161,7 +161,7 @@ module _ (n : Node) (m : Name) (t : ℕ) (vs b : List ℕ) (h : Held n) (tl : Wo
             looked F.Nothing q = refused (λ i. omega arith) (λ u d k l. task u d k l ok .done ∙ rw (y, x, q))
 
   pub means : (ok : Bool) → sound n ≡ ok → Means (reportsFor ok (n .clock) (n .accepted) (map slotOf (n .contexts)) m t (length vs))
-  unfolding reportsFor
+  unfolding reportsFor firstPair
   means false e = batch-13 e
   means true e =
       by (eqb (length vs % 2) 1) (λ o. rw o (batch-14 e o)) (λ o.
@@ -170,15 +170,17 @@ module _ (n : Node) (m : Name) (t : ℕ) (vs b : List ℕ) (h : Held n) (tl : Wo
       by (leb mostAccepted (n .accepted)) (λ x. rw (o, z, y, x) (many e o z y x)) (λ x.
       rw (o, z, y, x) (looked e o z y x (firstFrom (bears m) 0 (map slotOf (n .contexts))) refl)))))
 
-  -- ---- the context that is told
+-- ---- the context that is told
 
-  place : {i : ℕ} → Telling i → i < length (n .contexts)
-  place k = first-below (named-at (n .contexts) m (k .found))
+module _ {n : Node} {m : Name} {t : ℕ} {vs b : List ℕ} {h : Held n} {tl : Word t} {id : Word (m .id)} {ggsn : Word (m .ggsn)} {w : All Word vs} {i : ℕ}
+    (k : Telling n m t vs b h tl id ggsn w i) where
+  place : i < length (n .contexts)
+  place = first-below (named-at (n .contexts) m (k .found))
 
-  pub below : {i : ℕ} → Telling i → i < 16
-  below k = omega (arith, place k, h .size)
+  pub below : i < 16
+  below = omega (arith, place, h .size)
 
-  module _ {i : ℕ} (k : Telling i) (d : Context) where
+  module _ (d : Context) where
     active : getD (n .contexts) i d .active ≡ 1
     active =
         let c = getD (n .contexts) i d in
@@ -188,7 +190,7 @@ module _ (n : Node) (m : Name) (t : ℕ) (vs b : List ℕ) (h : Held n) (tl : Wo
     listens =
         let c = getD (n .contexts) i d in
         let r = rules n (k .sound) in
-        let s = asks-at (slots-ask (n .profile .limits) (n .profile .zone) (n .clock) (n .accepted)) (n .contexts) i d (r .slots) (place k) in
+        let s = asks-at (slots-ask (n .profile .limits) (n .profile .zone) (n .clock) (n .accepted)) (n .contexts) i d (r .slots) place in
         record {
           profile = r .profile;
           since = k .since;
@@ -196,39 +198,45 @@ module _ (n : Node) (m : Name) (t : ℕ) (vs b : List ℕ) (h : Held n) (tl : Wo
           few = omega (arith, k .few);
           active = active;
           sound = sym (slot-active (n .profile .limits) (n .profile .zone) (n .clock) (n .accepted) c active) ∙ s;
-          shape = all-at Shaped (n .contexts) i d (shapes (n .contexts) (h .contexts)) (place k);
+          shape = all-at Shaped (n .contexts) i d (shapes (n .contexts) (h .contexts)) place;
         }
 
     -- at first the seat is the node
-    seat : Seat
+    abbrev seat : Seat
     seat = seatAt (n .clock) (n .accepted) t 0 (getD (n .contexts) i d)
 
     seated-first : seated n i seat ≡ n
-    unfolding seat
     seated-first =
         let a : n .accepted + 0 ≡ n .accepted = omega arith in
         let c = set-getD (n .contexts) i d in
         λ j. record { profile = n .profile; clock = n .clock; accepted = a j; contexts = c j }
 
-    good-first : Good n i t d m (k .until) (omega (arith, id)) (omega (arith, ggsn)) (place k) (k .found) seat
-    unfolding seat
+    id-four : m .id < 256 ^ 4
+    id-four = omega (arith, id)
+
+    ggsn-four : m .ggsn < 256 ^ 4
+    ggsn-four = omega (arith, ggsn)
+
+    good-first : Good n i t d m (k .until) id-four ggsn-four place (k .found) seat
     good-first = record { whole = rw seated-first (record { sound = k .sound; held = h }); name = refl; since = k .since }
 
     -- what comes of the slot is what the list's events do one by one
+    seated-all : oneByOne stepOf (seated n i seat) (reportsOf m t vs) b ≡ throughAll (seated n i) (oneByOne (seatStep (n .profile) t) seat (pairsOf vs) b)
+    seated-all =
+        alike (seated n i) stepOf (seatStep (n .profile) t) (event n i t d m (k .until) id-four ggsn-four place (k .found))
+        (Good n i t d m (k .until) id-four ggsn-four place (k .found)) (Fine n i t d m (k .until) id-four ggsn-four place (k .found))
+        (same n i t d m (k .until) id-four ggsn-four place (k .found)) (kept n i t d m (k .until) id-four ggsn-four place (k .found))
+        (pairsOf vs) seat b good-first (pairs-fine vs w)
+
     pub batches-told : {b′ : List ℕ} {answer applied written a c l : ℕ} {x : Context} {n′ : Node}
         → Tells (n .profile) (n .clock) (n .accepted) (getD (n .contexts) i d) t vs b b′ answer applied x written
         → (a ≡ answer) × ((c ≡ applied) × ((n′ ≡ moved n i t applied x) × (l ≡ written))) → Batches n m t vs b b′ a c n′ l
-    unfolding seat
     batches-told {b′} {answer} {applied} {written} {x = x} y e =
-        let f = alike (seated n i) stepOf (seatStep (n .profile) t) (event n i t d m (k .until) (omega (arith, id)) (omega (arith, ggsn)) (place k) (k .found))
-        (Good n i t d m (k .until) (omega (arith, id)) (omega (arith, ggsn)) (place k) (k .found))
-        (Fine n i t d m (k .until) (omega (arith, id)) (omega (arith, ggsn)) (place k) (k .found))
-        (same n i t d m (k .until) (omega (arith, id)) (omega (arith, ggsn)) (place k) (k .found))
-        (kept n i t d m (k .until) (omega (arith, id)) (omega (arith, ggsn)) (place k) (k .found))
-        (pairsOf vs) seat b good-first (pairs-fine vs w) in
+        let first : oneByOne stepOf (seated n i seat) (reportsOf m t vs) b ≡ oneByOne stepOf n (reportsOf m t vs) b
+        = ap (λ (z : Node). oneByOne stepOf z (reportsOf m t vs) b) seated-first in
         let q : _≡_ {A = Done Node}
         (record { answer = answer; applied = applied; left = moved n i t applied x; written = written; buffer = b′ }) (batchOf n m t vs b)
-        = ap (throughAll (seated n i)) (y .is) ∙ sym f ∙ ap (λ (z : Node). oneByOne stepOf z (reportsOf m t vs) b) seated-first ∙ sym (goes (k .sound) (k .even)) in
+        = ap (throughAll (seated n i)) (y .is) ∙ sym seated-all ∙ first ∙ sym (goes n m t vs b h tl id ggsn w (k .sound) (k .even)) in
         record { is = rw (e .0, e .1 .0, e .1 .1 .0, e .1 .1 .1) q }
 
 -- ---- as the code finds it out

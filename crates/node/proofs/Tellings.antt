@@ -141,33 +141,29 @@ pub record Sounds (p : Profile) (t m : ℕ) (c : Context) : Type 0 where
 abbrev pub volume : Context → ℕ → ℕ → ℕ
 volume c up down = volumeOf (used (c .current)) + (c .current .uplink + up) + (c .current .downlink + down)
 
+-- the context with these in its counters
+abbrev counting : Context → ℕ → ℕ → Context
+counting c up down = going c (record {
+  opening = c .current .opening;
+  qos = c .current .qos;
+  uplink = up;
+  downlink = down;
+  changes = c .current .changes;
+  containers = c .current .containers;
+  count = c .current .count;
+}) (c .closed)
+
 pub counted-more : (c : Context) (up down u d : ℕ) → counted (counted c up down) u d ≡ counted c (up + u) (down + d)
 counted-more c up down u d =
     let a : c .current .uplink + up + u ≡ c .current .uplink + (up + u) = omega arith in
     let b : c .current .downlink + down + d ≡ c .current .downlink + (down + d) = omega arith in
-    λ i. going c (record {
-      opening = c .current .opening;
-      qos = c .current .qos;
-      uplink = a i;
-      downlink = b i;
-      changes = c .current .changes;
-      containers = c .current .containers;
-      count = c .current .count;
-    }) (c .closed)
+    λ i. counting c (a i) (b i)
 
 pub counted-none : (c : Context) → counted c 0 0 ≡ c
 counted-none c =
     let a : c .current .uplink + 0 ≡ c .current .uplink = omega arith in
     let b : c .current .downlink + 0 ≡ c .current .downlink = omega arith in
-    λ i. going c (record {
-      opening = c .current .opening;
-      qos = c .current .qos;
-      uplink = a i;
-      downlink = b i;
-      changes = c .current .changes;
-      containers = c .current .containers;
-      count = c .current .count;
-    }) (c .closed)
+    λ i. counting c (a i) (b i)
 
 module _ (p : Profile) (t : ℕ) (ok : profileOk p ≡ true) (until : t ≤ latest) where
   ready : {m : ℕ} {c : Context} → m < mostAccepted → Sounds p t m c → SoundContext p t c

@@ -13,7 +13,7 @@ ghost use Prim.Native.Nat.{_+_, _<_, _≤_};
 ghost use lib.Dec.{eqb};
 ghost use Rattle.node.specs.Batch.{nameWith, Batches};
 ghost use Rattle.node.specs.Sound.{mostAccepted};
-ghost use Rattle.node.specs.Private.Pairs.{reportsFor, moved};
+ghost use Rattle.node.specs.Private.Pairs.{firstPair, reportsFor, moved};
 
 // The answer, how many pairs were applied, the node, and how many octets were written.
 pub struct Batched {
@@ -33,7 +33,27 @@ pub enum Reports {
     Tell(usize),
 }
 
-// 13, then 14; an empty list is nothing; then the numbers of the first pair that every later one passes too.
+// 6, 7 and 8 of the first pair. The time and the name are those of every pair, so no later one is refused with 6 or 8.
+fn first_pair(clock: u32, accepted: u64, names: [Slot; 16], name: Name, t: u32) -> Reports
+    ensures { λ r. ⌜ r ≡ firstPair clock accepted names name t ⌝ }
+{
+    if 3155759999 < t {
+        return Reports::Refuse(6);
+    }
+    if t < clock {
+        return Reports::Refuse(6);
+    }
+    if 1000000000000000 <= accepted {
+        return Reports::Refuse(7);
+    }
+    let found = slots::find(names, name);
+    match found {
+        Found::At(i) => Reports::Tell(i),
+        Found::Nothing => Reports::Refuse(8),
+    }
+}
+
+// 13, then 14; an empty list is nothing.
 fn reports_for(
     sound: bool,
     clock: u32,
@@ -54,20 +74,7 @@ fn reports_for(
     if count == 0 {
         return Reports::Nothing;
     }
-    if 3155759999 < t {
-        return Reports::Refuse(6);
-    }
-    if t < clock {
-        return Reports::Refuse(6);
-    }
-    if 1000000000000000 <= accepted {
-        return Reports::Refuse(7);
-    }
-    let found = slots::find(names, name);
-    match found {
-        Found::At(i) => Reports::Tell(i),
-        Found::Nothing => Reports::Refuse(8),
-    }
+    first_pair(clock, accepted, names, name, t)
 }
 
 // The same node, and nothing written.
@@ -96,7 +103,8 @@ fn clock_after(clock: u32, t: u32, applied: usize) -> u32
 // The node with what came of one slot.
 fn moved(node: Node, i: usize, t: u32, r: Told) -> Batched
     requires { ⌜ (i < 16) × (node .accepted + r .applied ≤ mostAccepted) ⌝ }
-    ensures { λ z. ⌜ (z .answer ≡ r .answer) × ((z .applied ≡ r .applied) × ((z .node ≡ moved node i t (r .applied) (r .context)) × (z .written ≡ r .written))) ⌝ }
+    ensures { λ z. ⌜ (z .answer ≡ r .answer) × ((z .applied ≡ r .applied)
+        × ((z .node ≡ moved node i t (r .applied) (r .context)) × (z .written ≡ r .written))) ⌝ }
 {
     let context = r.context;
     let mut n = node;
@@ -117,7 +125,8 @@ fn moved(node: Node, i: usize, t: u32, r: Told) -> Batched
 //
 // The node is tested once. The loop is that of step::step, and stands here for the same reason.
 pub fn batch(node: Node, id: u32, ggsn: u32, t: u32, volumes: &[u32], out: &mut [u8]) -> Batched
-    ensures { λ r. ⌜ Batches node (nameWith id ggsn) t (now (volumes .entry)) (now (out .entry)) (now (out .exit)) (r .answer) (r .applied) (r .node) (r .written) ⌝ }
+    ensures { λ r. ⌜ Batches node (nameWith id ggsn) t (now (volumes .entry)) (now (out .entry)) (now (out .exit))
+        (r .answer) (r .applied) (r .node) (r .written) ⌝ }
 {
     let p = node.profile;
     let l = p.limits;

@@ -58,7 +58,8 @@ pub fn tell(
     out: &mut [u8],
 ) -> Told
     requires { ⌜ Listens p clock accepted c t ⌝ }
-    ensures { λ r. ⌜ Tells p clock accepted c t (now (volumes .entry)) (now (out .entry)) (now (out .exit)) (r .answer) (r .applied) (r .context) (r .written) ⌝ }
+    ensures { λ r. ⌜ Tells p clock accepted c t (now (volumes .entry)) (now (out .entry)) (now (out .exit))
+        (r .answer) (r .applied) (r .context) (r .written) ⌝ }
 {
     let l = p.limits;
     let o = c.current;

@@ -33,8 +33,12 @@ walk M 𝓤 H A W m run C Λ fm known κs qs bounds a ghost are =
     let us : Valss Ts = (vs .1 .0, (vs .1 .1 .0, (vs .1 .1 .1 .0, (vs .1 .1 .1 .1 .0, tt)))) in
     let Out : Fml = fsep (MutSlice (named 2) (κs .1 .1 .0) u8 .own (a .1 .1 .1 .1 .1 .0) (vs .1 .1 .1 .1 .1 .0)) ftrue in
     begins W T.the-type (named 0) (a .0) (alive 𝓤 H A g.signature (κs .1) (qs .1)) (emp 𝓤) (ownsThen Ts b us Out) C Λ code.function _ _ (λ bs.
-    params1 ! $ pass1 ! (init ! 10 refl (tt, tt)) $ pass1 ! (init ! 9 refl (tt, record { fits = are .1 .0 .1 })) $ pass1 ! (init ! 8 refl (tt, record { fits = are .1 .1 .0 .1 })) $ pass1 ! (init ! 7 refl (tt, record { fits = are .1 .1 .1 .0 .1 })) $
-    pass1 ! (init ! 6 refl (tt, (tt, (record { fits = are .1 .1 .1 .1 .0 .0 .1 .0 }, tt)))) $ pass1 ! (init ! 5 refl (tt, (tt, (record { fits = are .1 .1 .1 .1 .1 .0 .0 .1 .0 }, tt)))) $ pass0 ! $
+    params1 ! $ pass1 ! (init ! 10 refl (tt, tt)) $
+    pass1 ! (init ! 9 refl (tt, record { fits = are .1 .0 .1 })) $
+    pass1 ! (init ! 8 refl (tt, record { fits = are .1 .1 .0 .1 })) $
+    pass1 ! (init ! 7 refl (tt, record { fits = are .1 .1 .1 .0 .1 })) $
+    pass1 ! (init ! 6 refl (tt, (tt, (record { fits = are .1 .1 .1 .1 .0 .0 .1 .0 }, tt)))) $
+    pass1 ! (init ! 5 refl (tt, (tt, (record { fits = are .1 .1 .1 .1 .1 .0 .0 .1 .0 }, tt)))) $ pass0 ! $
     -- [deaths (0); _10 to _0 (1 to 11); said (12); lent (13); token (14); tokens (15); owned (16); required (17)]
     move ! (12 ∷ 13 ∷ 14 ∷ 10 ∷ 3 ∷ []) $ takes ! T.the-type T′.the-laws (a .0) refl (λ was.
     -- [open (0); _1 (1); _8 (2); deaths (3); _10 (4); _9 (5); _7 to _2 (6 to 11); _0 (12); tokens (13); owned (14); required (15)]

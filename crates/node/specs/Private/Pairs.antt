@@ -83,12 +83,12 @@ abbrev pub tellAt : Found → Reports
 tellAt (F.At i) = Tell i
 tellAt F.Nothing = Refuse 8
 
--- 13, then 14, then an empty list, then 6, 7 and 8 of the first pair
+-- 6, 7 and 8 of the first pair
+unfoldable pub firstPair : ℕ → ℕ → List Slot → Name → ℕ → Reports
+firstPair clock accepted names m t =
+    cond (ltb latest t || ltb t clock) (Refuse 6) (cond (leb mostAccepted accepted) (Refuse 7) (tellAt (firstFrom (bears m) 0 names)))
+
+-- 13, then 14, then an empty list
 unfoldable pub reportsFor : Bool → ℕ → ℕ → List Slot → Name → ℕ → ℕ → Reports
 reportsFor false clock accepted names m t k = Refuse 13
-reportsFor true clock accepted names m t k =
-    cond (eqb (k % 2) 1) (Refuse 14)
-    (cond (eqb k 0) Nothing
-    (cond (ltb latest t || ltb t clock) (Refuse 6)
-    (cond (leb mostAccepted accepted) (Refuse 7)
-    (tellAt (firstFrom (bears m) 0 names)))))
+reportsFor true clock accepted names m t k = cond (eqb (k % 2) 1) (Refuse 14) (cond (eqb k 0) Nothing (firstPair clock accepted names m t))

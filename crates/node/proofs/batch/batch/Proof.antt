@@ -59,32 +59,54 @@ meant c k e =
     (looking-end (slots-ask _ _ _ _) (c .before .before .before .loop .inv) (omega (arith, c .before .before .loop-test .left, held s .size)))
     (c .before .keeps-rules .ensures) (sym e ∙ c .reports-for .ensures)
 
+-- the places where its answer is looked at, and from there the place where it was found out
+abbrev of-known : tie.After-known-told Inv-loop μ-loop → tie.After-reports-for Inv-loop μ-loop
+of-known c = c .before .before .before
+
+abbrev of-told : tie.After-enum-told Inv-loop μ-loop → tie.After-reports-for Inv-loop μ-loop
+of-told c = c .before .before
+
+abbrev of-tell : tie.After-known-told2 Inv-loop μ-loop → tie.After-reports-for Inv-loop μ-loop
+of-tell c = c .before .before .before
+
 loop-holds : tie.Need-loop-holds Inv-loop μ-loop
 loop-holds c = let w = held (c .before .before .before .before) .size in looking-none (omega arith)
 
 loop-again : tie.Need-loop-again Inv-loop μ-loop
-loop-again c = let w = held (c .before .before .before .before .before .before .before .before .before) .size in looking-more (slots-ask _ _ _ _) (c .before .before .before .before .loop .inv) _ (omega (arith, c .before .before .before .loop-test .taken)) (c .before .slot-ok .ensures)
+loop-again c =
+    let w = held (c .before .before .before .before .before .before .before .before .before) .size in
+    looking-more (slots-ask _ _ _ _) (c .before .before .before .before .loop .inv) _ (omega (arith, c .before .before .before .loop-test .taken))
+    (c .before .slot-ok .ensures)
 
 mul-c-2 : tie.Need-mul-c-2 Inv-loop μ-loop
-mul-c-2 c = omega (arith, below (c .before .before .before .before .before .before .before .before .before .before .before .args .t1) (nameWith (c .before .before .before .before .before .before .before .before .before .before .before .args .id) (c .before .before .before .before .before .before .before .before .before .before .before .args .ggsn)) (c .before .before .before .before .before .before .before .before .before .before .before .args .t) (c .before .before .before .before .before .before .before .before .before .before .before .args .volumes .now) (c .before .before .before .before .before .before .before .before .before .before .before .args .out .now) (held (c .before .before .before .before .before .before .before .before .before .before .before)) (time-word (c .before .before .before .before .before .before .before .before .before .before .before)) (id-word (c .before .before .before .before .before .before .before .before .before .before .before)) (ggsn-word (c .before .before .before .before .before .before .before .before .before .before .before)) (volume-words (c .before .before .before .before .before .before .before .before .before .before)) (meant (c .before .before .before) _ (c .before .k2 .given .1)))
+mul-c-2 c = omega (arith, below (meant (of-tell c) _ (c .before .k2 .given .1)))
 
 element-copy-out-c-2 : tie.Need-element-copy-out-c-2 Inv-loop μ-loop
-element-copy-out-c-2 c = omega (arith, below (c .before .before .before .before .before .before .before .before .before .before .before .args .t1) (nameWith (c .before .before .before .before .before .before .before .before .before .before .before .args .id) (c .before .before .before .before .before .before .before .before .before .before .before .args .ggsn)) (c .before .before .before .before .before .before .before .before .before .before .before .args .t) (c .before .before .before .before .before .before .before .before .before .before .before .args .volumes .now) (c .before .before .before .before .before .before .before .before .before .before .before .args .out .now) (held (c .before .before .before .before .before .before .before .before .before .before .before)) (time-word (c .before .before .before .before .before .before .before .before .before .before .before)) (id-word (c .before .before .before .before .before .before .before .before .before .before .before)) (ggsn-word (c .before .before .before .before .before .before .before .before .before .before .before)) (volume-words (c .before .before .before .before .before .before .before .before .before .before)) (meant (c .before .before .before) _ (c .before .k2 .given .1)), held (c .before .before .before .before .before .before .before .before .before .before .before) .size)
+element-copy-out-c-2 c = omega (arith, below (meant (of-tell c) _ (c .before .k2 .given .1)), held (lent (of-tell c) .before) .size)
 
 tell-requires : tie.Need-tell-requires Inv-loop μ-loop
-tell-requires c κs = listens (c .before .before .before .before .before .before .before .before .before .before .before .before .before .args .t1) (nameWith (c .before .before .before .before .before .before .before .before .before .before .before .before .before .args .id) (c .before .before .before .before .before .before .before .before .before .before .before .before .before .args .ggsn)) (c .before .before .before .before .before .before .before .before .before .before .before .before .before .args .t) (c .before .before .before .before .before .before .before .before .before .before .before .before .before .args .volumes .now) (c .before .before .before .before .before .before .before .before .before .before .before .before .before .args .out .now) (held (c .before .before .before .before .before .before .before .before .before .before .before .before .before)) (time-word (c .before .before .before .before .before .before .before .before .before .before .before .before .before)) (id-word (c .before .before .before .before .before .before .before .before .before .before .before .before .before)) (ggsn-word (c .before .before .before .before .before .before .before .before .before .before .before .before .before)) (volume-words (c .before .before .before .before .before .before .before .before .before .before .before .before)) (meant (c .before .before .before .before .before) _ (c .before .before .before .k2 .given .1)) _
+tell-requires c κs = listens (meant (of-tell (c .before .before)) _ (c .before .before .before .k2 .given .1)) _
 
 moved-requires : tie.Need-moved-requires Inv-loop μ-loop
-moved-requires c κs = (below (c .before .before .before .before .before .before .before .before .before .before .before .before .before .before .before .before .args .t1) (nameWith (c .before .before .before .before .before .before .before .before .before .before .before .before .before .before .before .before .args .id) (c .before .before .before .before .before .before .before .before .before .before .before .before .before .before .before .before .args .ggsn)) (c .before .before .before .before .before .before .before .before .before .before .before .before .before .before .before .before .args .t) (c .before .before .before .before .before .before .before .before .before .before .before .before .before .before .before .before .args .volumes .now) (c .before .before .before .before .before .before .before .before .before .before .before .before .before .before .before .before .args .out .now) (held (c .before .before .before .before .before .before .before .before .before .before .before .before .before .before .before .before)) (time-word (c .before .before .before .before .before .before .before .before .before .before .before .before .before .before .before .before)) (id-word (c .before .before .before .before .before .before .before .before .before .before .before .before .before .before .before .before)) (ggsn-word (c .before .before .before .before .before .before .before .before .before .before .before .before .before .before .before .before)) (volume-words (c .before .before .before .before .before .before .before .before .before .before .before .before .before .before .before)) (meant (c .before .before .before .before .before .before .before .before) _ (c .before .before .before .before .before .before .k2 .given .1)), c .before .before .tell .ensures .few)
+moved-requires c κs =
+    let w = c .before .before .before .before .before in
+    (below (meant (of-tell w) _ (w .before .k2 .given .1)), c .before .before .tell .ensures .few)
 
 returns : tie.Need-returns Inv-loop μ-loop
-returns c = batches-still (meant (c .before .before .before .before) _ (c .before .before .k .given .1)) (c .unmoved .ensures)
+returns c = batches-still (meant (of-known (c .before)) _ (c .before .before .k .given .1)) (c .unmoved .ensures)
 
 returns-2 : tie.Need-returns-2 Inv-loop μ-loop
-returns-2 c = batches-still (meant (c .before .before .before) _ (c .before .enum-told .given .1)) (c .unmoved2 .ensures)
+returns-2 c = batches-still (meant (of-told (c .before)) _ (c .before .enum-told .given .1)) (c .unmoved2 .ensures)
 
 returns-3 : tie.Need-returns-3 Inv-loop μ-loop
-returns-3 c = batches-told (c .before .before .before .before .before .before .before .before .before .before .before .before .before .before .before .before .before .args .t1) (nameWith (c .before .before .before .before .before .before .before .before .before .before .before .before .before .before .before .before .before .args .id) (c .before .before .before .before .before .before .before .before .before .before .before .before .before .before .before .before .before .args .ggsn)) (c .before .before .before .before .before .before .before .before .before .before .before .before .before .before .before .before .before .args .t) (c .before .before .before .before .before .before .before .before .before .before .before .before .before .before .before .before .before .args .volumes .now) (c .before .before .before .before .before .before .before .before .before .before .before .before .before .before .before .before .before .args .out .now) (held (c .before .before .before .before .before .before .before .before .before .before .before .before .before .before .before .before .before)) (time-word (c .before .before .before .before .before .before .before .before .before .before .before .before .before .before .before .before .before)) (id-word (c .before .before .before .before .before .before .before .before .before .before .before .before .before .before .before .before .before)) (ggsn-word (c .before .before .before .before .before .before .before .before .before .before .before .before .before .before .before .before .before)) (volume-words (c .before .before .before .before .before .before .before .before .before .before .before .before .before .before .before .before)) (meant (c .before .before .before .before .before .before .before .before .before) _ (c .before .before .before .before .before .before .before .k2 .given .1)) _ (c .before .before .before .tell .ensures) (c .moved .ensures)
+returns-3 c =
+    let w = c .before .before .before .before .before .before in
+    batches-told (meant (of-tell w) _ (w .before .k2 .given .1)) _ (c .before .before .before .tell .ensures) (c .moved .ensures)
 
 pub batch-spec : {M : Type 1} → statement M
-batch-spec = tie.close (tie.spec Inv-loop μ-loop loop-holds (λ c. search needs) (λ c. search needs) (λ c κs. search needs) (λ c. search needs) (λ c. search needs) (λ c. search needs) (λ c. search needs) loop-again (λ c κs. search needs) (λ c κs. search needs) (λ c. search needs) (λ c κs. search needs) (λ c. search needs) (λ c κs. search needs) (λ c. search needs) mul-c-2 element-copy-out-c-2 tell-requires moved-requires returns returns-2 (λ c. search needs) returns-3)
+batch-spec =
+    tie.close
+    (tie.spec Inv-loop μ-loop loop-holds (λ c. search needs) (λ c. search needs) (λ c κs. search needs) (λ c. search needs) (λ c. search needs)
+    (λ c. search needs) (λ c. search needs) loop-again (λ c κs. search needs) (λ c κs. search needs) (λ c. search needs) (λ c κs. search needs)
+    (λ c. search needs) (λ c κs. search needs) (λ c. search needs) mul-c-2 element-copy-out-c-2 tell-requires moved-requires returns returns-2
+    (λ c. search needs) returns-3)

@@ -11,4 +11,7 @@ abbrev μ-loop : tie.MeasureT-loop
 μ-loop b at count numbers₀ i₀ numbers i = 1000 - i
 
 pub numbers-at-spec : {M : Type 1} → statement M
-numbers-at-spec = tie.close (tie.spec Inv-loop μ-loop (λ c. tt) (λ c. tt) (λ c. search needs) (λ c κs. search needs) (λ c κs. search needs) (λ c. search needs) (λ c. search needs) (λ c. search needs) (λ c. search needs) (λ c. tt) (λ c. tt))
+numbers-at-spec =
+    tie.close
+    (tie.spec Inv-loop μ-loop (λ c. tt) (λ c. tt) (λ c. search needs) (λ c κs. search needs) (λ c κs. search needs)
+    (λ c. search needs) (λ c. search needs) (λ c. search needs) (λ c. search needs) (λ c. tt) (λ c. tt))

@@ -11,4 +11,7 @@ abbrev μ-loop : tie.MeasureT-loop
 μ-loop list₀ x₀ i₀ list x i = 7320 - i
 
 pub volumes-spec : {M : Type 1} → statement M
-volumes-spec = tie.close (tie.spec Inv-loop μ-loop (λ c. tt) (λ c κs. search needs) (λ c κs. search needs) (λ c. search needs) (λ c. search needs) (λ c. search needs) (λ c. search needs) (λ c. tt) (λ c. tt))
+volumes-spec =
+    tie.close
+    (tie.spec Inv-loop μ-loop (λ c. tt) (λ c κs. search needs) (λ c κs. search needs) (λ c. search needs)
+    (λ c. search needs) (λ c. search needs) (λ c. search needs) (λ c. tt) (λ c. tt))
