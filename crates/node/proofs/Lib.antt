@@ -27,6 +27,8 @@ pub mod BatchKept
 pub mod Runs
 pub mod Ones
 pub mod Seats
+pub mod Parts
+pub mod FullRecords
 pub mod Tellings
 pub mod Batches
 pub mod Holds
