@@ -83,7 +83,7 @@ module _ (p : Profile) (c : Context) (t : ℕ) (m : Message) where
   unfolding hear hearWith
   hear-on e = rw e
 
-  octets-closes : {cause : ℕ} → closing (p .limits) (c .current) t m ≡ some cause → octetsOf (hear p c t m .out) ≡ markedOctets (closedBy p c t m cause)
+  pub octets-closes : {cause : ℕ} → closing (p .limits) (c .current) t m ≡ some cause → octetsOf (hear p c t m .out) ≡ markedOctets (closedBy p c t m cause)
   unfolding octetsOf
   octets-closes {cause} e = rw (hear-closes e) (append-nil (markedOctets (closedBy p c t m cause)))
 

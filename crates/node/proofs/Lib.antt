@@ -29,6 +29,8 @@ pub mod BatchDemands
 pub mod Runs
 pub mod Ones
 pub mod Seats
+pub mod Parts
+pub mod FullRecords
 pub mod Tellings
 pub mod Batches
 pub mod Holds

@@ -1,15 +1,14 @@
 -- The loop over the pairs of a list: what was done of those before a pair, and what the pair does.
 use mathlib.Core.Path.{_≡_, refl, sym, ap, _∙_}
-use mathlib.Core.Bool.{Bool, true, false, cond}
-use mathlib.Core.List.{List, [], _∷_, _++_, append-assoc, append-nil}
+use mathlib.Core.Bool.{true, false, cond}
+use mathlib.Core.List.{List, [], _∷_, append-nil}
 use mathlib.Core.Option.{none, some}
 use Prim.Native.Nat.{ℕ, suc, _+_, _-_, _*_, _/_, _^_, _≤_, _<_}
-use native.Mathlib.Nat.{add-zero}
 use native.Mathlib.Omega.{arith}
-use lib.Dec.{leb, eqb}
-use lib.ListN.{length, take, drop, getD, length-append, length-take, length-drop, take-append-drop, drop-of-length-le}
-use lib.Seq.{drop-cons, take-all, take-at, drop-at}
-use borrow.Author.Tests.{le-leb, lt-leb, ne-eqb, eqb-true}
+use lib.Dec.{eqb}
+use lib.ListN.{length, take, drop, getD, length-append, length-drop, take-append-drop}
+use lib.Seq.{drop-cons}
+use borrow.Author.Tests.{le-leb, lt-leb, ne-eqb}
 use borrow.Rule.Slice.PartMut.{midOf, putMid, same-len-mid}
 use Rattle.format.proofs.Tests.{by, either}
 use Rattle.container.specs.Open.{volumeOf, used, volumeLeft}
@@ -22,17 +21,21 @@ use Rattle.history.specs.Table.{Step}
 use Rattle.scdr.specs.declared.Record.{Record}
 use Rattle.node.specs.declared.Message.{Message}
 use Rattle.node.specs.Meaning.{report}
-use Rattle.node.specs.Hear.{reported, qosAfter, changeOf, limitMet, closing, timeAt, going, goesOn, closedBy, afterClosing, hearWith, hear}
+use Rattle.node.specs.Hear.{reported, qosAfter, changeOf, limitMet, closing, timeAt, going, numberFor, goesOn, recordOf, closedBy, afterClosing, hear}
 use Rattle.node.specs.Sound.{latest, mostAccepted}
-use Rattle.node.specs.Step.{stood, octetsOf}
+use Rattle.node.specs.Step.{stood, markedOctets}
 use Rattle.node.specs.Held.{Shaped}
-use Rattle.node.specs.Batch.{Done, pairsOf, andThen, oneByOne}
-use Rattle.node.specs.Private.Premises.{InRange, ReportFits, SoundContext, SoundSlot}
+use Rattle.node.specs.Batch.{pairsOf, oneByOne}
+use Rattle.node.specs.Private.Premises.{SoundContext}
 use Rattle.node.specs.Private.Range.{slotNext, slotOut, triedOf, Tries}
 use Rattle.node.specs.Private.Pairs.{Seat, seatAt, seatThen, seatStep, counted, Listens, Tells}
-use Rattle.node.proofs.Emits.{hear-closes, hear-on, octets-on, slot-active}
-use Rattle.context.proofs.Sounds.{good, slot-active as slot-is}
-use Rattle.node.proofs.Fits.{fit}
+use Rattle.node.specs.Private.Full.{Full, Marks}
+use Rattle.node.proofs.Emits.{hear-closes, hear-on, octets-closes, octets-on, slot-active}
+use Rattle.context.proofs.Sounds.{good}
+use Rattle.node.proofs.Fits.{fit, apt-grows}
+use Rattle.node.proofs.ClosedRecord.{closed-within}
+use Rattle.node.proofs.Parts.{part-is, put-is, front-is, rest-is, ends-within}
+use Rattle.node.proofs.FullRecords.{tries-not, tries-closed, marks-same}
 use Rattle.node.proofs.Brings.{report-in-range}
 use Rattle.node.proofs.ContextKept.{Keeps, heard-sound}
 use Rattle.node.proofs.Ones.{joined, joined-more, joined-stop, joined-end, joined-none}
@@ -57,40 +60,6 @@ short (x ∷ (y ∷ l)) h = absurd (omega arith)
 
 pub pairs-end : (vs : List ℕ) (k : ℕ) → length vs / 2 ≤ k → pairsOf (drop (2 * k) vs) ≡ []
 pairs-end vs k h = short (drop (2 * k) vs) (omega (arith, length-drop (2 * k) vs))
-
--- ---- a part of the buffer
-
-module _ (out ys : List ℕ) (at w : ℕ) (h : at ≤ length out) where
-  pub part-is : midOf at (length out - at) out ≡ drop at out
-  part-is = take-all (length out - at) (drop at out) (omega (arith, length-drop at out))
-
-  put-is : putMid at (length out - at) out ys ≡ take at out ++ ys
-  put-is =
-      let e = drop-of-length-le (drop at out) {i = length out - at} (omega (arith, length-drop at out)) in
-      ap (λ (z : List ℕ). take at out ++ (ys ++ z)) e ∙ rw append-nil
-
-  long : length (take at out) ≡ at
-  long = omega (arith, length-take at out)
-
-  module _ (l : w ≤ length ys) where
-    pub front-is : take at out ++ take w ys ≡ take (at + w) (putMid at (length out - at) out ys)
-    front-is =
-        let e = length-take w ys in
-        let z : length (take at out ++ take w ys) ≡ at + w = simp length-append (omega (arith, long)) in
-        sym (rw put-is (ap (λ (z : List ℕ). take (at + w) (take at out ++ z)) (sym (take-append-drop w ys))
-        ∙ ap (take (at + w)) (sym (append-assoc (take at out) (take w ys) (drop w ys)))
-        ∙ take-at (take at out ++ take w ys) (drop w ys) (at + w) z))
-
-    pub rest-is : drop w ys ≡ drop (at + w) (putMid at (length out - at) out ys)
-    rest-is =
-        let e = length-take w ys in
-        let z : length (take at out ++ take w ys) ≡ at + w = simp length-append (omega (arith, long)) in
-        sym (rw put-is (ap (λ (z : List ℕ). drop (at + w) (take at out ++ z)) (sym (take-append-drop w ys))
-        ∙ ap (drop (at + w)) (sym (append-assoc (take at out) (take w ys) (drop w ys)))
-        ∙ drop-at (take at out ++ take w ys) (drop w ys) (at + w) z))
-
-    pub ends-within : length ys ≡ length out - at → at + w ≤ length (putMid at (length out - at) out ys)
-    ends-within e = rw put-is (simp length-append (omega (arith, long)))
 
 -- ---- what a slot answers
 
@@ -271,13 +240,6 @@ module _ {p : Profile} {clock accepted : ℕ} {c : Context} {t : ℕ} (w : Liste
   pub counters-fit : (last .current .uplink + up < 2 ^ 64) × (last .current .downlink + down < 2 ^ 64)
   counters-fit = let f = fit p (w .profile) in (omega (arith, s .left-is, f .volume), omega (arith, s .left-is, f .volume))
 
-  -- it may hear, while fewer were accepted
-  pub slot-ready : accepted + k < mostAccepted → {x : Context} → x ≡ here → SoundSlot p t x
-  unfolding ready
-  slot-ready few {x} e =
-      let a = ready p t (w .profile) (w .until) few (s .now) in
-      rw e (record { due = a .due; sound = slot-is (p .limits) (p .zone) (s .now .clock) (accepted + k) here (s .now .active) ∙ s .now .sound })
-
   -- after the last pair
   pub telling-end : length vs / 2 ≤ k → Tells p clock accepted c t vs b out 0 k here at
   telling-end h = record {
@@ -320,6 +282,10 @@ module _ {p : Profile} {clock accepted : ℕ} {c : Context} {t : ℕ} (w : Liste
       accepted-then : accepted + k + 1 ≡ accepted + (k + 1)
       accepted-then = omega arith
 
+      -- the pair can be added to what is counted
+      pub sums-fit : (up + u < 2 ^ 64) × (down + d < 2 ^ 64)
+      sums-fit = let f = fit p (w .profile) in (omega (arith, s .left-is, f .volume), omega (arith, s .left-is, f .volume))
+
       -- below the limit
       module _ (below : u + d < left) where
         not-met : volume here u d < p .limits .volume
@@ -337,56 +303,101 @@ module _ {p : Profile} {clock accepted : ℕ} {c : Context} {t : ℕ} (w : Liste
             record {
               rest = rest-at ∙ joined-more k at (take at out) (seatStep p t) others step-on ∙ rw (append-nil (take at out), e);
               few = omega arith;
-              now = rw (counted-more last up down u d, accepted-then) at (on-kept p t (w .profile) (w .until) here (accepted + k) u d few (s .now) ul dl not-met);
+              now = rw (counted-more last up down u d, accepted-then) at
+                  (on-kept p t (w .profile) (w .until) here (accepted + k) u d few (s .now) ul dl not-met);
               left-is = omega (arith, s .left-is);
               within = s .within;
             }
 
-      -- what came of the slot
-      module _ {h′ : Message} {now : Context} {ys : List ℕ} {a : ℕ} {x : Context} {n : ℕ} (told : h′ ≡ report u d) (is-now : now ≡ here)
-          (tried : Tries p t h′ now (midOf at (length out - at) out) ys a x n) where
-        y : Tries p t (report u d) here (midOf at (length out - at) out) ys a x n
-        y = rw (told, is-now) at tried
+      -- at the limit
+      module _ (met : left ≤ u + d) where
+        over : p .limits .volume ≤ volume here u d
+        over = omega (arith, s .left-is)
 
-        tried-is : triedOf p t (report u d) here (drop at out) ≡ (a, (x, (n, ys)))
-        tried-is = rw (← part-is out ys at n (s .within)) (sym (y .is))
+        apt : SoundContext p t here
+        apt = ready p t (w .profile) (w .until) few (s .now)
 
-        -- the buffer is as long as it was
-        pub telling-same : length (putMid at (length out - at) out ys) ≡ length out
-        telling-same = same-len-mid at (length out - at) out ys (tried-same y)
+        closes : closing (p .limits) (here .current) t (report u d) ≡ some 16
+        closes = closes-now p t (w .profile) (w .until) here (accepted + k) u d few (s .now) ul dl over
 
-        step-11 : (a ≡ 0 → ⊥) → seatStep p t seat (u, d) (drop at out) ≡ (a, (seat, (0, ys)))
-        unfolding seatStep seatThen
-        step-11 z = rw (lt-leb mostAccepted (accepted + k) few, tried-is, ne-eqb a 0 z)
+        -- the record, as the code makes it
+        abbrev full : Record
+        full = closedBy p last t (report (up + u) (down + d)) 16
 
-        pub telling-11 : (a ≡ 0 → ⊥) → Tells p clock accepted c t vs b (putMid at (length out - at) out ys) a k here at
-        telling-11 z = record {
-          is = sym (rest-at ∙ joined-stop k at (take at out) (seatStep p t) others z (step-11 z) ∙ rw (← put-is out ys at n (s .within)));
-          few = s .few;
-        }
+        full-is : closedBy p here t (report u d) 16 ≡ full
+        unfolding closedBy recordOf reported
+        full-is =
+            ap (λ (x : Context). recordOf p last (O.ended (x .current) 2 (timeAt p t)) 16 (numberFor (last .closed) false))
+            (counted-more last up down u d)
 
-        module _ (met : left ≤ u + d) (z : a ≡ 0) where
-          over : p .limits .volume ≤ volume here u d
-          over = omega (arith, s .left-is)
+        pub full-ready : Full p last t (up + u) (down + d)
+        full-ready =
+            let f = fit p (w .profile) in
+            let g = apt-grows p t here apt in
+            record {
+              can = record {
+                uplink = omega (arith, s .left-is, f .volume);
+                downlink = omega (arith, s .left-is, f .volume);
+                place = g .place;
+                closed = g .closed;
+              };
+              within = rw full-is at
+                  (closed-within p t here apt (s .now .shape .containers) (report u d) (report-in-range u d) (record { up = ul; down = dl }) 16 closes);
+            }
 
-          step-closed : seatStep p t seat (u, d) (drop at out) ≡ (0, (seatAt clock accepted t (k + 1) (counted x 0 0), (n, ys)))
+        -- what came of the slot
+        module _ {ys : List ℕ} {a : ℕ} {x : Context} {n : ℕ} (y : Tries p t (report u d) here (midOf at (length out - at) out) ys a x n) where
+          tried-is : triedOf p t (report u d) here (drop at out) ≡ (a, (x, (n, ys)))
+          tried-is = rw (← part-is out ys at n (s .within)) (sym (y .is))
+
+          step-11 : (a ≡ 0 → ⊥) → seatStep p t seat (u, d) (drop at out) ≡ (a, (seat, (0, ys)))
           unfolding seatStep seatThen
-          step-closed =
-              let e = sym (counted-none x) in
-              rw (lt-leb mostAccepted (accepted + k) few, tried-is, z)
-              (λ i. (0, (record { clock = clock-then i; accepted = accepted-then i; context = e i }, (n, ys))))
+          step-11 z = rw (lt-leb mostAccepted (accepted + k) few, tried-is, ne-eqb a 0 z)
 
-          pub telling-closed : Telling p clock accepted c t vs b (putMid at (length out - at) out ys) x 0 0 (p .limits .volume) (at + n) (k + 1)
-          telling-closed =
-              let q = tried-done y z in
-              let v = closed-kept p t (w .profile) (w .until) here (accepted + k) u d few (s .now) ul dl over (q .next) in
-              let o = closed-empty p t (w .profile) (w .until) here (accepted + k) u d few (s .now) ul dl over (q .next) in
-              record {
-                rest = rest-at ∙ joined-more k at (take at out) (seatStep p t) others step-closed
-                    ∙ rw (front-is out ys at n (s .within) (q .few), rest-is out ys at n (s .within) (q .few));
-                few = omega arith;
-                now = rw (counted-none x, ← accepted-then) v;
-                left-is = omega (arith, o);
-                within = ends-within out ys at n (s .within) (q .few)
-                    (tried-same y ∙ ap length (part-is out ys at n (s .within)) ∙ length-drop at out);
-              }
+          stopped-then : (a ≡ 0 → ⊥) → Tells p clock accepted c t vs b (putMid at (length out - at) out ys) a k here at
+          stopped-then z = record {
+            is = sym (rest-at ∙ joined-stop k at (take at out) (seatStep p t) others z (step-11 z) ∙ rw (← put-is out ys at n (s .within)));
+            few = s .few;
+          }
+
+          module _ (z : a ≡ 0) where
+            step-closed : seatStep p t seat (u, d) (drop at out) ≡ (0, (seatAt clock accepted t (k + 1) (counted x 0 0), (n, ys)))
+            unfolding seatStep seatThen
+            step-closed =
+                let e = sym (counted-none x) in
+                rw (lt-leb mostAccepted (accepted + k) few, tried-is, z)
+                (λ i. (0, (record { clock = clock-then i; accepted = accepted-then i; context = e i }, (n, ys))))
+
+            closed-then : Telling p clock accepted c t vs b (putMid at (length out - at) out ys) x 0 0 (p .limits .volume) (at + n) (k + 1)
+            closed-then =
+                let q = tried-done y z in
+                let v = closed-kept p t (w .profile) (w .until) here (accepted + k) u d few (s .now) ul dl over (q .next) in
+                let o = closed-empty p t (w .profile) (w .until) here (accepted + k) u d few (s .now) ul dl over (q .next) in
+                record {
+                  rest = rest-at ∙ joined-more k at (take at out) (seatStep p t) others step-closed
+                      ∙ rw (front-is out ys at n (s .within) (q .few), rest-is out ys at n (s .within) (q .few));
+                  few = omega arith;
+                  now = rw (counted-none x, ← accepted-then) v;
+                  left-is = omega (arith, o);
+                  within = ends-within out ys at n (s .within) (q .few)
+                      (tried-same y ∙ ap length (part-is out ys at n (s .within)) ∙ length-drop at out);
+                }
+
+        -- as the code finds it: the record was written, or there was no room
+        module _ {ys : List ℕ} {n : ℕ} (m : Marks full (midOf at (length out - at) out) ys n) where
+          out-is : slotOut p t (report u d) here ≡ markedOctets full
+          out-is = slot-active p t (report u d) here (s .now .active) .1 ∙ octets-closes p here t (report u d) closes ∙ ap markedOctets full-is
+
+          next-then : slotNext p t (report u d) here ≡ going last (O.opened (timeAt p t) (last .current .qos)) (last .closed + 1)
+          next-then = closed-next p t (w .profile) (w .until) here (accepted + k) u d few (s .now) ul dl over
+
+          pub telling-11 : n ≡ 0 → Tells p clock accepted c t vs b (putMid at (length out - at) out ys) 11 k here at
+          telling-11 z = stopped-then (tries-not out-is m z) (λ e. omega arith)
+
+          pub telling-closed : (n ≡ 0 → ⊥) → {x : Context} → x ≡ going last (O.opened (timeAt p t) (last .current .qos)) (last .closed + 1)
+              → Telling p clock accepted c t vs b (putMid at (length out - at) out ys) x 0 0 (p .limits .volume) (at + n) (k + 1)
+          telling-closed z e = closed-then (tries-closed out-is m z (e ∙ sym next-then)) refl
+
+          -- the buffer is as long as it was
+          pub telling-same : length (putMid at (length out - at) out ys) ≡ length out
+          telling-same = same-len-mid at (length out - at) out ys (marks-same m)

@@ -3,3 +3,4 @@ pub mod Premises
 pub mod Range
 pub mod Task
 pub mod Pairs
+pub mod Full

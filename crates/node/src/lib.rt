@@ -1,11 +1,12 @@
 // The node: its profile, clock and sixteen contexts as one value; when it is sound; and what an event does to it.
 //
 // sound has the rules of a node and a fresh one; step the whole call. Under it: task finds out what a call is to do; meaning says who
-// hears an event and what it is to them, closing what that does to an open record, turn what then stands, emit what is written, table
-// how the slots hear one after another.
+// hears an event and what it is to them, closing what that does to an open record, standing what then stands, emit what is written, table
+// how the slots hear one after another. batch takes a list of reports: pairs runs it on one context, closed closes its full records.
 //
 // No public function has a `requires`: each answers for every input.
 pub mod batch;
+mod closed;
 mod closing;
 mod emit;
 mod meaning;

@@ -2,9 +2,7 @@
 //
 // A pair that closes nothing is three additions. So what was reported since the last closing is kept beside the context, and is added to it
 // only when something closes, and at the end: a context has 760 octets, and each function that takes it copies it.
-use crate::emit;
-use crate::emit::Tried;
-use crate::meaning;
+use crate::closed;
 use container::open;
 use context::Context;
 use profile::Profile;
@@ -83,13 +81,12 @@ pub fn tell(
             k += 1;
             continue;
         }
-        let now = counted(last, up, down);
-        let e = emit::try_slot(p, now, t, meaning::report(u, d), &mut out[at..]);
-        if e.answer != 0 {
-            return stopped(e.answer, k, now, at);
+        let n = closed::close(p, last, t, up + u as u64, down + d as u64, &mut out[at..]);
+        if n == 0 {
+            return stopped(11, k, counted(last, up, down), at);
         }
-        last = e.context;
-        at += e.written;
+        last = closed::reopened(p, last, t);
+        at += n;
         up = 0;
         down = 0;
         left = l.volume;

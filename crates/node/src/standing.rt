@@ -47,7 +47,7 @@ fn number_for(closed: u64, released: bool) -> u64
 }
 
 // The record of a context that closes, whose last container has ended.
-fn record_of(p: Profile, c: Context, o: OpenRecord, cause: u8, number: u64) -> Record
+pub fn record_of(p: Profile, c: Context, o: OpenRecord, cause: u8, number: u64) -> Record
     ensures { λ r. ⌜ r ≡ recordOf p c o cause number ⌝ }
 {
     let imsi = c.imsi;
