@@ -1,4 +1,5 @@
-/* The plain C beside the proved program's `testing pace`, doing the same with the same files (bench/run).
+/* The plain C beside the proved program's `testing pace`, doing the same with the same files (bench/run). Compiled with plain_step and
+ * plain_batch named charging_step and charging_batch, it measures the static library instead.
  *
  *     plain PROFILE EVENTS          the record list of the events, on standard output
  *     plain PROFILE EVENTS RECORDS  five lines: what the step, the batch, steps in its place, the writer and the reader did, and how long

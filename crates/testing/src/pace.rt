@@ -1,18 +1,13 @@
-// How long the step, the batch, the writer and the reader take, for a comparison with the same rules in C (bench/run).
+// How long the step, the writer and the reader take, for a comparison with the same rules in C (bench/run).
 //
 //     pace PROFILE EVENTS RECORDS
 //
-// The events are run from a fresh node, the first 64 records written, and all of them read, again and again. From the node that the events
-// make, minutes of reports are taken in one call each, and then by a step a report. Standard output has a line for each of the five: its
-// name, how many calls there were (how many reports, of the minutes), a sum over what they answered, and the microseconds that they took.
-// Each file is held whole, so it has 65,536 octets at most.
-mod minutes;
-
-use crate::pace::minutes::Names;
+// The events are run from a fresh node, the first 64 records written, and all of them read, again and again. Standard output has a line for
+// each of the three: its name, how many calls there were, a sum over what they answered, and the microseconds that they took. Each file
+// is held whole, so it has 65,536 octets at most.
 use entries::Entry;
 use event::framing;
 use libc::STDERR_FILENO;
-use node::Node;
 use profile::Profile;
 use scdr::Record;
 use std::num::wrapping_add_u64;
@@ -53,67 +48,6 @@ fn run_events(profile: Profile, s: &[u8]) -> u64 {
         let r = node::step::step(node, octets::part(s, from, at), &mut out);
         node = r.node;
         sum = wrapping_add_u64(sum, r.written as u64);
-        calls -= 1;
-    }
-    sum
-}
-
-// The node after all events of a file, once, from a fresh node.
-fn busy_node(profile: Profile, s: &[u8]) -> Node {
-    let mut out = [0u8; 16416];
-    let mut node = setup::node_of(profile);
-    let mut at: usize = 0;
-    let mut turns: u32 = 65536;
-    while turns > 0 && at < s.len() {
-        let end = after_event(s, at);
-        let r = node::step::step(node, octets::part(s, at, end), &mut out);
-        node = r.node;
-        at = end;
-        turns -= 1;
-    }
-    node
-}
-
-// Minutes one after another, each in one call at the clock of the busy node they begin with. Answers how many octets they write.
-fn run_batches(busy: Node, names: Names, list: &[u32]) -> u64 {
-    let mut out = [0u8; 16416];
-    let time = busy.clock;
-    let mut node = busy;
-    let mut turn = minutes::turn_at(names, 0, 0);
-    let mut sum: u64 = 0;
-    let mut calls: u32 = 50000;
-    while 0 < calls {
-        let name = turn.name;
-        let r = node::batch::batch(
-            node,
-            name.id,
-            name.ggsn,
-            time,
-            minutes::minute(list, turn.from),
-            &mut out,
-        );
-        node = r.node;
-        sum = wrapping_add_u64(sum, r.written as u64);
-        turn = minutes::after_minute(names, turn);
-        calls -= 1;
-    }
-    sum
-}
-
-// The same minutes by a step a pair.
-fn run_steps(busy: Node, names: Names, list: &[u32]) -> u64 {
-    let mut out = [0u8; 16416];
-    let time = busy.clock;
-    let mut node = busy;
-    let mut turn = minutes::turn_at(names, 0, 0);
-    let mut sum: u64 = 0;
-    let mut calls: u32 = 120000;
-    while 0 < calls {
-        let e = minutes::report(time, turn, list);
-        let r = node::step::step(node, &e, &mut out);
-        node = r.node;
-        sum = wrapping_add_u64(sum, r.written as u64);
-        turn = minutes::after_pair(names, turn);
         calls -= 1;
     }
     sum
@@ -231,41 +165,12 @@ fn in_file(held: &[u8; 65536], n: usize) -> &[u8] {
     octets::front(held, n)
 }
 
-fn pace_step(profile: Profile, s: &[u8]) {
-    let from = clock();
-    let sum = run_events(profile, s);
-    say(b"step", 90000, sum, from);
-}
-
-fn pace_batch(busy: Node, names: Names, list: &[u32]) {
-    let from = clock();
-    let sum = run_batches(busy, names, list);
-    say(b"batch", 3000000, sum, from);
-}
-
-fn pace_steps(busy: Node, names: Names, list: &[u32]) {
-    let from = clock();
-    let sum = run_steps(busy, names, list);
-    say(b"steps", 120000, sum, from);
-}
-
-fn pace_minutes(busy: Node) {
-    let names = minutes::names_in(busy);
-    let list = minutes::volumes();
-    pace_batch(busy, names, &list);
-    pace_steps(busy, names, &list);
-}
-
-fn pace_events(profile: Profile) {
+fn pace_step(profile: Profile) {
     let mut held = io::large_buffer();
     let n = load(3, &mut held);
-    pace_file(profile, &held, n);
-}
-
-fn pace_file(profile: Profile, held: &[u8; 65536], n: usize) {
-    let s = in_file(held, n);
-    pace_step(profile, s);
-    pace_minutes(busy_node(profile, s));
+    let from = clock();
+    let sum = run_events(profile, in_file(&held, n));
+    say(b"step", 90000, sum, from);
 }
 
 fn pace_write(list: &[u8]) {
@@ -302,6 +207,6 @@ pub fn main() {
     if !profile::profile_ok(p) {
         return;
     }
-    pace_events(p);
+    pace_step(p);
     pace_records();
 }
