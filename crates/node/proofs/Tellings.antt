@@ -210,6 +210,13 @@ pub record Telling (p : Profile) (clock accepted : ℕ) (c : Context) (t : ℕ) 
   pub left-is : left + volume last up down ≡ p .limits .volume
   pub within : at ≤ length out
 
+-- the pair k, of 32-bit numbers, while fewer events were accepted than may be
+pub record Due (vs : List ℕ) (accepted k : ℕ) : Type 0 where
+  pub pair : k < length vs / 2
+  pub few : accepted + k < mostAccepted
+  pub up : getD vs (2 * k) 0 < 2 ^ 32
+  pub down : getD vs (2 * k + 1) 0 < 2 ^ 32
+
 module _ {p : Profile} {clock accepted : ℕ} {c : Context} {t : ℕ} (w : Listens p clock accepted c t) (vs b : List ℕ) where
   sounds-first : Sounds p t accepted c
   sounds-first = record { clock = clock; since = w .since; active = w .active; sound = w .sound; shape = w .shape }
@@ -247,157 +254,157 @@ module _ {p : Profile} {clock accepted : ℕ} {c : Context} {t : ℕ} (w : Liste
     few = s .few;
   }
 
-  module _ (h : k < length vs / 2) where
-    abbrev u : ℕ
-    u = getD vs (2 * k) 0
+  abbrev u : ℕ
+  u = getD vs (2 * k) 0
 
-    abbrev d : ℕ
-    d = getD vs (2 * k + 1) 0
+  abbrev d : ℕ
+  d = getD vs (2 * k + 1) 0
 
-    abbrev others : List (ℕ × ℕ)
-    others = pairsOf (drop (2 * (k + 1)) vs)
+  abbrev others : List (ℕ × ℕ)
+  others = pairsOf (drop (2 * (k + 1)) vs)
 
-    rest-at : oneByOne (seatStep p t) (seatAt clock accepted t 0 c) (pairsOf vs) b
-        ≡ joined k at (take at out) (oneByOne (seatStep p t) seat ((u, d) ∷ others) (drop at out))
-    rest-at = s .rest ∙ rw (pairs-at vs k h)
+  rest-at : k < length vs / 2 → oneByOne (seatStep p t) (seatAt clock accepted t 0 c) (pairsOf vs) b
+      ≡ joined k at (take at out) (oneByOne (seatStep p t) seat ((u, d) ∷ others) (drop at out))
+  rest-at h = s .rest ∙ rw (pairs-at vs k h)
 
-    -- so many were accepted already
-    step-7 : mostAccepted ≤ accepted + k → seatStep p t seat (u, d) (drop at out) ≡ (7, (seat, (0, drop at out)))
-    unfolding seatStep
-    step-7 l = rw (le-leb mostAccepted (accepted + k) l)
+  -- so many were accepted already
+  step-7 : mostAccepted ≤ accepted + k → seatStep p t seat (u, d) (drop at out) ≡ (7, (seat, (0, drop at out)))
+  unfolding seatStep
+  step-7 l = rw (le-leb mostAccepted (accepted + k) l)
 
-    pub telling-7 : mostAccepted ≤ accepted + k → Tells p clock accepted c t vs b out 7 k here at
-    telling-7 l = record {
-      is = sym (rest-at ∙ joined-stop k at (take at out) (seatStep p t) others (λ z. omega arith) (step-7 l) ∙ rw (take-append-drop at out));
-      few = s .few;
-    }
+  pub telling-7 : k < length vs / 2 → mostAccepted ≤ accepted + k → Tells p clock accepted c t vs b out 7 k here at
+  telling-7 h l = record {
+    is = sym (rest-at h ∙ joined-stop k at (take at out) (seatStep p t) others (λ z. omega arith) (step-7 l) ∙ rw (take-append-drop at out));
+    few = s .few;
+  }
 
-    module _ (few : accepted + k < mostAccepted) (ul : u < 2 ^ 32) (dl : d < 2 ^ 32) where
-      abbrev one-more : ℕ
-      one-more = accepted + k + 1
+  module _ (due : Due vs accepted k) where
+    clock-then : t ≡ cond (eqb (k + 1) 0) clock t
+    clock-then = rw (ne-eqb (k + 1) 0 (λ z. omega arith))
 
-      clock-then : t ≡ cond (eqb (k + 1) 0) clock t
-      clock-then = rw (ne-eqb (k + 1) 0 (λ z. omega arith))
+    accepted-then : accepted + k + 1 ≡ accepted + (k + 1)
+    accepted-then = omega arith
 
-      accepted-then : accepted + k + 1 ≡ accepted + (k + 1)
-      accepted-then = omega arith
+    -- the pair can be added to what is counted
+    pub sums-fit : (up + u < 2 ^ 64) × (down + d < 2 ^ 64)
+    sums-fit = let f = fit p (w .profile) in (omega (arith, s .left-is, f .volume, due .up), omega (arith, s .left-is, f .volume, due .down))
 
-      -- the pair can be added to what is counted
-      pub sums-fit : (up + u < 2 ^ 64) × (down + d < 2 ^ 64)
-      sums-fit = let f = fit p (w .profile) in (omega (arith, s .left-is, f .volume), omega (arith, s .left-is, f .volume))
+    -- below the limit
+    module _ (below : u + d < left) where
+      not-met : volume here u d < p .limits .volume
+      not-met = omega (arith, s .left-is)
 
-      -- below the limit
-      module _ (below : u + d < left) where
-        not-met : volume here u d < p .limits .volume
-        not-met = omega (arith, s .left-is)
+      step-on : seatStep p t seat (u, d) (drop at out) ≡ (0, (seatAt clock accepted t (k + 1) (counted last (up + u) (down + d)), (0, drop at out)))
+      unfolding seatStep seatThen
+      step-on =
+          rw (
+            lt-leb mostAccepted (accepted + k) (due .few),
+            on-tried p t (w .profile) (w .until) here (accepted + k) u d (due .few) (s .now) (due .up) (due .down) not-met (drop at out),
+          )
+          (λ i. (0, (record { clock = clock-then i; accepted = accepted-then i; context = counted-more last up down u d i }, (0, drop at out))))
 
-        step-on : seatStep p t seat (u, d) (drop at out) ≡ (0, (seatAt clock accepted t (k + 1) (counted last (up + u) (down + d)), (0, drop at out)))
-        unfolding seatStep seatThen
-        step-on =
-            rw (lt-leb mostAccepted (accepted + k) few, on-tried p t (w .profile) (w .until) here (accepted + k) u d few (s .now) ul dl not-met (drop at out))
-            (λ i. (0, (record { clock = clock-then i; accepted = accepted-then i; context = counted-more last up down u d i }, (0, drop at out))))
-
-        pub telling-on : Telling p clock accepted c t vs b out last (up + u) (down + d) (left - (u + d)) at (k + 1)
-        telling-on =
-            let e : at + 0 ≡ at = omega arith in
-            record {
-              rest = rest-at ∙ joined-more k at (take at out) (seatStep p t) others step-on ∙ rw (append-nil (take at out), e);
-              few = omega arith;
-              now = rw (counted-more last up down u d, accepted-then) at
-                  (on-kept p t (w .profile) (w .until) here (accepted + k) u d few (s .now) ul dl not-met);
-              left-is = omega (arith, s .left-is);
-              within = s .within;
-            }
-
-      -- at the limit
-      module _ (met : left ≤ u + d) where
-        over : p .limits .volume ≤ volume here u d
-        over = omega (arith, s .left-is)
-
-        apt : SoundContext p t here
-        apt = ready p t (w .profile) (w .until) few (s .now)
-
-        closes : closing (p .limits) (here .current) t (report u d) ≡ some 16
-        closes = closes-now p t (w .profile) (w .until) here (accepted + k) u d few (s .now) ul dl over
-
-        -- the record, as the code makes it
-        abbrev full : Record
-        full = closedBy p last t (report (up + u) (down + d)) 16
-
-        full-is : closedBy p here t (report u d) 16 ≡ full
-        unfolding closedBy recordOf reported
-        full-is =
-            ap (λ (x : Context). recordOf p last (O.ended (x .current) 2 (timeAt p t)) 16 (numberFor (last .closed) false))
-            (counted-more last up down u d)
-
-        pub full-ready : Full p last t (up + u) (down + d)
-        full-ready =
-            let f = fit p (w .profile) in
-            let g = apt-grows p t here apt in
-            record {
-              can = record {
-                uplink = omega (arith, s .left-is, f .volume);
-                downlink = omega (arith, s .left-is, f .volume);
-                place = g .place;
-                closed = g .closed;
-              };
-              within = rw full-is at
-                  (closed-within p t here apt (s .now .shape .containers) (report u d) (report-in-range u d) (record { up = ul; down = dl }) 16 closes);
-            }
-
-        -- what came of the slot
-        module _ {ys : List ℕ} {a : ℕ} {x : Context} {n : ℕ} (y : Tries p t (report u d) here (midOf at (length out - at) out) ys a x n) where
-          tried-is : triedOf p t (report u d) here (drop at out) ≡ (a, (x, (n, ys)))
-          tried-is = rw (← part-is out ys at n (s .within)) (sym (y .is))
-
-          step-11 : (a ≡ 0 → ⊥) → seatStep p t seat (u, d) (drop at out) ≡ (a, (seat, (0, ys)))
-          unfolding seatStep seatThen
-          step-11 z = rw (lt-leb mostAccepted (accepted + k) few, tried-is, ne-eqb a 0 z)
-
-          stopped-then : (a ≡ 0 → ⊥) → Tells p clock accepted c t vs b (putMid at (length out - at) out ys) a k here at
-          stopped-then z = record {
-            is = sym (rest-at ∙ joined-stop k at (take at out) (seatStep p t) others z (step-11 z) ∙ rw (← put-is out ys at n (s .within)));
-            few = s .few;
+      pub telling-on : Telling p clock accepted c t vs b out last (up + u) (down + d) (left - (u + d)) at (k + 1)
+      telling-on =
+          let e : at + 0 ≡ at = omega arith in
+          record {
+            rest = rest-at (due .pair) ∙ joined-more k at (take at out) (seatStep p t) others step-on ∙ rw (append-nil (take at out), e);
+            few = omega (arith, due .few);
+            now = rw (counted-more last up down u d, accepted-then) at
+                (on-kept p t (w .profile) (w .until) here (accepted + k) u d (due .few) (s .now) (due .up) (due .down) not-met);
+            left-is = omega (arith, s .left-is);
+            within = s .within;
           }
 
-          module _ (z : a ≡ 0) where
-            step-closed : seatStep p t seat (u, d) (drop at out) ≡ (0, (seatAt clock accepted t (k + 1) (counted x 0 0), (n, ys)))
-            unfolding seatStep seatThen
-            step-closed =
-                let e = sym (counted-none x) in
-                rw (lt-leb mostAccepted (accepted + k) few, tried-is, z)
-                (λ i. (0, (record { clock = clock-then i; accepted = accepted-then i; context = e i }, (n, ys))))
+    -- at the limit
+    module _ (met : left ≤ u + d) where
+      over : p .limits .volume ≤ volume here u d
+      over = omega (arith, s .left-is)
 
-            closed-then : Telling p clock accepted c t vs b (putMid at (length out - at) out ys) x 0 0 (p .limits .volume) (at + n) (k + 1)
-            closed-then =
-                let q = tried-done y z in
-                let v = closed-kept p t (w .profile) (w .until) here (accepted + k) u d few (s .now) ul dl over (q .next) in
-                let o = closed-empty p t (w .profile) (w .until) here (accepted + k) u d few (s .now) ul dl over (q .next) in
-                record {
-                  rest = rest-at ∙ joined-more k at (take at out) (seatStep p t) others step-closed
-                      ∙ rw (front-is out ys at n (s .within) (q .few), rest-is out ys at n (s .within) (q .few));
-                  few = omega arith;
-                  now = rw (counted-none x, ← accepted-then) v;
-                  left-is = omega (arith, o);
-                  within = ends-within out ys at n (s .within) (q .few)
-                      (tried-same y ∙ ap length (part-is out ys at n (s .within)) ∙ length-drop at out);
-                }
+      apt : SoundContext p t here
+      apt = ready p t (w .profile) (w .until) (due .few) (s .now)
 
-        -- as the code finds it: the record was written, or there was no room
-        module _ {ys : List ℕ} {n : ℕ} (m : Marks full (midOf at (length out - at) out) ys n) where
-          out-is : slotOut p t (report u d) here ≡ markedOctets full
-          out-is = slot-active p t (report u d) here (s .now .active) .1 ∙ octets-closes p here t (report u d) closes ∙ ap markedOctets full-is
+      closes : closing (p .limits) (here .current) t (report u d) ≡ some 16
+      closes = closes-now p t (w .profile) (w .until) here (accepted + k) u d (due .few) (s .now) (due .up) (due .down) over
 
-          next-then : slotNext p t (report u d) here ≡ going last (O.opened (timeAt p t) (last .current .qos)) (last .closed + 1)
-          next-then = closed-next p t (w .profile) (w .until) here (accepted + k) u d few (s .now) ul dl over
+      -- the record, as the code makes it
+      abbrev full : Record
+      full = closedBy p last t (report (up + u) (down + d)) 16
 
-          pub telling-11 : n ≡ 0 → Tells p clock accepted c t vs b (putMid at (length out - at) out ys) 11 k here at
-          telling-11 z = stopped-then (tries-not out-is m z) (λ e. omega arith)
+      full-is : closedBy p here t (report u d) 16 ≡ full
+      unfolding closedBy recordOf reported
+      full-is =
+          ap (λ (x : Context). recordOf p last (O.ended (x .current) 2 (timeAt p t)) 16 (numberFor (last .closed) false))
+          (counted-more last up down u d)
 
-          pub telling-closed : (n ≡ 0 → ⊥) → {x : Context} → x ≡ going last (O.opened (timeAt p t) (last .current .qos)) (last .closed + 1)
-              → Telling p clock accepted c t vs b (putMid at (length out - at) out ys) x 0 0 (p .limits .volume) (at + n) (k + 1)
-          telling-closed z e = closed-then (tries-closed out-is m z (e ∙ sym next-then)) refl
+      pub full-ready : Full p last t (up + u) (down + d)
+      full-ready =
+          let f = fit p (w .profile) in
+          let g = apt-grows p t here apt in
+          record {
+            can = record {
+              uplink = omega (arith, s .left-is, f .volume, due .up);
+              downlink = omega (arith, s .left-is, f .volume, due .down);
+              place = g .place;
+              closed = g .closed;
+            };
+            within = rw full-is at
+                (closed-within p t here apt (s .now .shape .containers) (report u d) (report-in-range u d)
+                (record { up = due .up; down = due .down }) 16 closes);
+          }
 
-          -- the buffer is as long as it was
-          pub telling-same : length (putMid at (length out - at) out ys) ≡ length out
-          telling-same = same-len-mid at (length out - at) out ys (marks-same m)
+      -- what came of the slot
+      module _ {ys : List ℕ} {a : ℕ} {x : Context} {n : ℕ} (y : Tries p t (report u d) here (midOf at (length out - at) out) ys a x n) where
+        tried-is : triedOf p t (report u d) here (drop at out) ≡ (a, (x, (n, ys)))
+        tried-is = rw (← part-is out ys at n (s .within)) (sym (y .is))
+
+        step-11 : (a ≡ 0 → ⊥) → seatStep p t seat (u, d) (drop at out) ≡ (a, (seat, (0, ys)))
+        unfolding seatStep seatThen
+        step-11 z = rw (lt-leb mostAccepted (accepted + k) (due .few), tried-is, ne-eqb a 0 z)
+
+        stopped-then : (a ≡ 0 → ⊥) → Tells p clock accepted c t vs b (putMid at (length out - at) out ys) a k here at
+        stopped-then z = record {
+          is = sym (rest-at (due .pair) ∙ joined-stop k at (take at out) (seatStep p t) others z (step-11 z) ∙ rw (← put-is out ys at n (s .within)));
+          few = s .few;
+        }
+
+        module _ (z : a ≡ 0) where
+          step-closed : seatStep p t seat (u, d) (drop at out) ≡ (0, (seatAt clock accepted t (k + 1) (counted x 0 0), (n, ys)))
+          unfolding seatStep seatThen
+          step-closed =
+              let e = sym (counted-none x) in
+              rw (lt-leb mostAccepted (accepted + k) (due .few), tried-is, z)
+              (λ i. (0, (record { clock = clock-then i; accepted = accepted-then i; context = e i }, (n, ys))))
+
+          closed-then : Telling p clock accepted c t vs b (putMid at (length out - at) out ys) x 0 0 (p .limits .volume) (at + n) (k + 1)
+          closed-then =
+              let q = tried-done y z in
+              let v = closed-kept p t (w .profile) (w .until) here (accepted + k) u d (due .few) (s .now) (due .up) (due .down) over (q .next) in
+              let o = closed-empty p t (w .profile) (w .until) here (accepted + k) u d (due .few) (s .now) (due .up) (due .down) over (q .next) in
+              record {
+                rest = rest-at (due .pair) ∙ joined-more k at (take at out) (seatStep p t) others step-closed
+                    ∙ rw (front-is out ys at n (s .within) (q .few), rest-is out ys at n (s .within) (q .few));
+                few = omega (arith, due .few);
+                now = rw (counted-none x, ← accepted-then) v;
+                left-is = omega (arith, o);
+                within = ends-within out ys at n (s .within) (q .few)
+                    (tried-same y ∙ ap length (part-is out ys at n (s .within)) ∙ length-drop at out);
+              }
+
+      -- as the code finds it: the record was written, or there was no room
+      module _ {ys : List ℕ} {n : ℕ} (m : Marks full (midOf at (length out - at) out) ys n) where
+        out-is : slotOut p t (report u d) here ≡ markedOctets full
+        out-is = slot-active p t (report u d) here (s .now .active) .1 ∙ octets-closes p here t (report u d) closes ∙ ap markedOctets full-is
+
+        next-then : slotNext p t (report u d) here ≡ going last (O.opened (timeAt p t) (last .current .qos)) (last .closed + 1)
+        next-then = closed-next p t (w .profile) (w .until) here (accepted + k) u d (due .few) (s .now) (due .up) (due .down) over
+
+        pub telling-11 : n ≡ 0 → Tells p clock accepted c t vs b (putMid at (length out - at) out ys) 11 k here at
+        telling-11 z = stopped-then (tries-not out-is m z) (λ e. omega arith)
+
+        pub telling-closed : (n ≡ 0 → ⊥) → {x : Context} → x ≡ going last (O.opened (timeAt p t) (last .current .qos)) (last .closed + 1)
+            → Telling p clock accepted c t vs b (putMid at (length out - at) out ys) x 0 0 (p .limits .volume) (at + n) (k + 1)
+        telling-closed z e = closed-then (tries-closed out-is m z (e ∙ sym next-then)) refl
+
+        -- the buffer is as long as it was
+        pub telling-same : length (putMid at (length out - at) out ys) ≡ length out
+        telling-same = same-len-mid at (length out - at) out ys (marks-same m)
