@@ -9,8 +9,8 @@ use lib.Seq.{ext-getD}
 use Rattle.calendar.specs.declared.Stamp.{Stamp}
 use Rattle.calendar.specs.Stamp.{Stamped}
 use Rattle.calendar.specs.Private.Bound.{Is}
-use Rattle.calendar.specs.Private.Date.{Placed, Dated, Lasts}
-use Rattle.calendar.specs.Private.Table.{Table, Row}
+use Rattle.calendar.specs.Private.Date.{Dated, Lasts}
+use Rattle.calendar.specs.Private.Table.{Table}
 
 -- what the writer promises
 pub stamped-fixes : {t : Stamp} {a b : Bool} {x y : List ℕ} → Stamped t a x → Stamped t b y → (a ≡ b) × (x ≡ y)
@@ -21,9 +21,6 @@ stamped-fixes p q = (p .within ∙ sym (q .within), p .form ∙ sym (q .form))
 pub is-fixes : {v m a b : ℕ} → Is v m a → Is v m b → a ≡ b
 is-fixes p q = p .same ∙ sym (q .same)
 
-pub placed-fixes : {d i j : ℕ} → Placed d i → Placed d j → i ≡ j
-placed-fixes p q = omega (arith, p .month, q .month)
-
 pub dated-fixes : {d k l p q : ℕ} → Dated d k p → Dated d l q → (k ≡ l) × (p ≡ q)
 dated-fixes a b = (a .month ∙ sym (b .month), a .place ∙ sym (b .place))
 
@@ -33,6 +30,3 @@ lasts-fixes a b = (a .first ∙ sym (b .first), a .count ∙ sym (b .count))
 -- arrays, whose lengths are their types'
 pub table-fixes : (l m : List ℕ) → length l ≡ 1200 → length m ≡ 1200 → Table l → Table m → l ≡ m
 table-fixes l m u v a b = ext-getD 0 l m (u ∙ sym v) (λ k h. a .begins k (omega arith) ∙ sym (b .begins k (omega arith)))
-
-pub row-fixes : (l m : List ℕ) {k : ℕ} → length l ≡ 48 → length m ≡ 48 → Row k l → Row k m → l ≡ m
-row-fixes l m u v a b = ext-getD 0 l m (u ∙ sym v) (λ i h. a .begins i (omega arith) ∙ sym (b .begins i (omega arith)))

@@ -1,17 +1,16 @@
 -- Laws of the months: they follow one another without a gap, so a day of 2000 to 2099 lies in exactly one of them.
-use mathlib.Core.Path.{_≡_, refl, sym, ap, _∙_}
+use mathlib.Core.Path.{_≡_, refl, sym, ap, _∙_, subst}
 use mathlib.Core.Bool.{Bool, true, false, cond, _&&_}
 use mathlib.Core.List.{List, [], _∷_}
 use Prim.Native.Nat.{ℕ, zero, suc, _+_, _-_, _*_, _/_, _%_, _≤_, _<_}
-use native.Mathlib.Nat.{zero-add, add-zero, add-suc}
+use native.Mathlib.Nat.{le-of-suc-le-suc, not-suc-le-zero, zero-add, add-zero, add-suc, suc-add}
 use native.Mathlib.Omega.{arith}
 use lib.Dec.{T, ltb, leb, eqb, leb→le, eqb→eq}
 use lib.ListN.{getD}
 use borrow.Author.Tests.{ltb-true, ltb-false, eqb-true}
 use Rattle.format.proofs.Tests.{by, either, and-l, and-r}
 use Rattle.calendar.specs.Month.{leap, plain, monthLen, firstDay, seek, monthDay, Lies}
-use Rattle.calendar.specs.Private.Date.{Placed, Dated, Lasts}
-use Rattle.calendar.specs.Private.Table.{Row}
+use Rattle.calendar.specs.Private.Date.{Dated, Lasts}
 
 -- January 2000 begins on day 0
 pub start : 0 ≡ firstDay 0
@@ -23,55 +22,26 @@ pub next : (k : ℕ) → firstDay (suc k) ≡ firstDay k + monthLen k
 unfolding firstDay
 next k = refl
 
--- the days of n months, from month k on
-unfoldable span : ℕ → ℕ → ℕ
-span zero k = 0
-span (suc n) k = span n k + monthLen (k + n)
-
-spans : (n k : ℕ) → firstDay (k + n) ≡ firstDay k + span n k
-unfolding span
-spans zero k = rw (add-zero k) (omega arith)
-spans (suc n) k = rw (add-suc k n) (omega (arith, spans n k, next (k + n)))
+pub next-one : (k : ℕ) → firstDay (k + 1) ≡ firstDay k + monthLen k
+next-one k = let e : k + 1 ≡ suc k = omega arith in ap firstDay e ∙ next k
 
 -- later months begin no earlier
+begins-later : (n k : ℕ) → firstDay k ≤ firstDay (k + n)
+begins-later zero k = rw (add-zero k) (omega arith)
+begins-later (suc n) k = rw (add-suc k n) (omega (arith, begins-later n k, next (k + n)))
+
 pub later : (j k : ℕ) → j ≤ k → firstDay j ≤ firstDay k
-later j k h =
-    let e : j + (k - j) ≡ k = omega arith in
-    let s = rw e at (spans (k - j) j) in
-    omega arith
+later j k h = let e : j + (k - j) ≡ k = omega arith in rw e at (begins-later (k - j) j)
 
--- ---- four years
-
--- a test: n times from month k on, the next four years have 1,461 days
-unfoldable fours : ℕ → ℕ → Bool
-fours zero k = true
-fours (suc n) k = eqb (span 48 k) 1461 && fours n (k + 48)
-
-fours-begin : (n k m : ℕ) → T (fours n k) → m ≤ n → firstDay (k + m * 48) ≡ firstDay k + m * 1461
-unfolding fours
-fours-begin n k zero t h = rw (add-zero k) (omega arith)
-fours-begin zero k (suc m) t h = absurd (omega arith)
-fours-begin (suc n) k (suc m) t h =
-    let e : k + suc m * 48 ≡ k + 48 + m * 48 = omega arith in
-    let s = eqb→eq (span 48 k) 1461 (and-l (eqb (span 48 k) 1461) (fours n (k + 48)) t) in
-    let r = fours-begin n (k + 48) m (and-r (eqb (span 48 k) 1461) (fours n (k + 48)) t) (omega arith) in
-    rw e (omega (arith, spans 48 k))
-
--- From 2000 to 2099 it passes, as antt computes; so row k of the table, the months of four years, begins with day k * 1461.
-pub row-begins : (k : ℕ) → k ≤ 25 → firstDay (k * 48) ≡ k * 1461
-unfolding span fours monthLen
-row-begins k h =
-    let e = rw (zero-add (k * 48)) at (fours-begin 25 0 k tt h) in
-    omega (arith, start)
-
--- 2099 ends with day 36,524
-end : firstDay 1200 ≡ 36525
-end = row-begins 25 (omega arith)
+-- 2099 ends with day 36,524, as antt computes
+pub end : firstDay 1200 ≡ 36525
+unfolding firstDay monthLen
+end = refl
 
 -- ---- the months of 2000 to 2099 begin in these years
 
-pub below : (k : ℕ) → k < 1200 → firstDay k ≤ 36525
-below k h = omega (arith, later k 1200 (omega arith), end)
+pub below : (k : ℕ) → k ≤ 1200 → firstDay k ≤ 36525
+below k h = omega (arith, later k 1200 h, end)
 
 -- what comes after them begins past these years
 pub past : (k : ℕ) → 1200 ≤ k → 36525 ≤ firstDay k
@@ -145,17 +115,7 @@ short k =
 
 -- what is answered of a month
 pub lasts : (k f n : ℕ) → k < 1200 → f ≡ firstDay k → n ≡ monthLen k → Lasts k f n
-lasts k f n h e q = record { first = e; count = q; known = omega (arith, below k h); short = omega (arith, short k) }
-
--- a December has 31 days
-pub december : (k : ℕ) → k % 12 ≡ 11 → monthLen k ≡ 31
-unfolding monthLen
-december k e = rw e
-
--- so each begins at most 31 days after the one before
-slow : (n k : ℕ) → firstDay (k + n) ≤ firstDay k + n * 31
-slow zero k = rw (add-zero k) (omega arith)
-slow (suc n) k = rw (add-suc k n) (omega (arith, next (k + n), short (k + n), slow n k))
+lasts k f n h e q = record { first = e; count = q; known = omega (arith, below k (omega arith)); short = omega (arith, short k) }
 
 -- a day's month, and what is left of the day there, are its date
 pub dated : (d k f : ℕ) → d < 36525 → k ≡ monthDay d .0 → f ≡ firstDay k → Dated d k (d - f)
@@ -164,40 +124,63 @@ dated d k f h e q =
     let g = ap firstDay e in
     record { month = e; place = omega arith; known = omega arith; small = omega (arith, short (monthDay d .0)) }
 
--- ---- a month in the row of its four years
+-- ---- the quotient
 
-module _ (k : ℕ) {l : List ℕ} (r : Row (k / 48) l) where
-  pub row-at : getD l (k % 48) 0 ≡ firstDay k
-  row-at =
-      let e : k / 48 * 48 + k % 48 ≡ k = omega arith in
-      r .begins (k % 48) (omega arith) ∙ ap firstDay e
+-- The day four weeks before day d, counted in mean months of 487 / 16 days.
+abbrev pub near : ℕ → ℕ
+near d = (d - 28) * 16 / 487
 
-  -- the next month's entry, where the row has it
-  pub row-next : k % 48 < 47 → getD l (k % 48 + 1) 0 ≡ firstDay k + monthLen k
-  row-next h =
-      let e : k / 48 * 48 + (k % 48 + 1) ≡ suc k = omega arith in
-      r .begins (k % 48 + 1) (omega arith) ∙ ap firstDay e ∙ next k
+-- For each day of month k, which begins on day f, it is that month or the one before: for the first day no lower, for the last no higher.
+record Near (k f : ℕ) : Type 0 where
+  least : k ≤ near f + 1
+  most : near (f + monthLen k - 1) ≤ k
 
--- ---- a day in the row of its four years
+-- a test of this: n times from month k on
+unfoldable nears : ℕ → ℕ → ℕ → Bool
+nears zero k f = true
+nears (suc n) k f = (leb k (near f + 1) && leb (near (f + monthLen k - 1)) k) && nears n (suc k) (f + monthLen k)
 
--- the row begins where they do
-pub row-first : (d : ℕ) {l : List ℕ} → d < 36525 → Row (d / 1461) l → getD l 0 0 ≡ d / 1461 * 1461
-row-first d h r = r .begins 0 (omega arith) ∙ ap firstDay (add-zero (d / 1461 * 48)) ∙ row-begins (d / 1461) (omega arith)
+nears-all : (n k f : ℕ) → f ≡ firstDay k → T (nears n k f) → (i : ℕ) → i < n → Near (k + i) (firstDay (k + i))
+unfolding nears
+nears-all zero k f e t i h = absurd (not-suc-le-zero h)
+nears-all (suc n) k f e t zero h =
+    let l = leb k (near f + 1) in
+    let m = leb (near (f + monthLen k - 1)) k in
+    let b = and-l (l && m) (nears n (suc k) (f + monthLen k)) t in
+    let r : Near k f = record { least = leb→le k (near f + 1) (and-l l m b); most = leb→le (near (f + monthLen k - 1)) k (and-r l m b) } in
+    subst (λ (j : ℕ). Near j (firstDay j)) (sym (add-zero k)) (subst (λ (x : ℕ). Near k x) e r)
+nears-all (suc n) k f e t (suc i) h =
+    let b = leb k (near f + 1) && leb (near (f + monthLen k - 1)) k in
+    let r = and-r b (nears n (suc k) (f + monthLen k)) t in
+    subst (λ (j : ℕ). Near j (firstDay j)) (suc-add k i ∙ sym (add-suc k i))
+    (nears-all n (suc k) (f + monthLen k) (ap (λ (x : ℕ). x + monthLen k) e ∙ sym (next k)) r i (le-of-suc-le-suc h))
 
--- what comes after it begins after the day
-pub row-until : (d : ℕ) → d < 36525 → d < firstDay (d / 1461 * 48 + 48)
-row-until d h =
-    let e : (d / 1461 + 1) * 48 ≡ d / 1461 * 48 + 48 = omega arith in
-    let r = rw e at (row-begins (d / 1461 + 1) (omega arith)) in
-    omega arith
+-- From 2000 to 2099 it passes, as antt computes.
+nearly : (k : ℕ) → k < 1200 → Near k (firstDay k)
+unfolding nears monthLen
+nearly k h = rw (zero-add k) at (nears-all 1200 0 0 start tt k h)
 
--- a month for each 31 days before the day is not past it
-pub early : (d n : ℕ) → d < 36525 → n * 31 ≤ d % 1461 → firstDay (d / 1461 * 48 + n) ≤ d
-early d n h l = omega (arith, slow n (d / 1461 * 48), row-begins (d / 1461) (omega arith))
+-- So the quotient q of a day is its month or the one before.
+module _ (d q : ℕ) (h : d < 36525) (e : q ≡ near d) where
+  pub near-month : (q ≤ monthDay d .0) × (monthDay d .0 ≤ q + 1)
+  near-month =
+      let l = lies d h in
+      let n = nearly (monthDay d .0) (l .known) in
+      (omega (arith, n .most, l .starts, l .inside), omega (arith, n .least, l .starts))
 
--- the month at place i is the day's where it begins no later, and the next one does
-pub placed : (d i : ℕ) → d < 36525 → i < 48 → firstDay (d / 1461 * 48 + i) ≤ d → d < firstDay (d / 1461 * 48 + (i + 1)) → Placed d i
-placed d i h l u v =
-    let k = d / 1461 * 48 + i in
-    let e : firstDay (d / 1461 * 48 + (i + 1)) ≡ firstDay (suc k) = ap firstDay (omega arith) in
-    record { month = sym (month-is d k h u (omega arith)); known = l }
+  -- that month begins no later than the day
+  pub near-first : firstDay q ≤ d
+  near-first = omega (arith, later q (monthDay d .0) (near-month .0), lies d h .starts)
+
+  -- it is the day's where the next one begins after the day
+  pub near-here : d < firstDay (q + 1) → q ≡ monthDay d .0
+  near-here u = sym (month-is d q h near-first (omega (arith, next q, next-one q)))
+
+  -- else the next one is
+  pub near-next : firstDay (q + 1) ≤ d → q + 1 ≡ monthDay d .0
+  near-next u =
+      let l = lies d h in
+      either (monthDay d .0) q
+      (λ (a : monthDay d .0 ≤ q).
+      absurd (omega (arith, next-one (monthDay d .0), later (monthDay d .0 + 1) (q + 1) (omega arith), l .starts, l .inside)))
+      (λ (a : q < monthDay d .0). omega (arith, near-month .1))

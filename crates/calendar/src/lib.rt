@@ -2,6 +2,7 @@
 //
 // No public function has a `requires`: each answers for every input.
 mod digits;
+mod look;
 mod month;
 mod table;
 mod zone;

@@ -1,29 +1,12 @@
 // Months, counted from January 2000.
-ghost use Prim.Native.Nat.{_/_, _<_};
+ghost use mathlib.Core.Path.{_≡_};
+ghost use Prim.Native.Nat.{_-_, _<_};
 ghost use Rattle.calendar.specs.Private.Bound.{Is};
-ghost use Rattle.calendar.specs.Private.Date.{Placed, Dated, Lasts};
-ghost use Rattle.calendar.specs.Private.Table.{Row};
+ghost use Rattle.calendar.specs.Private.Date.{Dated, Lasts};
 ghost use Rattle.calendar.specs.Stamp.{monthVal};
 use crate::digits::less_one;
 use crate::digits::of_bcd;
-use crate::table::day_in;
-use crate::table::years;
-
-// The month in which a day lies, as its place in the row of the day's four years: the first whose next one begins after that day.
-// No month is longer than 31 days, so the walk starts at the day in the row / 31, at most one month before it.
-fn place_of(row: &[u16; 48], day: u32) -> u32
-    requires { ⌜ Row (day / 1461) (now row) × (day < 36525) ⌝ }
-    ensures { λ r. ⌜ Placed day r ⌝ }
-{
-    let mut month = (day - day_in(row, 0)) / 31;
-    while month < 47 {
-        if day < day_in(row, month + 1) {
-            return month;
-        }
-        month += 1;
-    }
-    month
-}
+use crate::look::first_day;
 
 // The date of a day: its month, and its place there, counted from 0.
 pub struct Date {
@@ -31,17 +14,33 @@ pub struct Date {
     pub place: u32,
 }
 
-// Any four years from 2000 to 2099 have 1,461 days, so a division finds the row.
+// Four weeks earlier; 0 where that lies before 2000.
+fn four_weeks_before(day: u32) -> u32
+    ensures { λ r. ⌜ r ≡ day - 28 ⌝ }
+{
+    if day < 28 {
+        return 0;
+    }
+    day - 28
+}
+
+// A mean month has 30.4375 days, which is 487 / 16. The day four weeks earlier, divided by that, gives the month before the day's or, late in
+// a month, that month (`near-month` of proofs/Months.antt). So mostly one look at the month after it is enough, and never more than two.
 pub fn date_of(day: u32) -> Date
     requires { ⌜ day < 36525 ⌝ }
     ensures { λ r. ⌜ Dated day (r .month) (r .place) ⌝ }
 {
-    let k = day / 1461;
-    let row = years(k);
-    let i = place_of(&row, day);
+    let near = four_weeks_before(day) * 16 / 487;
+    let next = first_day(near + 1);
+    if next <= day {
+        return Date {
+            month: near + 1,
+            place: day - next,
+        };
+    }
     Date {
-        month: k * 48 + i,
-        place: day - day_in(&row, i),
+        month: near,
+        place: day - first_day(near),
     }
 }
 
@@ -51,20 +50,15 @@ pub struct Days {
     pub count: u32,
 }
 
-// They end where the next month begins. The last month of a row has no next one there; it is a December.
+// They end where the next month begins.
 pub fn days_of(month: u32) -> Days
     requires { ⌜ month < 1200 ⌝ }
     ensures { λ r. ⌜ Lasts month (r .first) (r .count) ⌝ }
 {
-    let row = years(month / 48);
-    let i = month % 48;
-    let first = day_in(&row, i);
-    if i == 47 {
-        return Days { first, count: 31 };
-    }
+    let first = first_day(month);
     Days {
         first,
-        count: day_in(&row, i + 1) - first,
+        count: first_day(month + 1) - first,
     }
 }
 

@@ -1,8 +1,5 @@
 // The table of the calendar: the day on which each month from 2000 to 2099 begins.
-ghost use mathlib.Core.Path.{_≡_};
-ghost use Prim.Native.Nat.{_<_};
-ghost use lib.ListN.{getD};
-ghost use Rattle.calendar.specs.Private.Table.{Table, Row};
+ghost use Rattle.calendar.specs.Private.Table.{Table};
 
 // Month k, counted from January 2000, begins FIRST[k] days after 2000-01-01.
 const FIRST: [u16; 1200] = [
@@ -1209,73 +1206,8 @@ const FIRST: [u16; 1200] = [
 ];
 
 // The table. That it is the calendar's is proved here, by one test over all its entries.
-fn first_days() -> [u16; 1200]
+pub fn first_days() -> [u16; 1200]
     ensures { λ r. ⌜ Table r ⌝ }
 {
     FIRST
-}
-
-// A row of the table: the 48 months of the four years from 2000 + 4 * k on.
-fn row_of(first: &[u16; 1200], k: usize) -> [u16; 48]
-    requires { ⌜ Table (now first) × (k < 25) ⌝ }
-    ensures { λ r. ⌜ Row k r ⌝ }
-{
-    let mut row = [0u16; 48];
-    let mut i: usize = 0;
-    while i < 48 {
-        row[i] = first[k * 48 + i];
-        i += 1;
-    }
-    row
-}
-
-// The row of four years. The compiler lays a constant array out on the stack, entry by entry, wherever it is named; but where each row that is
-// copied is named by a number that stands in the code, only the one that is asked for. Hence a `match`, and not `row_of(&first, k)`.
-pub fn years(k: u32) -> [u16; 48]
-    requires { ⌜ k < 25 ⌝ }
-    ensures { λ r. ⌜ Row k r ⌝ }
-{
-    let first = first_days();
-    match k {
-        0 => row_of(&first, 0),
-        1 => row_of(&first, 1),
-        2 => row_of(&first, 2),
-        3 => row_of(&first, 3),
-        4 => row_of(&first, 4),
-        5 => row_of(&first, 5),
-        6 => row_of(&first, 6),
-        7 => row_of(&first, 7),
-        8 => row_of(&first, 8),
-        9 => row_of(&first, 9),
-        10 => row_of(&first, 10),
-        11 => row_of(&first, 11),
-        12 => row_of(&first, 12),
-        13 => row_of(&first, 13),
-        14 => row_of(&first, 14),
-        15 => row_of(&first, 15),
-        16 => row_of(&first, 16),
-        17 => row_of(&first, 17),
-        18 => row_of(&first, 18),
-        19 => row_of(&first, 19),
-        20 => row_of(&first, 20),
-        21 => row_of(&first, 21),
-        22 => row_of(&first, 22),
-        23 => row_of(&first, 23),
-        _ => row_of(&first, 24),
-    }
-}
-
-// The day at a place of a row.
-pub fn day_in(row: &[u16; 48], place: u32) -> u32
-    requires { ⌜ place < 48 ⌝ }
-    ensures { λ r. ⌜ r ≡ getD (now (row .entry)) place 0 ⌝ }
-{
-    widened(row[place as usize])
-}
-
-// The same number. (A cast of an entry on the spot would ask how large the entry is.)
-fn widened(day: u16) -> u32
-    ensures { λ r. ⌜ r ≡ day ⌝ }
-{
-    day as u32
 }

@@ -1,12 +1,7 @@
 -- What is answered of days and months, with the bounds that a caller needs to go on computing.
 use mathlib.Core.Path.{_≡_}
-use Prim.Native.Nat.{ℕ, _+_, _*_, _/_, _≤_, _<_}
+use Prim.Native.Nat.{ℕ, _≤_, _<_}
 use Rattle.calendar.specs.Month.{monthLen, firstDay, monthDay}
-
--- What is found for day d in the row of its four years, which have 1,461 days: its month's place i there.
-pub record Placed (d i : ℕ) : Type 0 where
-  pub month : d / 1461 * 48 + i ≡ monthDay d .0
-  pub known : i < 48
 
 -- For day d: its month k and its place p there.
 pub record Dated (d k p : ℕ) : Type 0 where
