@@ -2,14 +2,18 @@
 //
 //     testing calls PROFILE CALLS            the node's calls, a line a call (calls.rt)
 //     testing records write|read|both        the record's writer and reader (records.rt)
+//     testing dates                          time stamps written, and read back (dates.rt)
 //     testing pace PROFILE EVENTS RECORDS    how long the step, the writer and the reader take (pace.rt)
+//     testing tick PROFILE EVENTS            how long the last event takes (tick.rt)
 //     testing all PROFILE CALLS..            files of calls, then what `records both` makes of standard input, then 01's bench table (table.rt)
 //
 // No contract can say what is read or written: each function is proved safe and ending.
 mod calls;
+mod dates;
 mod pace;
 mod records;
 mod table;
+mod tick;
 
 use libc::STDERR_FILENO;
 
@@ -42,8 +46,16 @@ fn main() {
         records::main();
         return;
     }
+    if setup::is_word(1, b"dates") {
+        dates::main();
+        return;
+    }
     if setup::is_word(1, b"pace") {
         pace::main();
+        return;
+    }
+    if setup::is_word(1, b"tick") {
+        tick::main();
         return;
     }
     if setup::is_word(1, b"all") {
@@ -52,6 +64,6 @@ fn main() {
     }
     io::write_all(
         STDERR_FILENO,
-        b"usage: testing calls|records|pace|all ARGUMENT..\n",
+        b"usage: testing calls|records|dates|pace|tick|all ARGUMENT..\n",
     );
 }

@@ -27,7 +27,7 @@ fn around(at: usize, end: usize) -> usize
 }
 
 // The place after the event at a place.
-fn after_event(s: &[u8], at: usize) -> usize {
+pub fn after_event(s: &[u8], at: usize) -> usize {
     let n = framing::next_length(octets::part(s, at, s.len()));
     wrapping_add_usize(at, n)
 }
@@ -140,19 +140,19 @@ fn natural(t: i64) -> u64 {
 }
 
 // The microseconds of this process.
-fn clock() -> u64 {
+pub fn clock() -> u64 {
     natural(libc::clock())
 }
 
 // One line: calls of which kind, how many, a sum over what they answered, and the microseconds since a time.
-fn say(kind: &[u8], calls: u64, sum: u64, from: u64) {
+pub fn say(kind: &[u8], calls: u64, sum: u64, from: u64) {
     let took = wrapping_sub_u64(clock(), from);
     template::write(b"%a %k %l %m\n", &four(calls, sum, took, 0), kind);
 }
 
-// The file that an argument names, from the start of a buffer: how many octets it has.
-fn load(argument: usize, held: &mut [u8; 65536]) -> usize {
-    let fd = setup::open(b"pace", argument);
+// The file that an argument of a command names, from the start of a buffer: how many octets it has.
+pub fn load(command: &[u8], argument: usize, held: &mut [u8; 65536]) -> usize {
+    let fd = setup::open(command, argument);
     if fd < 0 {
         return 0;
     }
@@ -161,13 +161,13 @@ fn load(argument: usize, held: &mut [u8; 65536]) -> usize {
     n
 }
 
-fn in_file(held: &[u8; 65536], n: usize) -> &[u8] {
+pub fn in_file(held: &[u8; 65536], n: usize) -> &[u8] {
     octets::front(held, n)
 }
 
 fn pace_step(profile: Profile) {
     let mut held = io::large_buffer();
-    let n = load(3, &mut held);
+    let n = load(b"pace", 3, &mut held);
     let from = clock();
     let sum = run_events(profile, in_file(&held, n));
     say(b"step", 90000, sum, from);
@@ -188,7 +188,7 @@ fn pace_read(list: &[u8]) {
 
 fn pace_records() {
     let mut held = io::large_buffer();
-    let n = load(4, &mut held);
+    let n = load(b"pace", 4, &mut held);
     pace_list(&held, n);
 }
 

@@ -34,7 +34,7 @@ pub fn four(b: &[u8], at: usize) -> u32 {
     (number(b, at, 4) % 4294967296) as u32
 }
 
-fn stamp_of(b: &[u8], at: usize) -> Stamp {
+pub fn stamp_at(b: &[u8], at: usize) -> Stamp {
     Stamp {
         seconds: four(b, at),
         zone: (two(b, wrapping_add_usize(at, 4)) % 65536) as u16,
@@ -54,7 +54,7 @@ fn container_of(b: &[u8]) -> Container {
         uplink: number(b, 5, 8),
         downlink: number(b, 13, 8),
         condition: octet(b, 21),
-        time: stamp_of(b, 22),
+        time: stamp_at(b, 22),
     }
 }
 
@@ -90,7 +90,7 @@ pub fn record_of(b: &[u8]) -> Record {
     let mut nodeid = [0u8; 20];
     fill(b, 108, &mut nodeid);
     let containers = containers_of(b);
-    let opening = stamp_of(b, 91);
+    let opening = stamp_at(b, 91);
     Record {
         network: octet(b, 0) != 0,
         imsi,
