@@ -8,6 +8,7 @@ void *memcpy(void *restrict to, const void *restrict from, size_t n);
 void *memset(void *to, int x, size_t n);
 int memcmp(const void *a, const void *b, size_t n);
 size_t strlen(const char *s);
+int strcmp(const char *a, const char *b);
 int sscanf(const char *s, const char *format, ...);
 int printf(const char *format, ...);
 int open(const char *path, int flags, ...);

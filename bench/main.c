@@ -4,6 +4,7 @@
  *     plain PROFILE EVENTS          the record list of the events, on standard output
  *     plain PROFILE EVENTS RECORDS  five lines: what the step, the batch, steps in its place, the writer and the reader did, and how long
  *                                   they took
+ *     plain tick PROFILE EVENTS     one line: the same of the last event, on the node that the others made, again and again
  *
  * The batch is measured on a busy node, and so are the steps in its place: the node that all events of the file, once, make of a fresh
  * one. Each minute is 60 pairs at the node's clock for one of its active contexts, slot by slot and again from the first, free slots
@@ -18,7 +19,7 @@
 #include "plain.h"
 
 enum { HELD = 65536, MOST_RECORDS = 64, EVENTS = 90000, WRITES = 20000, READS = 100000 };
-enum { PAIRS = 60, MINUTE = 2 * PAIRS, VOLUMES = 61 * MINUTE, BATCHES = 50000, STEPPED = 2000 };
+enum { PAIRS = 60, MINUTE = 2 * PAIRS, VOLUMES = 61 * MINUTE, BATCHES = 50000, STEPPED = 2000, LAST = 5000 };
 
 static uint8_t held[HELD];
 static struct charging_node node;
@@ -77,6 +78,25 @@ static size_t run(const struct charging_node *fresh, size_t n, size_t calls, int
         if (show && write(1, out, a.written) < 0) stop(2, "plain: not written\n");
         octets += a.written;
         at += length;
+    }
+    return octets;
+}
+
+/* Events one after another, from a fresh node on, and the last one again and again, each time on a copy of the node that the others made. How
+ * often, is counted. */
+static size_t run_last(struct charging_node *made, size_t n, size_t *last) {
+    size_t octets = 0, at = 0;
+    for (size_t calls = LAST; calls > 0; calls--) {
+        size_t length = event_length(held + at);
+        node = *made;
+        struct charging_answer a = plain_step(&node, held + at, length, out, sizeof out);
+        if (a.answer) stop(1, "plain: an event was refused\n");
+        octets += a.written;
+        *last += at + length >= n;
+        if (at + length < n) {
+            *made = node;
+            at += length;
+        }
     }
     return octets;
 }
@@ -183,11 +203,22 @@ static size_t write_records(size_t kept) {
 
 static void say(const char *name, size_t calls, size_t sum, long from) { printf("%s %zu %zu %ld\n", name, calls, sum, clock() - from); }
 
+static int tick(struct charging_node *fresh, size_t n) {
+    long from = clock();
+    size_t last = 0, octets = run_last(fresh, n, &last);
+    say("tick", last, octets, from);
+    return 0;
+}
+
 int main(int argc, char **argv) {
     if (argc != 3 && argc != 4) {
-        stop(2, "usage: plain PROFILE EVENTS [RECORDS]\n");
+        stop(2, "usage: plain PROFILE EVENTS [RECORDS], or plain tick PROFILE EVENTS\n");
     }
     static struct charging_node fresh, busy;
+    if (argc == 4 && strcmp(argv[1], "tick") == 0) {
+        fresh_node(argv[2], &fresh);
+        return tick(&fresh, load(argv[3]));
+    }
     fresh_node(argv[1], &fresh);
     size_t n = load(argv[2]);
     if (argc == 3) {

@@ -29,8 +29,8 @@ static int stamp_ok(struct charging_stamp t) { return t.seconds <= latest && t.z
 static void stamp_octets(struct charging_stamp t, uint8_t *o) {
     if (first[1] == 0) make_months();
     unsigned day = t.seconds / DAY, second = t.seconds % DAY;
-    unsigned month = day / 31; /* no month is longer */
-    while (month + 1 < MONTHS && first[month + 1] <= day) month++;
+    unsigned month = (day < 28 ? 0 : day - 28) * 16 / 487; /* in mean months of 30.4375 days: this month or the one before */
+    if (month + 1 < MONTHS && first[month + 1] <= day) month++;
     unsigned size = t.zone < 720 ? 720u - t.zone : t.zone - 720u;
     o[0] = bcd(month / 12);
     o[1] = bcd(month % 12 + 1);
