@@ -2,15 +2,16 @@
 use mathlib.Core.Path.{_≡_, refl}
 use mathlib.Core.Option.{Option, none, some}
 use mathlib.Core.List.{List}
-use Prim.Native.Nat.{ℕ, zero, suc}
-use lib.Dec.{leb}
+use Prim.Native.Nat.{ℕ, zero, suc, _^_, _<_}
+use native.Mathlib.Omega.{arith}
+use lib.Dec.{leb, le→leb}
 use Rattle.format.specs.Format.{Law}
 use Rattle.format.proofs.Formats.{refined-law}
 use Rattle.ber.specs.Int.{int, counted}
 use Rattle.ber.specs.Field.{optGood, maybe, unless0, orZero}
 use Rattle.ber.specs.Read.{Reads}
 use Rattle.ber.specs.Count.{counts}
-use Rattle.ber.proofs.Ints.{int-law}
+use Rattle.ber.proofs.Ints.{int-law, int-good}
 use Rattle.ber.proofs.Fields.{maybe-sound}
 use Rattle.ber.proofs.Readers.{reads-map, reads-back}
 
@@ -27,6 +28,10 @@ number-kept zero = refl
 number-kept (suc n) = refl
 
 module _ (t : ℕ) where
+  pub number-good : (n : ℕ) → n < 2 ^ 64 → optGood t counted (unless0 n)
+  number-good zero h = tt
+  number-good (suc n) h = (int-good (suc n) h, le→leb 1 (suc n) (omega arith))
+
   pub number-back : (o : Option ℕ) → optGood t counted o → unless0 (orZero o) ≡ o
   number-back none g = refl
   number-back (some zero) g = absurd (g .1)

@@ -3,16 +3,18 @@ use mathlib.Core.Path.{_≡_, refl, sym, ap, subst, _∙_}
 use mathlib.Core.Bool.{Bool, true, false, not, _&&_, _||_}
 use mathlib.Core.Option.{Option, none, some, Option·none-ne-some, Option·some-injective}
 use mathlib.Core.List.{List, [], _∷_, _++_, append-assoc}
-use Prim.Native.Nat.{ℕ, _≤_}
+use Prim.Native.Nat.{ℕ, _+_, _≤_}
 use native.Mathlib.Omega.{arith}
 use lib.Dec.{T, ltb, eqb}
-use lib.ListN.{length, drop}
+use lib.ListN.{length, drop, length-append}
 use borrow.Author.Tests.{eqb-true, eqb-false}
 use Rattle.format.specs.Maybe.{bind, guard}
 use Rattle.format.specs.Format.{Fmt, Law, mapped, refined}
 use Rattle.format.proofs.Tests.{by, either, and-l, and-r}
+use Rattle.ber.specs.Tlv.{tlvEnc, head}
 use Rattle.ber.specs.Field.{new, Avoids}
-use Rattle.ber.specs.Table.{Row, always, ifSet, ifAny, ifNew, Value, Values, row, layout, rowEnc, rowDec, tag, tags, among, distinct}
+use Rattle.ber.specs.Table.{Row, always, ifSet, ifAny, ifNew, Value, Values, row, layout, rowGood, rowEnc, rowDec, tag, tags, among, distinct}
+use Rattle.ber.proofs.Tlvs.{tlv-fits}
 use Rattle.ber.proofs.Fields.{Caps, field-law, end-law, optional-law, flag-law, unless-known-law, field-avoids, optional-avoids, flag-avoids}
 use Rattle.ber.proofs.Readers.{here-yes, here-no, Leaves, Got, Rest, rest-whole, rest-field, rest-flag, rest-mapped, rest-refined, end-yes, end-no}
 use Rattle.ber.proofs.Readers.{first-leaves, maybe-leaves, flagged-leaves}
@@ -153,3 +155,44 @@ layout-parts (r ∷ rs) qs v w =
     ∙ ap (λ (z : List ℕ). rowEnc r (v .0) ++ z) (layout-parts rs qs (v .1) w)
     ∙ sym (append-assoc (rowEnc r (v .0)) (layout rs .enc (v .1)) (layout qs .enc w))
     ∙ ap (λ (z : List ℕ). z ++ layout qs .enc w) (sym (row-enc r (layout rs) (v .0) (v .1)))
+
+-- ---- how long a layout gets, row by row: for values that the code may hold and that no law calls good
+
+abbrev pub RowFits : (r : Row) → Value r → Type 0
+RowFits (always t x) v = length (x .enc v) ≤ x .most
+RowFits (ifSet t c) v = Unit {0}
+RowFits (ifAny t x) none = Unit {0}
+RowFits (ifAny t x) (some v) = length (x .enc v) ≤ x .most
+RowFits (ifNew t x none) v = length (x .enc v) ≤ x .most
+RowFits (ifNew t x (some k)) v = Unit {0}
+
+-- what a lawful row takes fits it
+pub good-fits : (r : Row) (v : Value r) → RowLaw r → rowGood r v → RowFits r v
+good-fits (always t x) v l g = l .0 .fits v g
+good-fits (ifSet t c) v l g = tt
+good-fits (ifAny t x) none l g = tt
+good-fits (ifAny t x) (some v) l g = l .0 .fits v g
+good-fits (ifNew t x none) v l g = l .0 .fits v g
+good-fits (ifNew t x (some k)) v l g = tt
+
+abbrev pub RowsFit : (rs : List Row) → Values rs → Type 0
+RowsFit [] v = Unit {0}
+RowsFit (r ∷ rs) v = RowFits r (v .0) × RowsFit rs (v .1)
+
+pub layout-fits : (rs : List Row) (v : Values rs) → RowsFit rs v → length (layout rs .enc v) ≤ layout rs .most
+layout-fits [] v f = omega arith
+layout-fits (r ∷ rs) v (f, fs) = go r (v .0) f (layout-fits rs (v .1) fs)
+  where
+    under : (t : ℕ) (c : List ℕ) (m : ℕ) → length c ≤ m → length (layout rs .enc (v .1)) ≤ layout rs .most
+        → length (tlvEnc t c ++ layout rs .enc (v .1)) ≤ head m + m + layout rs .most
+    under t c m h l = omega (arith, length-append (tlvEnc t c) (layout rs .enc (v .1)), tlv-fits t c m h)
+
+    go : (r : Row) (w : Value r) → RowFits r w → length (layout rs .enc (v .1)) ≤ layout rs .most
+        → length (row r (layout rs) .enc (w, v .1)) ≤ row r (layout rs) .most
+    go (always t x) w h l = under t (x .enc w) (x .most) h l
+    go (ifSet t c) true h l = under t c (length c) (omega arith) l
+    go (ifSet t c) false h l = omega arith
+    go (ifAny t x) none h l = omega arith
+    go (ifAny t x) (some w) h l = under t (x .enc w) (x .most) h l
+    go (ifNew t x none) w h l = under t (x .enc w) (x .most) h l
+    go (ifNew t x (some k)) w h l = omega arith

@@ -3,26 +3,26 @@ use mathlib.Core.Path.{_≡_, refl, sym, ap, subst, _∙_}
 use mathlib.Core.Bool.{Bool, true, false, _&&_}
 use mathlib.Core.Option.{Option, none, some}
 use mathlib.Core.List.{List, [], _∷_}
-use Prim.Native.Nat.{ℕ, _-_, _≤_, _<_}
+use Prim.Native.Nat.{ℕ, _<_}
 use native.Mathlib.Omega.{arith}
 use lib.Dec.{T, eqb}
-use lib.ListN.{length, take, drop}
+use lib.ListN.{length}
 use borrow.Author.Tests.{le-leb}
 use Rattle.format.specs.Maybe.{guard}
 use Rattle.format.specs.Format.{mapped}
 use Rattle.format.proofs.Tests.{by, T-true, and-l}
 use Rattle.format.proofs.Maybe.{guard-yes}
-use Rattle.ber.specs.Tlv.{tlvEnc, tlvDec, tlvForm}
+use Rattle.ber.specs.Tlv.{tlvEnc, tlvDec}
 use Rattle.ber.specs.Field.{first, new}
 use Rattle.ber.specs.Table.{layout, rowEnc, rowDec, tag}
 use Rattle.ber.specs.Read.{nowhere, Reads}
 use Rattle.ber.specs.Private.Stay.{stay}
 use Rattle.ber.specs.Write.{Puts}
-use Rattle.ber.proofs.Tlvs.{tlv-yes}
 use Rattle.ber.proofs.Readers.{got, reads-some}
 use Rattle.ber.proofs.Tables.{row-leaves, Gets, table-yes, table-no}
-use Rattle.ber.proofs.Writers.{puts-is, puts-none, puts-nothing, wrote, wrote-then, wrote-none, filled}
-use Rattle.ber.specs.Private.Wrote.{Wrote}
+use Rattle.ber.proofs.Writers.{puts-nothing, wrote, wrote-then, wrote-none}
+use Rattle.ber.specs.Private.Filled.{Filled}
+use Rattle.ber.proofs.Ready.{filled-of}
 use Rattle.calendar.specs.declared.Stamp.{Stamp}
 use Rattle.calendar.specs.declared.StampRead.the-variants as S
 use Rattle.calendar.specs.Stamp.{stampRead, stampOk}
@@ -32,7 +32,6 @@ use Rattle.container.specs.Qos.{qosOk, sameQos, Reliability, Delay, Prec
 use Rattle.container.specs.Container.{containerOk, isNew, told, isTold, formed, QosAfter, Uplink, Downlink, Condition, Time, containerTable}
 use Rattle.container.specs.Container.{container, toContainer, ofContainer, noStamp}
 use Rattle.container.specs.Private.NewForm.{newForm}
-use Rattle.container.specs.Private.Filled.{Filled}
 use Rattle.container.proofs.Formats.{qos-law, qos-good, told-none, told-some, container-law, container-good, within}
 
 -- ---- answers of readers
@@ -136,22 +135,6 @@ unfolding container new first tlvDec
 container-hollow z = by (isNew z) (λ h. rw (told-none z h)) (λ h. rw (told-some z h))
 
 -- ---- written
-
--- what does not pass its test is not written
-pub puts-not : (t : Bool) (x : List ℕ) {b : List ℕ} {at : ℕ} → t ≡ false → Puts (guard t x) b b at nowhere
-puts-not t x h = puts-is (rw h) puts-none
-
--- the test passed, and the contents x were made ready as y
-pub ready : (t : Bool) (tag : ℕ) {x y : List ℕ} → t ≡ true → y ≡ x → length x < 65536 → tlvForm tag y ≡ guard t (tlvEnc tag x)
-ready t tag {x} {y} h e l = ap (tlvForm tag) e ∙ tlv-yes tag x l ∙ rw h
-
--- the front of an array holds what was written
-filled-of : {x b b′ : List ℕ} {m r : ℕ} → length b ≡ m → Wrote x b b′ 0 r → length x ≤ m → Filled x m b′ r
-filled-of e w h = let q = filled w (omega arith) in record { front = q .0; size = q .1; most = h; inside = q .2 }
-
--- the count of the octets that are lent is theirs
-pub filled-count : {x b : List ℕ} {m r : ℕ} → Filled x m b r → r ≡ length (take r b)
-filled-count f = f .size ∙ ap length (sym (f .front))
 
 -- five fields, one after another, in an array
 module _ (q : Qos) {b b₁ b₂ b₃ b₄ b₅ : List ℕ} {f g h i j : ℕ} (room : length b ≡ 15)

@@ -22,9 +22,8 @@ use Rattle.container.specs.Open.{used, opened, noOpen, reported, running
 use Rattle.container.specs.Open.{unusedOk, countOk, containersOk, volumeOk, soundOpen, blankOpen}
 use Rattle.container.specs.Private.Held.{heldOk}
 use Rattle.container.proofs.Formats.{same-qos}
-use Rattle.container.proofs.Stepwise.{blanks-are}
-use Rattle.container.proofs.Padded.{take-padded, padded-length}
-use Rattle.container.proofs.Opens.{below-left, volume-more, open-none, open-later, open-more, open-closes, open-since, padded-rest, padded-more}
+use Rattle.container.proofs.Padded.{blanks-are, take-padded, padded-length, padded-rest, padded-more}
+use Rattle.container.proofs.Opens.{below-left, volume-more, open-none, open-later, open-more, open-closes, open-since}
 
 -- ---- the rules one by one
 

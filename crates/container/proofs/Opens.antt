@@ -1,5 +1,4 @@
--- The containers of an open record: one more of them, the one that closes the record, what they leave of a limit, and the array that
--- holds them.
+-- The containers of an open record: one more of them, the one that closes the record, what they leave of a limit.
 use mathlib.Core.Path.{_≡_, refl, sym, ap, _∙_}
 use mathlib.Core.Bool.{Bool, true, false, not, _&&_, and-true, and-false, and-assoc}
 use mathlib.Core.List.{List, [], _∷_, _++_}
@@ -19,7 +18,6 @@ use Rattle.container.specs.List.{eachOk, lastAlone, oneOffset, inOrder, 
 use Rattle.container.specs.Open.{midway, timesTo, qosRun, openOk, volumeOf}
 use Rattle.container.specs.Private.Held.{heldOk}
 use Rattle.container.specs.Private.Stepwise.{precedes, looked}
-use Rattle.container.proofs.Stepwise.{blanks-are, are-blanks}
 
 -- ---- tests that pass together
 
@@ -192,25 +190,6 @@ module _ (z o : ℕ) (q : Qos) (now : ℕ) (cs : List Container) (h : openOk z o
           eq-eqb (c .condition) 2 k,
           eq-eqb (c .time .zone) z zone,
         )
-
--- ---- the array that holds them
-
-module _ (v : List Container) (n : ℕ) (size : length v ≡ 15) where
-  pub padded-used : n ≤ 15 → blanks (drop n v) ≡ true → v ≡ padded (take n v)
-  padded-used h b =
-      let t : length (take n v) ≡ n = length-take-le n v (omega arith) in
-      let m : length (drop n v) ≡ 15 - n = length-drop n v ∙ rw size in
-      rw t (sym (take-append-drop n v) ∙ ap (λ (l : List Container). take n v ++ l) (blanks-are (drop n v) b ∙ ap noContainers m))
-
-pub padded-rest : (cs : List Container) → blanks (drop (length cs) (padded cs)) ≡ true
-padded-rest cs = rw (drop-append-seam cs (noContainers (15 - length cs))) (are-blanks (15 - length cs))
-
-pub padded-more : (v : List Container) (n : ℕ) (c : Container) → length v ≡ 15 → n < 15 → blanks (drop n v) ≡ true → set v n c ≡ padded (take n v ++ (c ∷ []))
-unfolding blanks
-padded-more v n c size h b =
-    let w = both (isBlank (getD v n c)) (blanks (drop (suc n) v)) (rw (drop-cons v n c (omega arith)) at b) in
-    padded-used (set v n c) (suc n) (length-set v n c ∙ size) (omega arith) (rw (drop-set-lt (suc n) v n c (omega arith)) (w .1))
-    ∙ ap padded (take-suc-set v n c (omega arith))
 
 -- ---- the loops
 

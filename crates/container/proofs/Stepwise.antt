@@ -1,51 +1,40 @@
--- The rules of a list, tested one container after another: what the loops find, and that it is the rules of specs/List.antt; and
--- the places that are not used.
-use mathlib.Core.Path.{_≡_, refl, sym, ap, ap₂, _∙_}
+-- The rules of a list, tested one container after another: what the loops find, and that it is the rules of specs/List.antt.
+use mathlib.Core.Path.{_≡_, refl, sym, ap, _∙_}
 use mathlib.Core.Bool.{Bool, true, false, not, _&&_, Bool·beq}
 use mathlib.Core.List.{List, [], _∷_}
 use Prim.Native.Nat.{ℕ, zero, suc, _+_, _-_, _≤_, _<_}
-use native.Mathlib.Numerals.{add-one}
 use native.Mathlib.Omega.{arith}
-use lib.Dec.{leb, ltb, eqb, eqb→eq}
-use lib.ListN.{length, take, drop, getD, drop-of-length-le, length-drop}
-use lib.Seq.{drop-cons, getD-take, length-take-le}
+use lib.Dec.{leb, ltb, eqb}
+use lib.ListN.{length, take, drop, getD, length-drop}
+use lib.Seq.{getD-take, length-take-le}
 use borrow.Author.Tests.{le-leb, lt-leb}
 use Rattle.format.proofs.Tests.{by, T-true, true-T, and-l, and-r}
+use Rattle.format.proofs.Arrays.{front-cons, front-end}
 use Rattle.calendar.specs.declared.Stamp.{Stamp}
 use Rattle.container.specs.declared.Container.{Container}
-use Rattle.container.specs.Qos.{sameQos, noQos}
-use Rattle.container.specs.Container.{containerOk, noContainer}
-use Rattle.container.specs.List.{eachOk, lastAlone, oneOffset, inOrder, changes, qosRule, listOk, isBlank, blanks, noContainers}
+use Rattle.container.specs.Container.{containerOk}
+use Rattle.container.specs.List.{eachOk, lastAlone, oneOffset, inOrder, changes, qosRule, listOk}
 use Rattle.container.specs.Private.Stepwise.{stands, allStand, follows, allFollow, lastEnds}
-use Rattle.container.proofs.Formats.{same-qos}
 
 -- ---- the loops: one container more
 
 module _ (v : List Container) (n : ℕ) (r : n ≤ length v) where
-  front-cons : (i : ℕ) (d : Container) → i < n → drop i (take n v) ≡ getD v i d ∷ drop (i + 1) (take n v)
-  front-cons i d h =
-      drop-cons (take n v) i d (omega (arith, length-take-le n v r))
-      ∙ ap₂ {C = List Container} (λ c j. c ∷ drop j (take n v)) (getD-take n v i d h) (sym (add-one i))
-
-  front-end : (i : ℕ) → n ≤ i → drop i (take n v) ≡ []
-  front-end i h = drop-of-length-le (take n v) {i = i} (omega (arith, length-take-le n v r))
-
   module _ (z t i : ℕ) (d : Container) where
     stand-no : i < n → stands z t (getD v i d) ≡ false → false ≡ allStand z t (drop i (take n v))
     unfolding allStand
-    stand-no h e = rw (front-cons i d h, e)
+    stand-no h e = rw (front-cons v n r i d h, e)
 
     stand-more : i < n → stands z t (getD v i d) ≡ true → allStand z (getD v i d .time .seconds) (drop (i + 1) (take n v)) ≡ allStand z t (drop i (take n v))
     unfolding allStand
-    stand-more h e = rw (front-cons i d h, e)
+    stand-more h e = rw (front-cons v n r i d h, e)
 
   stand-end : (z t i : ℕ) → n ≤ i → true ≡ allStand z t (drop i (take n v))
   unfolding allStand
-  stand-end z t i h = rw (front-end i h)
+  stand-end z t i h = rw (front-end v n r i h)
 
   module _ (i : ℕ) (d e : Container) (h : i + 1 < n) where
     two : drop i (take n v) ≡ getD v i d ∷ getD v (i + 1) e ∷ drop (i + 1 + 1) (take n v)
-    two = front-cons i d (omega arith) ∙ ap {B = List Container} (λ l. getD v i d ∷ l) (front-cons (i + 1) e h)
+    two = front-cons v n r i d (omega arith) ∙ ap {B = List Container} (λ l. getD v i d ∷ l) (front-cons v n r (i + 1) e h)
 
     follow-no : follows (getD v i d) (getD v (i + 1) e) ≡ false → false ≡ allFollow (drop i (take n v))
     unfolding allFollow
@@ -53,7 +42,7 @@ module _ (v : List Container) (n : ℕ) (r : n ≤ length v) where
 
     follow-more : follows (getD v i d) (getD v (i + 1) e) ≡ true → allFollow (drop (i + 1) (take n v)) ≡ allFollow (drop i (take n v))
     unfolding allFollow
-    follow-more q = rw (two, front-cons (i + 1) e h, q)
+    follow-more q = rw (two, front-cons v n r (i + 1) e h, q)
 
   follow-end : (i : ℕ) → n ≤ i + 1 → true ≡ allFollow (drop i (take n v))
   unfolding allFollow
@@ -217,62 +206,3 @@ module _ (v : List Container) (n : ℕ) (opening : Stamp) (k : n ≤ 15) (r : n 
       and-true : (a l : Bool) → (a && l) ≡ (a && true && l)
       and-true true l = refl
       and-true false l = refl
-
--- ---- places that are not used
-
-module _ (v : List Container) (i : ℕ) (d : Container) (h : i < length v) where
-  rest-cons : drop i v ≡ getD v i d ∷ drop (i + 1) v
-  rest-cons = rw (add-one i, drop-cons v i d h)
-
-  pub blank-no : isBlank (getD v i d) ≡ false → false ≡ blanks (drop i v)
-  unfolding blanks
-  blank-no e = rw (rest-cons, e)
-
-  pub blank-more : isBlank (getD v i d) ≡ true → blanks (drop (i + 1) v) ≡ blanks (drop i v)
-  unfolding blanks
-  blank-more e = rw (rest-cons, e)
-
-pub blank-end : (v : List Container) (i : ℕ) → length v ≤ i → true ≡ blanks (drop i v)
-unfolding blanks
-blank-end v i h = rw (drop-of-length-le v h)
-
--- a container of which every field is zero is the blank one
-pub is-blank : (c : Container) → isBlank c ≡ true → c ≡ noContainer
-unfolding isBlank
-is-blank c h =
-    let t = true-T (isBlank c) h in
-    let a = sameQos (c .qos) noQos in
-    let u = eqb (c .uplink) 0 in
-    let w = eqb (c .downlink) 0 in
-    let k = eqb (c .condition) 0 in
-    let s = eqb (c .time .seconds) 0 in
-    let z = eqb (c .time .zone) 0 in
-    let t₁ = and-l (a && u && w && k && s) z t in
-    let t₂ = and-l (a && u && w && k) s t₁ in
-    let t₃ = and-l (a && u && w) k t₂ in
-    let t₄ = and-l (a && u) w t₃ in
-    let e₁ = same-qos (c .qos) noQos (T-true a (and-l a u t₄)) in
-    let e₂ = eqb→eq (c .uplink) 0 (and-r a u t₄) in
-    let e₃ = eqb→eq (c .downlink) 0 (and-r (a && u) w t₃) in
-    let e₄ = eqb→eq (c .condition) 0 (and-r (a && u && w) k t₂) in
-    let e₅ = eqb→eq (c .time .seconds) 0 (and-r (a && u && w && k) s t₁) in
-    let e₆ = eqb→eq (c .time .zone) 0 (and-r (a && u && w && k && s) z t) in
-    λ i. record { qos = e₁ i; uplink = e₂ i; downlink = e₃ i; condition = e₄ i; time = record { seconds = e₅ i; zone = e₆ i } }
-
-pub blank-is : isBlank noContainer ≡ true
-unfolding isBlank sameQos
-blank-is = refl
-
--- places are all blank where they hold as many blank containers
-pub blanks-are : (cs : List Container) → blanks cs ≡ true → cs ≡ noContainers (length cs)
-unfolding blanks noContainers
-blanks-are [] h = refl
-blanks-are (c ∷ cs) h =
-    let t = true-T (isBlank c && blanks cs) h in
-    ap₂ {C = List Container} (λ x l. x ∷ l) (is-blank c (T-true _ (and-l (isBlank c) (blanks cs) t)))
-    (blanks-are cs (T-true _ (and-r (isBlank c) (blanks cs) t)))
-
-pub are-blanks : (n : ℕ) → blanks (noContainers n) ≡ true
-unfolding blanks noContainers
-are-blanks zero = refl
-are-blanks (suc n) = rw (blank-is, are-blanks n)

@@ -1,5 +1,4 @@
 -- What only the private functions of this crate promise: no part of what a reader has to believe.
-pub mod Filled
 pub mod Held
 pub mod NewForm
 pub mod Stepwise

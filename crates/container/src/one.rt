@@ -20,7 +20,7 @@ ghost use Rattle.ber.specs.Write.{Puts};
 ghost use Rattle.container.specs.Qos.{noQos};
 ghost use Rattle.container.specs.Container.{containerOk, isNew, isTold, formed, containerTag, QosAfter, container, noContainer};
 ghost use Rattle.container.specs.Private.NewForm.{newForm};
-ghost use Rattle.container.specs.Private.Filled.{Filled};
+ghost use Rattle.ber.specs.Private.Filled.{Filled};
 
 // Is each value of a container as it must be?
 pub fn container_ok(c: Container) -> bool

@@ -12,7 +12,7 @@ ghost use Rattle.ber.specs.Field.{first};
 ghost use Rattle.ber.specs.Read.{Reads};
 ghost use Rattle.ber.specs.Write.{Puts};
 ghost use Rattle.container.specs.Qos.{qosOk, sameQos, qos, noQos};
-ghost use Rattle.container.specs.Private.Filled.{Filled};
+ghost use Rattle.ber.specs.Private.Filled.{Filled};
 
 // Is each of the five numbers in its range?
 pub fn qos_ok(q: Qos) -> bool

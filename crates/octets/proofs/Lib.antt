@@ -1,3 +1,4 @@
 pub mod Passed
 pub mod Stored
 pub mod Filled
+pub mod NameRules

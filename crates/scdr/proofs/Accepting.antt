@@ -7,17 +7,18 @@ use Prim.Native.Nat.{ℕ, zero, suc, _+_, _-_, _^_, _≤_, _<_}
 use native.Mathlib.Nat.{le-of-suc-le-suc}
 use native.Mathlib.Omega.{arith}
 use lib.Dec.{eqb, ltb→lt}
-use lib.ListN.{length, take, drop, getD, drop-of-length-le}
-use lib.Seq.{drop-cons, drop-drop}
+use lib.ListN.{length, take, drop}
+use lib.Seq.{drop-drop}
 use denote.Ref.{RefT, ptr, now}
-use Rattle.format.specs.Maybe.{bind, guard}
+use Rattle.format.specs.Maybe.{guard}
 use Rattle.format.specs.Format.{Law}
-use Rattle.format.proofs.Tests.{by, either, and-l, T-true, true-T}
+use Rattle.format.proofs.Tests.{by, and-l, T-true, true-T}
 use Rattle.ber.specs.Tlv.{tlvDec}
-use Rattle.ber.specs.Field.{first, end}
+use Rattle.ber.specs.Field.{first}
 use Rattle.ber.specs.Table.{rowGood}
 use Rattle.ber.specs.Read.{cut, Lies}
-use Rattle.ber.proofs.Places.{PartIs, part-is, by-part}
+use Rattle.ber.proofs.Places.{part-is, by-part}
+use Rattle.ber.proofs.Records.{alone-absent, alone-not-all, alone-all}
 use Rattle.container.specs.List.{containers}
 use Rattle.ber.proofs.Readers.{part-length}
 use Rattle.scdr.specs.declared.Record.{Record}
@@ -37,38 +38,9 @@ use Rattle.scdr.proofs.Answering.{shaped-is}
 
 -- ---- the value under A0
 
--- what was read before z counts where z is nothing
-abbrev closed : Option Record → List ℕ → Option Record
-closed o z = bind {A = Record × Unit {0}} (bind {A = Record × List ℕ} (bind o (λ r. some (r, z))) (λ q. bind (end .dec (q .1)) (λ b. some (q .0, b))))
-    (λ v. some (v .0))
-
-closed-end : (o : Option Record) → closed o [] ≡ o
-closed-end none = refl
-closed-end (some r) = refl
-
-closed-more : (o : Option Record) (x : ℕ) (z : List ℕ) → closed o (x ∷ z) ≡ none
-closed-more none x z = refl
-closed-more (some r) x z = refl
-
-below : (x y : ℕ) → x ≤ y → (x ≡ y → ⊥) → x < y
-below x y h n = either y x (λ j. absurd (n (omega arith))) (λ j. j)
-
-module _ (s : List ℕ) where
-  pub scdr-absent : tlvDec recordTag (drop 0 s) ≡ none → scdr .dec s ≡ none
-  unfolding scdr first
-  scdr-absent n = rw n
-
-  module _ {a e : ℕ} (p : PartIs s 0 recordTag a e) where
-    split : scdr .dec s ≡ closed (inside .dec (take (e - a) (drop a s))) (drop e s)
-    unfolding scdr first
-    split = rw (p .is)
-
-    pub scdr-whole : e ≡ length s → scdr .dec s ≡ inside .dec (take (e - a) (drop a s))
-    scdr-whole k = split ∙ rw (drop-of-length-le s {i = e} (omega arith)) (closed-end (inside .dec (take (e - a) (drop a s))))
-
-    pub scdr-after : (e ≡ length s → ⊥) → scdr .dec s ≡ none
-    scdr-after k = split ∙ rw (drop-cons s e 0 (below e (length s) (p .inside) k)) (closed-more (inside .dec (take (e - a) (drop a s))) (getD s e 0)
-        (drop (suc e) s))
+scdr-absent : (s : List ℕ) → tlvDec recordTag (drop 0 s) ≡ none → scdr .dec s ≡ none
+unfolding scdr
+scdr-absent s = alone-absent recordTag inside s
 
 -- empty contents are no record
 inside-hollow : inside .dec [] ≡ none
@@ -78,10 +50,12 @@ inside-hollow = refl
 -- what was answered of the value under A0
 module _ {s : List ℕ} {from to : ℕ} (l : Lies s 0 recordTag from to) where
   pub record-not : (to ≡ length s → ⊥) → scdr .dec s ≡ none
-  record-not n = by-part l (λ d _. scdr-absent s d) (λ p. scdr-after s p n)
+  unfolding scdr
+  record-not n = alone-not-all recordTag inside l n
 
   pub record-is : to ≡ length s → scdr .dec s ≡ inside .dec (cut (from, to) s)
-  record-is w = by-part l (λ d q. scdr-absent s d ∙ sym (ap (inside .dec) q ∙ inside-hollow)) (λ p. scdr-whole s p w)
+  unfolding scdr
+  record-is w = alone-all recordTag inside l inside-hollow w
 
 -- ---- what was read has the shape of a record
 

@@ -2,18 +2,19 @@
 use mathlib.Core.Path.{_≡_, sym, ap, _∙_}
 use mathlib.Core.Bool.{Bool, true, false, _&&_}
 use mathlib.Core.Option.{Option, some}
-use mathlib.Core.List.{List, _++_, append-nil}
-use Prim.Native.Nat.{ℕ, _+_, _^_, _≤_, _<_}
+use mathlib.Core.List.{List, append-nil}
+use Prim.Native.Nat.{ℕ, _^_, _≤_, _<_}
 use native.Mathlib.Omega.{arith}
 use lib.Dec.{T, leb, eqb}
 use lib.ListN.{length, take, drop}
-use borrow.Author.Tests.{le-leb, lt-leb, lt-ltb, eq-eqb}
-use Rattle.format.proofs.Tests.{by, either, true-T, and-i}
+use borrow.Author.Tests.{le-leb, lt-ltb, eq-eqb}
+use Rattle.format.proofs.Tests.{by, true-T, and-i}
 use Rattle.ber.specs.Imsi.{imsiOk}
 use Rattle.ber.specs.Tlv.{tlvEnc, tlvForm}
 use Rattle.ber.specs.Read.{nowhere}
-use Rattle.ber.specs.Write.{put, Puts}
+use Rattle.ber.specs.Write.{Puts}
 use Rattle.ber.proofs.Tlvs.{tlv-yes, tlv-length}
+use Rattle.ber.proofs.Records.{answer-outside, answer-full, answer-done}
 use Rattle.calendar.specs.Stamp.{stampOk}
 use Rattle.container.specs.List.{listOk, blanks}
 use Rattle.scdr.specs.declared.Record.{Record}
@@ -53,7 +54,7 @@ shaped-is r a b c d e f g h =
 
 pub writes-outside : (r : Record) (b : List ℕ) → within r ≡ false → Writes r b b 24 0
 unfolding writeOf
-writes-outside r b e = record { is = rw e }
+writes-outside r b e = record { is = answer-outside {x = scdr .enc r} e .is }
 
 pub octets-are : (r : Record) → tlvEnc recordTag (body .enc (ofRecord r)) ≡ scdr .enc r
 unfolding scdr inside
@@ -69,27 +70,12 @@ module _ (r : Record) (t : T (rules r)) where
 
   module _ (w : within r ≡ true) {b b′ : List ℕ} {n : ℕ} (p : Puts (some (scdr .enc r)) b b′ 0 n) where
     pub writes-full : n ≡ nowhere → Writes r b b′ 11 0
-    unfolding writeOf put
-    writes-full e =
-        either (length (scdr .enc r)) (length b)
-        (λ k. absurd (let q = ap (λ (z : List ℕ × ℕ). z .1) (rw (le-leb (0 + length (scdr .enc r)) (length b) (omega arith)) at (p .is)) in omega
-        (arith, at-most-1024 r t)))
-        (λ k. record {
-          is = rw (w, lt-leb (length (scdr .enc r)) (length b) k)
-              (λ i. (11, (0, rw (lt-leb (0 + length (scdr .enc r)) (length b) (omega arith)) at (p .is) i .0)));
-        })
+    unfolding writeOf
+    writes-full e = record { is = answer-full w p (omega (arith, at-most-1024 r t)) e .is }
 
     pub writes-done : (n ≡ nowhere → ⊥) → Writes r b b′ 0 n
-    unfolding writeOf put
-    writes-done e =
-        either (length (scdr .enc r)) (length b)
-        (λ k.
-        let q = rw (le-leb (0 + length (scdr .enc r)) (length b) (omega arith)) at (p .is) in
-        let z : 0 + length (scdr .enc r) ≡ length (scdr .enc r) = omega arith in
-        let m : n ≡ length (scdr .enc r) = ap (λ (y : List ℕ × ℕ). y .1) q ∙ z in
-        let l : b′ ≡ scdr .enc r ++ drop (length (scdr .enc r)) b = ap (λ (y : List ℕ × ℕ). y .0) q ∙ ap (λ (j : ℕ). scdr .enc r ++ drop j b) z in
-        record { is = rw (w, le-leb (length (scdr .enc r)) (length b) k) (λ i. (0, (m i, l i))) })
-        (λ k. absurd (e (ap (λ (y : List ℕ × ℕ). y .1) (rw (lt-leb (0 + length (scdr .enc r)) (length b) (omega arith)) at (p .is)))))
+    unfolding writeOf
+    writes-done e = record { is = answer-done w p e .is }
 
 -- ---- the size: what the writer answers where every record has room
 

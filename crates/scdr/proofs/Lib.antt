@@ -2,7 +2,6 @@ pub mod Views
 pub mod BodyLaw
 pub mod Theorems
 pub mod Demand2
-pub mod Listed
 pub mod Printed
 pub mod BodyParts
 pub mod Answering

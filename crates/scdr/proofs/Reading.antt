@@ -1,9 +1,9 @@
 -- Sixteen fields read one after another are the body.
-use mathlib.Core.Path.{_≡_, refl, sym, ap, _∙_}
+use mathlib.Core.Path.{_≡_, refl, sym}
 use mathlib.Core.Bool.{Bool, true, false}
-use mathlib.Core.Option.{Option, none, some}
-use mathlib.Core.List.{List, _++_}
-use Prim.Native.Nat.{ℕ, zero, suc, _-_, _<_}
+use mathlib.Core.Option.{none, some}
+use mathlib.Core.List.{List}
+use Prim.Native.Nat.{ℕ, _-_, _<_}
 use native.Mathlib.Omega.{arith}
 use lib.Dec.{eqb}
 use borrow.Author.Tests.{eqb-true, eqb-false}
@@ -16,7 +16,7 @@ use Rattle.ber.specs.Text.{text, Copies}
 use Rattle.ber.specs.Write.{zeros}
 use Rattle.ber.proofs.Readers.{Got, got, rest-whole}
 use Rattle.ber.proofs.Tables.{row-leaves, Gets, rows-yes, rows-no, rows-place, both, rows-then}
-use Rattle.ber.proofs.Texts.{copies-reads, copies-count, copies-buffer, text-reads}
+use Rattle.ber.proofs.Texts.{copies-reads, copies-count, copies-fill, text-reads}
 use Rattle.ber.proofs.Counts.{counts-maybe}
 use Rattle.calendar.specs.declared.Stamp.{Stamp}
 use Rattle.container.specs.declared.Container.{Container}
@@ -47,21 +47,6 @@ use Rattle.scdr.specs.Layout.{body, fieldsOf}
 use Rattle.scdr.specs.Private.Pieces.{NameEnds, Wired}
 use Rattle.scdr.proofs.Views.{made}
 use Rattle.scdr.proofs.Walks.{Finds, finds-rows, finds-here}
-
--- ---- buffers of zeros
-
-drop-replicate : (n m : ℕ) → drop {A = ℕ} n (replicate m 0) ≡ replicate (m - n) 0
-drop-replicate zero m = let e : m ≡ m - 0 = omega arith in ap {B = List ℕ} (λ k. replicate k 0) e
-drop-replicate (suc n) zero = let e : 0 ≡ 0 - suc n = omega arith in ap {B = List ℕ} (λ k. replicate k 0) e
-drop-replicate (suc n) (suc m) = let e : m - n ≡ suc m - suc n = omega arith in drop-replicate n m ∙ ap {B = List ℕ} (λ k. replicate k 0) e
-
--- what was copied to the front of m zeros fills up to all of them
-pub copied-fills : {p : List ℕ → Option (List ℕ × List ℕ)} {s : List ℕ} {at : ℕ} {b b′ : List ℕ} {n next : ℕ} (m : ℕ) → b ≡ replicate m 0
-    → Copies p s at b b′ n next → fillTo m 0 (take n b′) ≡ b′
-unfolding fillTo
-copied-fills {p} {s} {at} {b} {b′} {n} {next} m z c =
-    sym (copies-buffer c ∙ ap (λ (y : List ℕ). take n b′ ++ y) (ap (drop n) z ∙ drop-replicate n m ∙ ap {B = List ℕ} (λ k. replicate (m - k) 0)
-    (sym (copies-count c))))
 
 -- ---- the fields
 
@@ -171,15 +156,16 @@ module _ {s : List ℕ} (h : length s < nowhere) {p₁ p₂ p₃ p₄ p₅ p₆ 
 
   pub wired : apn₀ ≡ replicate 63 0 → nodeid₀ ≡ replicate 20 0
       → Wired s (record { cdr = recordOf; lasts = lasts; ok = eqb p₁₆ (length s); apnend = p₇ })
+  unfolding fillTo
   wired z y = record {
     yes = λ t. fields-yes (eqb-true p₁₆ (length s) t);
     no = λ t. fields-no (eqb-false p₁₆ (length s) t);
     back = made recordOf lasts (record {
-      apn = copied-fills 63 z rApn;
+      apn = copies-fill 63 z rApn;
       apnlen = copies-count rApn;
       list = sym (rContainers .rest);
       count = rContainers .count;
-      node = copied-fills 20 y rNodeId;
+      node = copies-fill 20 y rNodeId;
       nodelen = copies-count rNodeId;
     });
     apn = λ t. name-ends (eqb-true p₁₆ (length s) t);

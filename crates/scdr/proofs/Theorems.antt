@@ -16,6 +16,8 @@ use Rattle.format.proofs.Formats.{viewed-law, injective, refuses}
 use Rattle.ber.specs.Field.{unless0, unlessNone, _⨾_}
 use Rattle.ber.specs.Table.{ifSet, rowGood, tag}
 use Rattle.ber.proofs.Ints.{int-good}
+use Rattle.ber.proofs.Counts.{number-good}
+use Rattle.ber.proofs.Texts.{octets-good}
 use Rattle.ber.proofs.Fields.{Caps, alone-law}
 use Rattle.calendar.specs.declared.Stamp.{Stamp}
 use Rattle.calendar.specs.Stamp.{stampOk}
@@ -29,7 +31,8 @@ use Rattle.scdr.specs.Rules.{shaped, within, numberOk, lastTime, duratio
 use Rattle.scdr.specs.Table.{recordTag, Network, Change, Number, NodeId}
 use Rattle.scdr.specs.Layout.{body, ofRecord, fieldsOf, toRecord, durationRight, rules, inside, scdr}
 use Rattle.scdr.proofs.BodyLaw.{body-law}
-use Rattle.scdr.proofs.Views.{shape, withins, apn-rules, node-rules, places-rules, fields-back, record-back}
+use Rattle.octets.proofs.NameRules.{apn-rules, node-rules}
+use Rattle.scdr.proofs.Views.{shape, withins, places-rules, fields-back, record-back}
 
 -- ---- the rules of a list one by one, as far as the octets rest on them
 
@@ -87,14 +90,6 @@ number-most : (c n : ℕ) → T (numberOk c n) → n ≤ 10 ^ 15
 unfolding numberOk
 number-most c n t = leb→le n (10 ^ 15) (and-l (leb n (10 ^ 15)) _ t)
 
-number-good : (n : ℕ) → n ≤ 10 ^ 15 → rowGood Number (unless0 n)
-number-good zero h = tt
-number-good (suc n) h = (int-good (suc n) (omega arith), le→leb 1 (suc n) (omega arith))
-
-octets-good : (xs : List ℕ) → length xs ≤ 20 → rowGood NodeId (unlessNone xs)
-octets-good [] h = tt
-octets-good (x ∷ xs) h = (h, le→leb 1 (suc (length xs)) (omega arith))
-
 -- ---- the rules are what the format takes
 
 rules-body : (r : Record) → T (rules r) → body .good (ofRecord r)
@@ -123,8 +118,8 @@ rules-body r t =
     ⨾ int-good (durationFrom (r .opening .seconds) (take (r .count) (r .containers))) (omega arith)
     ⨾ flag-good (tag Change) (0xFF ∷ []) (r .change)
     ⨾ tt
-    ⨾ number-good (r .number) (number-most (r .cause) (r .number) (w .number))
-    ⨾ octets-good (take (r .nodelen) (r .nodeid)) (omega (arith, nodelen, n .most))
+    ⨾ number-good (tag Number) (r .number) (omega (arith, number-most (r .cause) (r .number) (w .number)))
+    ⨾ octets-good (tag NodeId) 20 (take (r .nodelen) (r .nodeid)) (omega (arith, nodelen, n .most))
     ⨾ tt
 
 -- a record is one that the format takes exactly where it is within the rules

@@ -14,18 +14,17 @@ use Rattle.ber.specs.Imsi.{imsiOk}
 use Rattle.ber.proofs.Counts.{number-back, number-kept}
 use Rattle.calendar.specs.Stamp.{stampOk}
 use Rattle.container.specs.List.{listOk, blanks, padded}
-use Rattle.container.proofs.Stepwise.{blanks-are}
 use Rattle.scdr.specs.declared.Record.{Record}
-use Rattle.octets.specs.Chars.{allOf, isZero, apnChar, nodeChar}
 use Rattle.octets.specs.Names.{apnOk, nodeOk}
 use Rattle.scdr.specs.Rules.{listRule, causeOk, numberOk, changeOk, shaped, within, duration, durationFrom}
 use Rattle.ber.specs.Text.{orNone}
 use Rattle.scdr.specs.Table.{Number, NodeId}
 use Rattle.octets.specs.Filled.{fillTo}
 use Rattle.scdr.specs.Layout.{Fields, body, ofRecord, fieldsOf, toRecord, durationRight, rules}
+use Rattle.octets.proofs.NameRules.{apn-rules, node-rules}
 use Rattle.octets.proofs.Filled.{take-fill, fill-take, zeros-are}
-use Rattle.container.proofs.Padded.{take-padded, padded-take}
-use Rattle.ber.proofs.Texts.{octets-back, octets-kept}
+use Rattle.container.proofs.Padded.{blanks-are, take-padded, padded-take}
+use Rattle.ber.proofs.Texts.{octets-back, none-kept}
 
 -- ---- the rules one by one
 
@@ -105,43 +104,6 @@ withins r t =
       node = and-r (a && b && c && d && e && f && g) h t;
     }
 
-pub record Apn (a : List ℕ) (n : ℕ) : Type 0 where
-  pub least : 1 ≤ n
-  pub most : n ≤ 63
-  pub chars : T (allOf apnChar (take n a))
-  pub rest : T (allOf isZero (drop n a))
-
-pub apn-rules : (a : List ℕ) (n : ℕ) → T (apnOk a n) → Apn a n
-unfolding apnOk
-apn-rules a n t =
-    let c = allOf apnChar (take n a) in
-    let z = allOf isZero (drop n a) in
-    let u = and-l (leb 1 n && leb n 63 && c) z t in
-    let v = and-l (leb 1 n && leb n 63) c u in
-    record {
-      least = leb→le 1 n (and-l (leb 1 n) (leb n 63) v);
-      most = leb→le n 63 (and-r (leb 1 n) (leb n 63) v);
-      chars = and-r (leb 1 n && leb n 63) c u;
-      rest = and-r (leb 1 n && leb n 63 && c) z t;
-    }
-
-pub record Node (a : List ℕ) (n : ℕ) : Type 0 where
-  pub most : n ≤ 20
-  pub chars : T (allOf nodeChar (take n a))
-  pub rest : T (allOf isZero (drop n a))
-
-pub node-rules : (a : List ℕ) (n : ℕ) → T (nodeOk a n) → Node a n
-unfolding nodeOk
-node-rules a n t =
-    let c = allOf nodeChar (take n a) in
-    let z = allOf isZero (drop n a) in
-    let u = and-l (leb n 20 && c) z t in
-    record {
-      most = leb→le n 20 (and-l (leb n 20) c u);
-      chars = and-r (leb n 20) c u;
-      rest = and-r (leb n 20 && c) z t;
-    }
-
 pub record Places (r : Record) : Type 0 where
   pub most : r .count ≤ 15
   pub list : T (listOk (r .opening) (take (r .count) (r .containers)))
@@ -188,7 +150,7 @@ pub record Made (r : Record) : Type 0 where
 pub made : (r : Record) (lasts : ℕ) → Made r → toRecord (fieldsOf r lasts) ≡ r
 unfolding fieldsOf toRecord
 made r lasts m =
-    let k = octets-kept (take (r .nodelen) (r .nodeid)) in
+    let k = none-kept (take (r .nodelen) (r .nodeid)) in
     let node = ap (fillTo 20 0) k ∙ m .node in
     let nodelen = ap length k ∙ m .nodelen in
     λ i. record {

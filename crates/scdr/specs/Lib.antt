@@ -4,5 +4,4 @@ pub mod Layout
 pub mod Sample
 pub mod Answers
 pub mod Apn
-pub mod List
 pub mod Private

@@ -1,50 +1,52 @@
 -- `container::list::list_of` meets its contract: a law for each answer. The loop's invariant: what was read so far and what is left
 -- are the whole.
-use mathlib.Core.Path.{refl}
+use mathlib.Core.Path.{refl, _∙_}
 use Prim.Native.Nat.{_-_}
 use native.Mathlib.Omega.{arith}
 use borrow.Author.Needs.{needs}
 use Rattle.ber.proofs.Readers.{got, first-leaves}
+use Rattle.ber.proofs.Runs.{SoFar, sofar-none, sofar-more, list-cut, list-long, list-few}
 use Rattle.container.specs.Container.{containerTag, container}
 use Rattle.container.specs.List.{noContainers}
-use Rattle.container.proofs.Lists.{SoFar, sofar-none, sofar-more, list-cut, list-long, list-empty, list-there, listed-none}
+use Rattle.container.proofs.Lists.{listing, list-is, list-there, listed-none}
 use Rattle.container.proofs.list.list_of.Statement.{statement}
 use Rattle.container.proofs.list.list_of.Tie as tie
 
 abbrev Inv-loop : tie.InvT-loop
-Inv-loop s v₀ n₀ at₀ last₀ v n at last = SoFar s v n at last
+Inv-loop s v₀ n₀ at₀ last₀ v n at last = SoFar listing s v n at last
 
 abbrev μ-loop : tie.MeasureT-loop
 μ-loop s v₀ n₀ at₀ last₀ v n at last = 15 - n
 
 loop-holds : tie.Need-loop-holds Inv-loop μ-loop
 unfolding noContainers
-loop-holds c = sofar-none (c .before .before .args .s .now) _ _ refl (rw (c .no-container .ensures)) (c .no-container .ensures)
+loop-holds c = sofar-none listing (c .before .before .args .s .now) _ _ refl (rw (c .no-container .ensures)) (c .no-container .ensures)
 
 returns : tie.Need-returns Inv-loop μ-loop
 returns c =
     let s = c .before .before .before .before .before .before .args .s .now in
-    listed-none s (list-long s (c .before .before .before .loop .inv) (c .before .before .loop-test .taken) (omega (arith, c .before .if1 .taken)))
-    (c .no-list .ensures)
+    listed-none s (list-is s ∙ list-long listing s 1 (c .before .before .before .loop .inv) (c .before .before .loop-test .taken)
+    (omega (arith, c .before .if1 .taken))) (c .no-list .ensures)
 
 loop-again : tie.Need-loop-again Inv-loop μ-loop
 loop-again c =
     let s = c .before .before .before .before .before .before .before .args .s .now in
     let l = c .before .before .before .before .loop in
-    sofar-more s (l .inv) (c .before .before .before .loop-test .taken) (c .before .before .if1 .left)
+    sofar-more listing s (l .inv) (c .before .before .before .loop-test .taken) (c .before .before .if1 .left)
     (got (first-leaves containerTag (container (l .last))) (omega (arith, c .before .before .before .before .before .before .before .good .0 .1))
     (c .before .container-at .ensures))
 
 returns-2 : tie.Need-returns-2 Inv-loop μ-loop
 returns-2 c =
     let s = c .before .before .before .before .before .before .args .s .now in
-    listed-none s (list-cut s (c .before .before .before .loop .inv) (omega (arith, c .before .before .loop-test .left, c .before .if2 .taken)))
-    (c .no-list2 .ensures)
+    listed-none s (list-is s ∙ list-cut listing s 1 (c .before .before .before .loop .inv)
+    (omega (arith, c .before .before .loop-test .left, c .before .if2 .taken))) (c .no-list2 .ensures)
 
 returns-3 : tie.Need-returns-3 Inv-loop μ-loop
 returns-3 c =
     let s = c .before .before .before .before .before .before .before .args .s .now in
-    listed-none s (list-empty s (c .before .before .before .before .loop .inv) (c .before .before .if2 .left) (c .before .if3 .taken)) (c .no-list3 .ensures)
+    listed-none s (list-is s ∙ list-few listing s 1 (c .before .before .before .before .loop .inv) (c .before .before .if2 .left) (c .before .if3 .taken))
+    (c .no-list3 .ensures)
 
 returns-4 : tie.Need-returns-4 Inv-loop μ-loop
 returns-4 c =

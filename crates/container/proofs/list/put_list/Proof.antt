@@ -8,15 +8,16 @@ use lib.Dec.{leb}
 use lib.ListN.{length, take}
 use borrow.Author.Needs.{needs}
 use Rattle.ber.proofs.Writers.{puts-is}
+use Rattle.ber.proofs.Runs.{Filling, filling-none, filling-room, filling-more, filling-bad, filling-ok, filling-all}
+use Rattle.ber.proofs.Ready.{puts-not, ready, filled-count}
 use Rattle.container.specs.Container.{noContainer}
-use Rattle.container.specs.List.{allFormed}
-use Rattle.container.proofs.Fields.{puts-not, ready, filled-count}
-use Rattle.container.proofs.Lists.{Filling, filling-none, filling-room, filling-more, filling-bad, filling-ok, filling-all, few, many, right}
+use Rattle.container.specs.List.{allFormed, containers}
+use Rattle.container.proofs.Lists.{listing, writing, few, many, right}
 use Rattle.container.proofs.list.put_list.Statement.{statement}
 use Rattle.container.proofs.list.put_list.Tie as tie
 
 abbrev Inv-loop : tie.InvT-loop
-Inv-loop out at tag n v list₀ i₀ end₀ last₀ list i end last = (i ≤ n) × Filling v i list₀ list end last
+Inv-loop out at tag n v list₀ i₀ end₀ last₀ list i end last = (i ≤ n) × Filling listing writing v i list₀ list end last
 
 abbrev μ-loop : tie.MeasureT-loop
 μ-loop out at tag n v list₀ i₀ end₀ last₀ list i end last = n - i
@@ -33,7 +34,7 @@ returns-2 c =
     (many (a .n) _ (omega (arith, c .before .if1 .left)) (c .if2 .taken))
 
 loop-holds : tie.Need-loop-holds Inv-loop μ-loop
-loop-holds c = (omega arith, filling-none (c .before .before .before .before .args .t4) _ _ refl (c .no-container .ensures))
+loop-holds c = (omega arith, filling-none listing writing (c .before .before .before .before .args .t4) _ _ refl (c .no-container .ensures))
 
 returns-3 : tie.Need-returns-3 Inv-loop μ-loop
 returns-3 c =
@@ -43,7 +44,7 @@ returns-3 c =
     puts-not (leb 1 (a .n) && leb (a .n) 15 && allFormed noContainer (take (a .n) (a .t4))) _
     (right (a .n) _ (omega (arith, c .before .before .before .before .before .before .before .before .before .if1 .left))
     (omega (arith, c .before .before .before .before .before .before .before .before .if2 .left))
-    ∙ filling-bad (l .inv .1) _ (omega (
+    ∙ filling-bad listing writing (l .inv .1) _ (omega (
       arith,
       c .before .before .before .before .before .loop-test .taken,
       c .before .before .before .before .before .before .before .before .if2 .left,
@@ -54,7 +55,7 @@ returns-3 c =
       c .before .before .before .before .before .before .before .before .if2 .left,
     )) (c .before .before .put-container .ensures) (a .n)
     (c .before .before .before .before .before .loop-test .taken)
-    (omega (arith, c .before .before .before .before .before .before .before .before .if2 .left)) (c .if3 .taken))
+    (omega (arith, c .before .before .before .before .before .before .before .before .if2 .left)) (omega arith) (c .if3 .taken))
 
 add-end : tie.Need-add-end Inv-loop μ-loop
 add-end c =
@@ -63,7 +64,7 @@ add-end c =
     let z : length (a .t4) ≡ 15 = search needs in
     omega (
       arith,
-      filling-room (l .inv .1) _ (omega (
+      filling-room listing writing (l .inv .1) _ (omega (
         arith,
         c .before .before .before .before .before .loop-test .taken,
         c .before .before .before .before .before .before .before .before .if2 .left,
@@ -81,7 +82,7 @@ loop-again c =
     let l = c .before .before .before .before .before .before .loop in
     let z : length (a .t4) ≡ 15 = search needs in (
       omega arith,
-      filling-more (l .inv .1) _ (omega (
+      filling-more listing writing (l .inv .1) _ (omega (
         arith,
         c .before .before .before .before .before .loop-test .taken,
         c .before .before .before .before .before .before .before .before .if2 .left,
@@ -94,7 +95,7 @@ loop-again c =
     )
 
 array-share-prefix-list : tie.Need-array-share-prefix-list Inv-loop μ-loop
-array-share-prefix-list c = omega (arith, c .before .before .loop .inv .1 .short, c .before .before .loop .inv .1 .room)
+array-share-prefix-list c = omega (arith, c .before .before .loop .inv .1 .short, c .before .before .loop .inv .1 .size)
 
 slice-aggregate-put-tlv : tie.Need-slice-aggregate-put-tlv Inv-loop μ-loop
 slice-aggregate-put-tlv c =
@@ -102,19 +103,20 @@ slice-aggregate-put-tlv c =
     let l = c .before .before .before .loop in
     let z : length (a .t4) ≡ 15 = search needs in
     let h : a .n ≤ 15 = omega (arith, c .before .before .before .before .before .if2 .left) in
-    filled-count (filling-all (l .inv .1) (a .n) (omega arith) (omega (arith, c .before .before .before .before .before .before .if1 .left)) h (omega arith))
+    filled-count (filling-all listing writing (l .inv .1) (a .n) (omega arith) h)
 
 returns-4 : tie.Need-returns-4 Inv-loop μ-loop
+unfolding containers
 returns-4 c =
     let a = c .before .before .before .before .before .before .before .before .before .before .before .args in
     let l = c .before .before .before .before .before .before .loop in
     let z : length (a .t4) ≡ 15 = search needs in
     let g : 1 ≤ a .n = omega (arith, c .before .before .before .before .before .before .before .before .before .if1 .left) in
     let h : a .n ≤ 15 = omega (arith, c .before .before .before .before .before .before .before .before .if2 .left) in
-    let f = filling-all (l .inv .1) (a .n) (omega arith) g h (omega arith) in
+    let f = filling-all listing writing (l .inv .1) (a .n) (omega arith) h in
     puts-is
     (ready (leb 1 (a .n) && leb (a .n) 15 && allFormed noContainer (take (a .n) (a .t4))) (a .tag)
-    (right (a .n) _ g h ∙ filling-ok (l .inv .1) (a .n) (omega arith)) (f .front) (omega (arith, f .most)))
+    (right (a .n) _ g h ∙ filling-ok listing writing (l .inv .1) (a .n) (omega arith)) (f .front) (omega (arith, f .most)))
     (c .before .before .put-tlv .ensures)
 
 pub put-list-spec : {M : Type 1} → statement M

@@ -5,8 +5,9 @@ use borrow.Author.Needs.{needs}
 use borrow.Author.Tests.{not-true, not-false}
 use Rattle.format.proofs.Tests.{true-T}
 use Rattle.ber.proofs.Writers.{puts-is}
+use Rattle.ber.proofs.Ready.{puts-not, ready, filled-count}
 use Rattle.container.specs.Container.{containerTag, formed}
-use Rattle.container.proofs.Fields.{puts-not, ready, filled-count, formed-yes, formed-bad, formed-untold}
+use Rattle.container.proofs.Fields.{formed-yes, formed-bad, formed-untold}
 use Rattle.container.proofs.one.put_container.Statement.{statement}
 use Rattle.container.proofs.one.put_container.Tie as tie
 

@@ -5,8 +5,8 @@ use borrow.Author.Needs.{needs}
 use borrow.Author.Tests.{not-true, not-false}
 use Rattle.format.proofs.Tests.{true-T}
 use Rattle.ber.proofs.Writers.{puts-is}
+use Rattle.ber.proofs.Ready.{puts-not, ready, filled-count}
 use Rattle.container.specs.Qos.{qosOk}
-use Rattle.container.proofs.Fields.{puts-not, ready, filled-count}
 use Rattle.container.proofs.qos_profile.put_qos.Statement.{statement}
 use Rattle.container.proofs.qos_profile.put_qos.Tie as tie
 

@@ -4,9 +4,9 @@ use native.Mathlib.Omega.{arith}
 use borrow.Author.Needs.{needs}
 use borrow.Author.Tests.{not-true, not-false}
 use Rattle.ber.proofs.Writers.{puts-is}
+use Rattle.ber.proofs.Ready.{puts-not, ready}
 use Rattle.calendar.specs.Stamp.{stampOk}
 use Rattle.calendar.proofs.Stamps.{length-stamp, stamped-form}
-use Rattle.container.proofs.Fields.{puts-not, ready}
 use Rattle.container.proofs.stamp.put_stamp.Statement.{statement}
 use Rattle.container.proofs.stamp.put_stamp.Tie as tie
 

@@ -12,7 +12,8 @@ use Rattle.scdr.specs.Rules.{duration}
 use Rattle.scdr.specs.Table.{NodeId}
 use Rattle.scdr.specs.Private.Parts.{endEnc}
 use Rattle.format.proofs.Arrays.{length-of-map}
-use Rattle.scdr.proofs.Views.{withins, apn-rules, node-rules}
+use Rattle.octets.proofs.NameRules.{apn-rules, node-rules}
+use Rattle.scdr.proofs.Views.{withins}
 use Rattle.scdr.proofs.Durations.{duration-is}
 use Rattle.scdr.proofs.BodyParts.{body-parts, count-known, list-form}
 use Rattle.scdr.proofs.body.put_body.Statement.{statement}
