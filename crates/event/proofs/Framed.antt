@@ -10,6 +10,7 @@ use borrow.Author.Tests.{leb-true}
 use Rattle.event.specs.Fields.{kindOf, countOf}
 use Rattle.event.specs.Kinds.{Kind, kinds, rowOf, theRow, wholeOf}
 use Rattle.event.specs.Kinds.{activateKind, trafficKind, qosKind, tariffKind, releaseKind, tickKind, managementKind, noKind}
+use Rattle.event.specs.Kinds.{attachKind, locationKind, subscriberKind, detachKind}
 use Rattle.event.specs.Rows.{known}
 use Rattle.event.specs.Framing.{nextLength}
 use Rattle.event.specs.Private.Entries.{entryOf}
@@ -63,8 +64,12 @@ sized s =
     let e = fixed releaseKind 16 (λ s. refl) (omega arith) (omega arith) in
     let f = fixed tickKind 7 (λ s. refl) (omega arith) (omega arith) in
     let g = fixed managementKind 15 (λ s. refl) (omega arith) (omega arith) in
+    let h = fixed attachKind 18 (λ s. refl) (omega arith) (omega arith) in
+    let i = fixed locationKind 18 (λ s. refl) (omega arith) (omega arith) in
+    let j = fixed subscriberKind 15 (λ s. refl) (omega arith) (omega arith) in
+    let k = fixed detachKind 16 (λ s. refl) (omega arith) (omega arith) in
     let z = fixed noKind 7 (λ s. refl) (omega arith) (omega arith) in
-    row-else Sized s (named, (b, (c, (d, (e, (f, (g, tt))))))) z
+    row-else Sized s (named, (b, (c, (d, (e, (f, (g, (h, (i, (j, (k, tt))))))))))) z
 
 -- never more than what is left
 pub next-within : (s : List ℕ) → nextLength s ≤ length s

@@ -1,11 +1,12 @@
 -- The number in k octets from a place on, octet by octet: one law for every k.
-use mathlib.Core.Path.{_≡_, ap, _∙_}
+use mathlib.Core.Path.{_≡_, refl, ap, _∙_}
 use mathlib.Core.List.{List, [], _∷_, _++_}
 use Prim.Native.Nat.{ℕ, zero, suc, _+_, _*_, _^_, _≤_, _<_}
 use native.Mathlib.Nat.{pow-le-pow-right}
 use native.Mathlib.Numerals.{add-one}
 use native.Mathlib.Omega.{arith}
-use lib.ListN.{getD}
+use lib.ListN.{length, getD, take, drop}
+use lib.Seq.{drop-cons}
 use Rattle.ber.specs.Int.{spelt, octetsFrom, numberIn}
 use Rattle.ber.proofs.Ints.{spelt-snoc}
 
@@ -20,6 +21,17 @@ pub number-more : (k at : ℕ) (s : List ℕ) → numberIn (suc k) at s ≡ numb
 unfolding numberIn
 number-more k at s = ap (spelt 0) (octets-snoc k at s) ∙ spelt-snoc 0 (octetsFrom k at s) (getD s (at + k) 0)
 
+octets-part : (k at : ℕ) (s : List ℕ) → at + k ≤ length s → take k (drop at s) ≡ octetsFrom k at s
+unfolding octetsFrom
+octets-part zero at s h = refl
+octets-part (suc k) at s h =
+    ap (take (suc k)) (drop-cons s at 0 (omega arith)) ∙ ap (λ (l : List ℕ). getD s at 0 ∷ l) (octets-part k (suc at) s (omega arith))
+
+-- the number that the part of k octets at a place spells
+pub number-part : (k at : ℕ) (s : List ℕ) → at + k ≤ length s → spelt 0 (take k (drop at s)) ≡ numberIn k at s
+unfolding numberIn
+number-part k at s h = ap (spelt 0) (octets-part k at s h)
+
 -- ---- as the code finds it
 
 -- n is the number in the first i of k octets
@@ -33,9 +45,9 @@ unfolding numberIn octetsFrom spelt
 spelling-none s at k = record { is = omega arith; below = omega arith; within = omega arith }
 
 module _ {s : List ℕ} {at k n i : ℕ} (w : Spelling s at k n i) where
-  -- there is room for one octet more, where that is the fourth at most
-  pub spelling-room : i < 4 → n < 2 ^ 24
-  spelling-room h = let p : 256 ^ i ≤ 256 ^ 3 = pow-le-pow-right {n = 256} (omega arith) {i = i} {j = 3} (omega arith) in omega (arith, w .below)
+  -- there is room for one octet more, where that is the eighth at most
+  pub spelling-room : i < 8 → n < 2 ^ 56
+  spelling-room h = let p : 256 ^ i ≤ 256 ^ 7 = pow-le-pow-right {n = 256} (omega arith) {i = i} {j = 7} (omega arith) in omega (arith, w .below)
 
   pub spelling-more : {x y : ℕ} → i < k → x ≡ y → y ≡ getD s (at + i) 0 → x < 256 → Spelling s at k (n * 256 + x) (i + 1)
   spelling-more h e q y =

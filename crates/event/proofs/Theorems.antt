@@ -4,16 +4,18 @@ use mathlib.Core.Bool.{Bool, true, not, _&&_}
 use mathlib.Core.List.{List, [], _∷_}
 use Prim.Native.Nat.{ℕ, _+_, _≤_}
 use native.Mathlib.Omega.{arith}
-use lib.Dec.{leb, ltb, eqb}
+use lib.Dec.{T, leb, ltb, eqb}
 use lib.ListN.{length, length-drop}
 use borrow.Author.Tests.{ltb-false, leb-true, eqb-true, not-false}
 use Rattle.format.proofs.Tests.{by, T-true, true-T, and-l, and-r}
 use Rattle.ber.specs.Imsi.{imsiOk}
-use Rattle.ber.specs.Int.{numberIn}
+use Rattle.ber.specs.Int.{spelt, numberIn, allOctets, lowest}
+use Rattle.ber.proofs.Fixeds.{spelt-back}
 use Rattle.container.specs.declared.Qos.{Qos}
 use Rattle.container.specs.Qos.{qosOk}
 use Rattle.octets.specs.Chars.{allOf, apnChar}
-use Rattle.event.specs.Fields.{release, kindOf, timeOf, qosAt, flagsOf, imsiOf, countOf, apnOf, activationOf, activateOk}
+use Rattle.event.specs.Fields.{kindOf, timeOf, qosAt, flagsOf, imsiOf, countOf, apnOf, causeOf, activationOf, activateOk, release}
+use Rattle.event.specs.Fields.{subscriberImsi, subscriberOf, lacOf, racOf, subscriberOk, detach}
 use Rattle.event.specs.Kinds.{Kind, kinds, wholeOf}
 use Rattle.event.specs.Rows.{row, firstFit, rows, marked, known, measured, fieldsOk}
 use Rattle.event.specs.Event.{eventOf, saidBy, decoded}
@@ -22,9 +24,10 @@ use Rattle.event.specs.declared.Activation.{Activation}
 use Rattle.event.specs.declared.Name.{Name}
 use Rattle.event.specs.declared.Event.{Event}
 use Rattle.event.specs.declared.Event.the-variants as E
-use Rattle.event.specs.declared.Event.the-variants.{Activate, Traffic, Tariff, Release, Tick, Management}
+use Rattle.event.specs.declared.Event.the-variants.{Activate, Traffic, Tariff, Release, Tick, Management, Attach, Location, ManageSubscriber, Detach}
 use Rattle.event.specs.declared.Decoded.the-variants.{Said, Refused}
 use Rattle.event.proofs.Firsts.{passed}
+use Rattle.event.proofs.Numbers.{number-part}
 use Rattle.event.proofs.Table.{known-is, Every, row-has}
 
 -- ---- both of two tests
@@ -45,7 +48,7 @@ pub record Heard (s : List ℕ) (t : ℕ) (e : Event) : Type 0 where
   pub mark : marked s ≡ true
   pub kind : known s ≡ true
   pub least : 1 ≤ kindOf s
-  pub most : kindOf s ≤ 7
+  pub most : kindOf s ≤ 11
   pub long : length s ≡ wholeOf s
   pub fields : fieldsOk s ≡ true
 
@@ -106,8 +109,8 @@ heard s {t} {e} h =
       head = c .head;
       mark = c .mark;
       kind = c .kind;
-      least = leb-true 1 k (and-left (leb 1 k) (leb k 7) n);
-      most = leb-true k 7 (and-right (leb 1 k) (leb k 7) n);
+      least = leb-true 1 k (and-left (leb 1 k) (leb k 11) n);
+      most = leb-true k 11 (and-right (leb 1 k) (leb k 11) n);
       long = eqb-true (length s) (wholeOf s) (c .long);
       fields = c .fields;
     }
@@ -139,6 +142,21 @@ activation-in s l h =
       size = omega (arith, length-drop 36 s);
     }
 
+-- ---- an attach
+
+-- what is known of it, of a subscriber k at l and r: an IMSI, which is the one that its number spells, and a place
+pub record Attached (s : List ℕ) (k l r : ℕ) : Type 0 where
+  pub long : length s ≡ 18
+  pub imsi : imsiOk (subscriberImsi s) ≡ true
+  pub name : spelt 0 (subscriberImsi s) ≡ subscriberOf s
+  pub key : k ≡ subscriberOf s
+  pub lac : l ≡ lacOf s
+  pub rac : r ≡ racOf s
+
+attached-in : (s : List ℕ) → length s ≡ 18 → subscriberOk s ≡ true → Attached s (subscriberOf s) (lacOf s) (racOf s)
+unfolding subscriberOk
+attached-in s l h = record { long = l; imsi = h; name = number-part 8 7 s (omega arith); key = refl; lac = refl; rac = refl }
+
 -- ---- of each kind
 
 -- what is known of what an event says
@@ -150,6 +168,10 @@ Fine s Tariff = Unit {0}
 Fine s (Release n c) = release c ≡ true
 Fine s Tick = Unit {0}
 Fine s (Management n) = Unit {0}
+Fine s (Attach m l r) = Attached s m l r
+Fine s (Location m l r) = (l ≡ lacOf s) × (r ≡ racOf s)
+Fine s (ManageSubscriber m) = Unit {0}
+Fine s (Detach m c) = detach c ≡ true
 
 -- of the row k
 abbrev FineBy : List ℕ → Kind → Type 0
@@ -160,8 +182,28 @@ unfolding eventOf wholeOf fieldsOk Every kinds
 fine s h =
     let x = heard s h in
     rw (x .event)
-    (row-has (FineBy s) s
-    (activation-in s, ((λ l i. (refl, refl)), ((λ l i. i), ((λ l i. tt), ((λ l i. i), ((λ l i. tt), ((λ l i. tt), tt)))))))
+    (row-has (FineBy s) s (
+      activation-in s,
+      (
+        (λ l i. (refl, refl)),
+        (
+          (λ l i. i),
+          (
+            (λ l i. tt),
+            (
+              (λ l i. i),
+              (
+                (λ l i. tt),
+                (
+                  (λ l i. tt),
+                  ((λ l i. attached-in s l i), ((λ l i. (refl, refl)), ((λ l i. tt), ((λ l i. and-right (subscriberOk s) (detach (causeOf s)) i), tt)))),
+                ),
+              ),
+            ),
+          ),
+        ),
+      ),
+    )
     (x .kind) (x .long) (x .fields))
 
 pub activated : (s : List ℕ) {t : ℕ} {a : Activation} → decoded s ≡ Said t (Activate a) → Activated s a
@@ -178,3 +220,22 @@ qos-changed s h = fine s h
 -- a release has cause 0, 4 or 18
 pub released : (s : List ℕ) {t : ℕ} {n : Name} {c : ℕ} → decoded s ≡ Said t (Release n c) → release c ≡ true
 released s h = fine s h
+
+-- an attach has an IMSI
+pub attached : (s : List ℕ) {t m l r : ℕ} → decoded s ≡ Said t (Attach m l r) → Attached s m l r
+attached s h = fine s h
+
+-- a location change says the place that stands there
+pub located : (s : List ℕ) {t m l r : ℕ} → decoded s ≡ Said t (Location m l r) → (l ≡ lacOf s) × (r ≡ racOf s)
+located s h = fine s h
+
+-- a detach has cause 0 or 4
+pub detached : (s : List ℕ) {t m c : ℕ} → decoded s ≡ Said t (Detach m c) → detach c ≡ true
+detached s h = fine s h
+
+-- ---- the name of a subscriber
+
+-- eight octets spell a number that no other eight spell
+pub one-imsi : (a b : List ℕ) → length a ≡ 8 → length b ≡ 8 → T (allOctets a) → T (allOctets b) → spelt 0 a ≡ spelt 0 b → a ≡ b
+one-imsi a b k l s t e =
+    sym (spelt-back a s .0) ∙ (λ i. lowest ((k ∙ sym l) i) (e i)) ∙ spelt-back b t .0

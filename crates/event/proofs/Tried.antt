@@ -1,16 +1,16 @@
 -- The refusals in their order, by what the code finds.
-use mathlib.Core.Path.{_≡_, refl, sym, _∙_}
+use mathlib.Core.Path.{_≡_, refl, sym, ap, _∙_}
 use mathlib.Core.Bool.{Bool, true, false, not, _&&_}
 use mathlib.Core.List.{List}
 use Prim.Native.Nat.{ℕ, _≤_, _<_}
 use native.Mathlib.Omega.{arith}
 use lib.Dec.{leb, eqb}
-use lib.ListN.{length, List·getD-eq-default}
-use borrow.Author.Tests.{lt-ltb, le-ltb, lt-leb, not-true, not-false}
-use Rattle.ber.specs.Imsi.{imsiRoom}
+use lib.ListN.{length, drop, length-append, length-drop, take-append-drop, List·getD-eq-default}
+use borrow.Author.Tests.{lt-ltb, le-ltb, lt-leb, ne-eqb, not-true, not-false}
+use Rattle.ber.specs.Imsi.{imsiOk, imsiRoom}
 use Rattle.container.specs.Qos.{qosOk}
 use Rattle.octets.specs.Chars.{allOf, apnChar}
-use Rattle.event.specs.Fields.{qosAt, flagsOf, imsiOf, countOf, apnOf, activateOk}
+use Rattle.event.specs.Fields.{subscriberImsi, subscriberOk, qosAt, flagsOf, imsiOf, countOf, apnOf, activateOk}
 use Rattle.ber.proofs.Imsis.{imsi-room}
 use Rattle.event.specs.Rows.{firstFit, rows, marked, known, measured, fieldsOk}
 
@@ -39,6 +39,22 @@ pub activate-is : (s : List ℕ) {f d n : ℕ} {q a : Bool} → f ≡ flagsOf s 
     → a ≡ allOf apnChar (apnOf s) → (leb f 3 && not (eqb d 0) && q && leb 1 n && leb n 63 && a) ≡ activateOk s
 unfolding activateOk
 activate-is s p e u v w = rw (p, e, u, v, w, imsi-room (imsiOf s))
+
+-- ---- a subscriber's IMSI
+
+pub subscriber-short : (s : List ℕ) → length s < 15 → false ≡ subscriberOk s
+unfolding subscriberOk imsiOk
+subscriber-short s h =
+    rw (ne-eqb (length (subscriberImsi s)) 8 (λ e. omega (
+      arith,
+      ap length (take-append-drop 8 (drop 7 s)),
+      length-append (subscriberImsi s) (drop 8 (drop 7 s)),
+      length-drop 7 s,
+    )))
+
+pub subscriber-is : (s : List ℕ) {d : ℕ} → d ≡ imsiRoom (subscriberImsi s) → not (eqb d 0) ≡ subscriberOk s
+unfolding subscriberOk
+subscriber-is s e = rw (e, imsi-room (subscriberImsi s))
 
 -- ---- one row after another
 

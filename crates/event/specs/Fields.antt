@@ -63,9 +63,24 @@ activationOf s =
       apnlen = countOf s;
     }
 
--- a release after its name: cause 1
+-- a release after its name, and a detach after its IMSI: cause 1
 abbrev pub causeOf : List ℕ → ℕ
 causeOf s = getD s 15 0
+
+-- Kinds 8 to 11 (02, W4) name a subscriber by its IMSI: eight octets, and the number that they spell, which is its name. (Eight octets spell a number
+-- that no other eight spell: `one-imsi` of proofs/Theorems.antt.)
+abbrev pub subscriberImsi : List ℕ → List ℕ
+subscriberImsi s = take 8 (drop 7 s)
+
+abbrev pub subscriberOf : List ℕ → ℕ
+subscriberOf s = numberIn 8 7 s
+
+-- an attach and a location change after the IMSI: LAC 2, RAC 1
+abbrev pub lacOf : List ℕ → ℕ
+lacOf s = numberIn 2 15 s
+
+abbrev pub racOf : List ℕ → ℕ
+racOf s = getD s 17 0
 
 -- ---- what is in range
 
@@ -82,3 +97,11 @@ activateOk s =
 -- a release has cause 0, 4 or 18
 unfoldable pub release : ℕ → Bool
 release c = eqb c 0 || eqb c 4 || eqb c 18
+
+-- kinds 8 to 11: an IMSI. "LAC and RAC are any."
+unfoldable pub subscriberOk : List ℕ → Bool
+subscriberOk s = imsiOk (subscriberImsi s)
+
+-- a detach has cause 0 or 4
+unfoldable pub detach : ℕ → Bool
+detach c = eqb c 0 || eqb c 4

@@ -1,5 +1,5 @@
 -- The kinds of event: 01's table, a row a kind.
-use mathlib.Core.Bool.{Bool, true, false, cond}
+use mathlib.Core.Bool.{Bool, true, false, cond, _&&_}
 use mathlib.Core.List.{List, [], _∷_}
 use mathlib.Core.Option.{Option, none, some}
 use Prim.Native.Nat.{ℕ, _+_}
@@ -7,8 +7,9 @@ use lib.Dec.{eqb}
 use Rattle.ber.specs.Int.{numberIn}
 use Rattle.container.specs.Qos.{qosOk}
 use Rattle.event.specs.Fields.{kindOf, nameOf, qosAt, activationOf, countOf, causeOf, activateOk, release}
+use Rattle.event.specs.Fields.{subscriberOf, lacOf, racOf, subscriberOk, detach}
 use Rattle.event.specs.declared.Event.{Event}
-use Rattle.event.specs.declared.Event.the-variants.{Activate, Traffic, Qos, Tariff, Release, Tick, Management}
+use Rattle.event.specs.declared.Event.the-variants.{Activate, Traffic, Qos, Tariff, Release, Tick, Management, Attach, Location, ManageSubscriber, Detach}
 
 -- A row: the kind's number; of an event's octets, whatever they are, how long such an event is as a whole, whether its fields are in
 -- range, and what it says.
@@ -47,9 +48,27 @@ tickKind = record { number = 6; whole = λ s. 7; inRange = λ s. true; says = λ
 abbrev pub managementKind : Kind
 managementKind = record { number = 7; whole = λ s. 15; inRange = λ s. true; says = λ s. Management (nameOf s) }
 
+-- 02, W4: "8 attach | IMSI 8, LAC 2, RAC 1 | 18"
+abbrev pub attachKind : Kind
+attachKind = record { number = 8; whole = λ s. 18; inRange = λ s. subscriberOk s; says = λ s. Attach (subscriberOf s) (lacOf s) (racOf s) }
+
+-- "9 location change | IMSI 8, LAC 2, RAC 1 | 18"
+abbrev pub locationKind : Kind
+locationKind = record { number = 9; whole = λ s. 18; inRange = λ s. subscriberOk s; says = λ s. Location (subscriberOf s) (lacOf s) (racOf s) }
+
+-- "10 management of a subscriber | IMSI 8 | 15"
+abbrev pub subscriberKind : Kind
+subscriberKind = record { number = 10; whole = λ s. 15; inRange = λ s. subscriberOk s; says = λ s. ManageSubscriber (subscriberOf s) }
+
+-- "11 detach | IMSI 8, cause 1 | 16"
+abbrev pub detachKind : Kind
+detachKind = record { number = 11; whole = λ s. 16; inRange = λ s. subscriberOk s && detach (causeOf s); says = λ s. Detach (subscriberOf s) (causeOf s) }
+
 -- the table
 unfoldable pub kinds : List Kind
-kinds = activateKind ∷ trafficKind ∷ qosKind ∷ tariffKind ∷ releaseKind ∷ tickKind ∷ managementKind ∷ []
+kinds =
+    activateKind ∷ trafficKind ∷ qosKind ∷ tariffKind ∷ releaseKind ∷ tickKind ∷ managementKind
+    ∷ attachKind ∷ locationKind ∷ subscriberKind ∷ detachKind ∷ []
 
 -- ---- looked up
 

@@ -9,7 +9,7 @@ use octets::chars;
 use octets::chars::Class;
 ghost use mathlib.Core.Path.{_≡_};
 ghost use Prim.Native.Nat.{_<_};
-ghost use Rattle.event.specs.Fields.{nameOf, qosAt, activationOf, activateOk, release};
+ghost use Rattle.event.specs.Fields.{nameOf, qosAt, activationOf, activateOk, release, subscriberOk, detach};
 ghost use Rattle.event.specs.Rows.{marked};
 
 // The mark C3 5E.
@@ -89,4 +89,21 @@ pub fn is_release(cause: u8) -> bool
     ensures { λ r. ⌜ r ≡ release cause ⌝ }
 {
     (cause == 0) | (cause == 4) | (cause == 18)
+}
+
+// The IMSI of a subscriber. An event under 15 octets has none.
+pub fn subscriber_ok(s: &[u8]) -> bool
+    ensures { λ r. ⌜ r ≡ subscriberOk (now (s .entry)) ⌝ }
+{
+    if s.len() < 15 {
+        return false;
+    }
+    imsi::imsi_size(&s[7..15]) != 0
+}
+
+// A detach has cause 0 or 4.
+pub fn is_detach(cause: u8) -> bool
+    ensures { λ r. ⌜ r ≡ detach cause ⌝ }
+{
+    (cause == 0) | (cause == 4)
 }

@@ -6,6 +6,7 @@ use container::qos_profile;
 ghost use mathlib.Core.Path.{_≡_};
 ghost use mathlib.Core.Bool.{true, false};
 ghost use Rattle.event.specs.Kinds.{activateKind, trafficKind, qosKind, tariffKind, releaseKind, tickKind, managementKind, noKind};
+ghost use Rattle.event.specs.Kinds.{attachKind, locationKind, subscriberKind, detachKind};
 ghost use Rattle.event.specs.Private.Entries.{entryBy, entryOf};
 
 // What the table says of an event's octets, whatever they are: that a kind has their number, how long such an event is as a whole, whether its
@@ -106,6 +107,59 @@ fn management(s: &[u8]) -> Entry
     }
 }
 
+fn attach(s: &[u8]) -> Entry
+    ensures { λ r. ⌜ r ≡ entryBy true attachKind (now (s .entry)) ⌝ }
+{
+    let imsi = number::eight(s, 7);
+    let lac = number::two(s, 15);
+    let rac = octets::octet(s, 17);
+    Entry {
+        known: true,
+        whole: 18,
+        right: fields::subscriber_ok(s),
+        event: Event::Attach(imsi, lac, rac),
+    }
+}
+
+fn location(s: &[u8]) -> Entry
+    ensures { λ r. ⌜ r ≡ entryBy true locationKind (now (s .entry)) ⌝ }
+{
+    let imsi = number::eight(s, 7);
+    let lac = number::two(s, 15);
+    let rac = octets::octet(s, 17);
+    Entry {
+        known: true,
+        whole: 18,
+        right: fields::subscriber_ok(s),
+        event: Event::Location(imsi, lac, rac),
+    }
+}
+
+fn subscriber(s: &[u8]) -> Entry
+    ensures { λ r. ⌜ r ≡ entryBy true subscriberKind (now (s .entry)) ⌝ }
+{
+    let imsi = number::eight(s, 7);
+    Entry {
+        known: true,
+        whole: 15,
+        right: fields::subscriber_ok(s),
+        event: Event::ManageSubscriber(imsi),
+    }
+}
+
+fn detach(s: &[u8]) -> Entry
+    ensures { λ r. ⌜ r ≡ entryBy true detachKind (now (s .entry)) ⌝ }
+{
+    let imsi = number::eight(s, 7);
+    let cause = octets::octet(s, 15);
+    Entry {
+        known: true,
+        whole: 16,
+        right: fields::subscriber_ok(s) & fields::is_detach(cause),
+        event: Event::Detach(imsi, cause),
+    }
+}
+
 // Octets of no kind.
 fn unknown(s: &[u8]) -> Entry
     ensures { λ r. ⌜ r ≡ entryBy false noKind (now (s .entry)) ⌝ }
@@ -130,6 +184,10 @@ pub fn entry_of(s: &[u8]) -> Entry
         5 => return release(s),
         6 => return tick(s),
         7 => return management(s),
+        8 => return attach(s),
+        9 => return location(s),
+        10 => return subscriber(s),
+        11 => return detach(s),
         _ => return unknown(s),
     }
 }

@@ -1,5 +1,5 @@
 // An event's octets decoded: what an event says, or the number of the first refusal that fits. The time's range is the node's to
-// look at, and so is what a context has to do with the event.
+// look at, and so is what a context or a subscriber has to do with the event. (The IMSI of kinds 8 to 11 is octets 7 to 14 of the event.)
 //
 // number has numbers at a place, fields where each field stands and what is in range, kinds the table of kinds, framing where an event
 // ends in a file of them. One kind more is a case of `Event` here, a row of specs/Kinds.antt, and in kinds a line of `entry_of` with its
@@ -45,6 +45,14 @@ pub enum Event {
     Release(Name, u8),
     Tick,
     Management(Name),
+    // a subscriber, by the number that its IMSI spells, attaches at a place: its location area code, its routing area code
+    Attach(u64, u16, u8),
+    // it moved to a place
+    Location(u64, u16, u8),
+    // management of a subscriber
+    ManageSubscriber(u64),
+    // the cause
+    Detach(u64, u8),
 }
 
 // The time and the event, or the number of the first refusal that fits.

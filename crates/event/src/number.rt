@@ -3,10 +3,10 @@ ghost use mathlib.Core.Path.{_≡_};
 ghost use Prim.Native.Nat.{_^_, _≤_, _<_};
 ghost use Rattle.ber.specs.Int.{numberIn};
 
-pub fn wide(x: u8) -> u32
+pub fn wide(x: u8) -> u64
     ensures { λ r. ⌜ (r ≡ x) × (r < 256) ⌝ }
 {
-    x as u32
+    x as u64
 }
 
 pub fn size(x: u8) -> usize
@@ -16,11 +16,11 @@ pub fn size(x: u8) -> usize
 }
 
 // The number in k octets.
-fn number_in(s: &[u8], at: usize, k: usize) -> u32
-    requires { ⌜ (at < 256) × (k ≤ 4) ⌝ }
+fn number_in(s: &[u8], at: usize, k: usize) -> u64
+    requires { ⌜ (at < 256) × (k ≤ 8) ⌝ }
     ensures { λ r. ⌜ (r ≡ numberIn k at (now (s .entry))) × (r < 256 ^ k) ⌝ }
 {
-    let mut n: u32 = 0;
+    let mut n: u64 = 0;
     let mut i: usize = 0;
     while i < k {
         n = n * 256 + wide(octets::octet(s, at + i));
@@ -40,5 +40,12 @@ pub fn four(s: &[u8], at: usize) -> u32
     requires { ⌜ at < 256 ⌝ }
     ensures { λ r. ⌜ r ≡ numberIn 4 at (now (s .entry)) ⌝ }
 {
-    number_in(s, at, 4)
+    number_in(s, at, 4) as u32
+}
+
+pub fn eight(s: &[u8], at: usize) -> u64
+    requires { ⌜ at < 256 ⌝ }
+    ensures { λ r. ⌜ r ≡ numberIn 8 at (now (s .entry)) ⌝ }
+{
+    number_in(s, at, 8)
 }

@@ -7,4 +7,4 @@ returns : tie.Need-returns
 returns c = c .number-in .ensures .0
 
 pub four-spec : {M : Type 1} → statement M
-four-spec = tie.close (tie.spec (λ c. search needs) returns)
+four-spec = tie.close (tie.spec (λ c. search needs) (λ c. search needs) returns)
