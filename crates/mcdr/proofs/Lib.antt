@@ -1,0 +1,16 @@
+pub mod Formats
+pub mod Padded
+pub mod Order
+pub mod Closings
+pub mod ChangeFields
+pub mod Lists
+pub mod BodyLaw
+pub mod Views
+pub mod Theorems
+pub mod Demand2
+pub mod BodyParts
+pub mod Answering
+pub mod Reading
+pub mod Accepting
+pub mod Printed
+pub mod Fixes
