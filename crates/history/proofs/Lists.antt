@@ -1,11 +1,11 @@
 -- Laws of lists and of what may be missing.
-use Prim.Native.Nat.{ℕ, _+_, _≤_}
+use Prim.Native.Nat.{ℕ, zero, suc, _+_, _≤_, _<_}
 use mathlib.Core.Path.{_≡_, refl, ap}
 use mathlib.Core.Bool.{Bool, true, false, not, cond, _&&_, false≢true}
 use mathlib.Core.List.{List, [], _∷_, _++_, map, append-assoc, append-nil}
 use mathlib.Core.Option.{Option, none, some}
 use native.Mathlib.Omega.{arith}
-use lib.ListN.{length, length-append}
+use lib.ListN.{length, getD, length-append}
 use Rattle.history.specs.Lists.{each, sumOf, All, ifAny, count, NotFalling}
 
 pub each-append : {A B : Type 0} (f : A → List B) (a b : List A) → each f (a ++ b) ≡ each f a ++ each f b
@@ -94,6 +94,11 @@ all-map P Q f (x ∷ xs) p = (f x (p .0), all-map P Q f xs (p .1))
 pub all-of-map : {A B : Type 0} (P : A → Type 0) (Q : B → Type 0) (f : A → B) → ((a : A) → P a → Q (f a)) → (xs : List A) → All P xs → All Q (map f xs)
 all-of-map P Q f g [] p = tt
 all-of-map P Q f g (x ∷ xs) p = (g x (p .0), all-of-map P Q f g xs (p .1))
+
+pub all-at : {A : Type 0} (P : A → Type 0) (xs : List A) → All P xs → (i : ℕ) (d : A) → i < length xs → P (getD xs i d)
+all-at P [] a i d h = absurd (omega arith)
+all-at P (x ∷ xs) a zero d h = a .0
+all-at P (x ∷ xs) a (suc i) d h = all-at P xs (a .1) i d (omega arith)
 
 pub all-both : {A : Type 0} (P Q : A → Type 0) (xs : List A) → All P xs → All Q xs → All (λ a. P a × Q a) xs
 all-both P Q [] p q = tt

@@ -114,6 +114,10 @@ pub first-below : {A : Type 0} {q : A → Bool} {l : List A} {i : ℕ} → First
 first-below (here e) = omega arith
 first-below (there e f) = omega (arith, first-below f)
 
+pub first-passes : {A : Type 0} {q : A → Bool} {l : List A} {i : ℕ} → First q l i → (d : A) → q (getD l i d) ≡ true
+first-passes (here e) d = e
+first-passes (there e f) d = first-passes f d
+
 module _ {A : Type 0} (p : A → Bool) where
   record FirstAt (k j : ℕ) (l : List A) : Type 0 where
     i : ℕ

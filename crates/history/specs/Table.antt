@@ -1,7 +1,7 @@
 -- A node's table of slots for one kind of subject, and what accepted events do to it: a named event is heard by the subject of
 -- that name, some events by all of them in slot order, an activation fills the lowest free slot, a release frees its slot.
 use Prim.Native.Nat.{ℕ}
-use mathlib.Core.Bool.{Bool, true, false, cond, _||_}
+use mathlib.Core.Bool.{Bool, true, false, not, cond, _||_}
 use mathlib.Core.List.{List, [], _∷_, _++_}
 use mathlib.Core.Option.{Option, none, some}
 use Rattle.history.specs.Log.{Accepted, Said, activates, tells, tellsAll, nothing}
@@ -39,6 +39,25 @@ module _ {G N S E W C B : Type 0} (K : Handling G N S E W C B) where
   active n [] = false
   active n (none ∷ os) = active n os
   active n (some c ∷ os) = K .same n (K .name c) || active n os
+
+  -- of what an event says: it is for a name that is not active; it activates a name that is active; it activates one, and no slot is free
+  unfoldable pub notActive : Said G N S E → List (Option C) → Bool
+  notActive (activates m s) os = false
+  notActive (tells m e) os = not (active m os)
+  notActive (tellsAll e) os = false
+  notActive nothing os = false
+
+  unfoldable pub isActive : Said G N S E → List (Option C) → Bool
+  isActive (activates m s) os = active m os
+  isActive (tells m e) os = false
+  isActive (tellsAll e) os = false
+  isActive nothing os = false
+
+  unfoldable pub allTaken : Said G N S E → List (Option C) → Bool
+  allTaken (activates m s) os = not (free os)
+  allTaken (tells m e) os = false
+  allTaken (tellsAll e) os = false
+  allTaken nothing os = false
 
   -- what the subject in a slot hears
   abbrev pub hears : N → Said G N S E → Option E

@@ -1,0 +1,2 @@
+-- What private functions of this crate count on: no part of what a reader must believe.
+pub mod Clash
