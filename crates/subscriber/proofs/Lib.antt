@@ -1,0 +1,9 @@
+pub mod Listed
+pub mod Sounds
+pub mod Scans
+pub mod Kept
+pub mod Helds
+pub mod Named
+pub mod Marks
+pub mod Tellings
+pub mod Fixes
