@@ -1,5 +1,5 @@
 -- The loop that counts: what was counted and what is left to count make the whole.
-use mathlib.Core.Path.{_≡_, sym, ap, _∙_}
+use mathlib.Core.Path.{_≡_, ap, _∙_}
 use mathlib.Core.Option.{none, some}
 use mathlib.Core.List.{List}
 use Prim.Native.Nat.{ℕ, suc, _+_, _-_, _≤_}
@@ -21,7 +21,7 @@ counted-start s = let z : length s - 0 ≡ length s = omega arith in record { wi
 
 pub counted-more : {s : List ℕ} {n at : ℕ} {p : ℕ × ℕ} → Counted s n at → placeOf (entryAt s at) ≡ some p → Counted s (n + 1) (p .1)
 counted-more {s} {n} {at} {p} i e =
-    let (c, w) = stands s at p e in
+    let w = stands s at p e in
     let l = w .long in
     let k = w .inside in
     let f = i .few in

@@ -1,27 +1,26 @@
--- Where an entry stands: at a mark with a value after it, as scdr's list and ber's values have them.
-use mathlib.Core.Path.{_≡_, refl, sym, ap, subst, _∙_}
-use mathlib.Core.Bool.{Bool, true, false, cond, _&&_}
+-- Where an entry stands: at a mark with a value after it that a record may be, as record lists have them.
+use mathlib.Core.Path.{_≡_, refl, sym, ap, ap₂, subst, _∙_}
+use mathlib.Core.Bool.{Bool, true, false, cond}
 use mathlib.Core.Option.{Option, none, some, Option·none-ne-some, Option·some-injective}
-use mathlib.Core.List.{List, [], _∷_, _++_}
-use Prim.Native.Nat.{ℕ, _+_, _-_, _≤_, _<_}
+use mathlib.Core.List.{List, [], _∷_}
+use Prim.Native.Nat.{ℕ, suc, _+_, _-_, _≤_, _<_}
 use native.Mathlib.Omega.{arith}
 use lib.Dec.{leb, ltb, eqb}
-use lib.ListN.{length, take, drop, getD, drop-of-length-le, length-drop, length-append}
+use lib.ListN.{length, drop, getD, drop-of-length-le, length-drop, length-append}
 use lib.Seq.{take-append-seam}
-use borrow.Author.Tests.{leb-true, leb-false, eqb-true, eqb-false, le-leb, lt-leb, eq-eqb, ne-eqb}
+use borrow.Author.Tests.{leb-true, leb-false, eqb-true, eqb-false, eq-eqb, ne-eqb}
 use types.Run.{OneOf, miss}
 use denote.Enum.Declared.{tagOf}
 use Rattle.format.specs.Maybe.{bind}
-use Rattle.format.proofs.Maybe.{bind-some}
+use Rattle.format.proofs.Maybe.{bind-some, bind-bind}
 use Rattle.format.proofs.Tests.{by, either}
 use Rattle.ber.specs.declared.length.Len.{Len}
 use Rattle.ber.specs.declared.length.Len.the-variants as L
-use Rattle.ber.specs.Length.{lenDec}
 use Rattle.ber.specs.Tlv.{tlvEnc, tlvDec}
 use Rattle.ber.specs.Read.{lenAt}
-use Rattle.ber.proofs.Places.{at-cons, rest-at, rest-is, len-none, len-some, part-end, part-other, part-bare, part-cut, part-there}
-use Rattle.ber.proofs.Tlvs.{tlv-sound, tlv-length, head-2}
-use Rattle.scdr.specs.List.{markAt}
+use Rattle.ber.proofs.Places.{at-cons, rest-at, rest-is, starts-at, len-none, len-some, part-end, part-other, part-bare, part-cut, part-there}
+use Rattle.cdrs.specs.List.{markAt}
+use Rattle.cdrs.proofs.Values.{isMm, kindTag, valueOf, value-long, value-sound}
 use Rattle.entries.specs.declared.Entry.{Entry}
 use Rattle.entries.proofs.Entry as E
 use Rattle.entries.specs.declared.Entry.the-variants.{Found, End, NoMark, Cut, NoValue}
@@ -67,34 +66,55 @@ module _ (s : List ℕ) (at : ℕ) where
 
 -- ---- the value after it
 
-module _ (s : List ℕ) (from : ℕ) where
-  valued : ℕ → Option (ℕ × ℕ)
-  valued at = bind (tlvDec 0xA0 (drop at s)) (λ p. some (at, length s - length (p .1)))
+-- a tag that a record may have is that of one kind, and no other is
+unlike : true ≡ false → ⊥
+unlike e = let u : _≡_ {A = ℕ} 0 1 = cc in omega arith
 
-  module _ (at : ℕ) (h : at < length s) (t : getD s at 0 ≡ 0xA0) where
-    sized : (l : Len) → l ≡ lenAt s (at + 1) → placeOf (sizedAt s from at l) ≡ valued at
-    unfolding sizedAt valued
+tag-true : (t : ℕ) → isTag t ≡ true → t ≡ kindTag (eqb t 0xA2)
+tag-true t e =
+    by (eqb t 0xA2) (λ m. rw m (eqb-true t 0xA2 m))
+    (λ m. rw m (by (eqb t 0xA0) (λ b. eqb-true t 0xA0 b) (λ b. absurd (unlike (sym (rw (b, m) at e))))))
+
+tag-false : (t : ℕ) → isTag t ≡ false → t ≡ kindTag (eqb t 0xA2) → ⊥
+tag-false t e k =
+    by (eqb t 0xA2) (λ m. unlike (by (eqb t 0xA0) (λ b. rw b at e) (λ b. rw (b, m) at e)))
+    (λ m. let z : t ≡ 0xA0 = rw m at k in unlike (rw (eq-eqb t 0xA0 z) at e))
+
+-- the place of the value with a tag, if one stands at a place
+abbrev valued : List ℕ → ℕ → ℕ → Option (ℕ × ℕ)
+valued s t at = bind (tlvDec t (drop at s)) (λ p. some (at, length s - length (p .1)))
+
+module _ (s : List ℕ) (from : ℕ) where
+  module _ (t at : ℕ) (h : at < length s) (k : getD s at 0 ≡ t) where
+    sized : (l : Len) → l ≡ lenAt s (at + 1) → placeOf (sizedAt s from at l) ≡ valued s t at
+    unfolding sizedAt
     sized L.NoLen e =
-        rw (part-bare s at 0xA0 h t (len-none s (at + 1) (omega arith) e))
+        rw (part-bare s at t h k (len-none s (at + 1) (omega arith) e))
         (neither (ltb (length s - (at + 1)) 3) (Cut from) (NoValue at) refl refl)
     sized (L.Size n a) e =
         let l = len-some s (at + 1) (omega arith) e in
         by (leb n (length s - a))
-        (λ b. let k = leb-true n (length s - a) b in rw (b, part-there s at 0xA0 h t n a l k, rest-at s (a + n) (let z = l .0 in omega arith)))
-        (λ b. rw (b, part-cut s at 0xA0 h t n a l (leb-false n (length s - a) b)) (neither (ltb mostContents n) (NoValue at) (Cut from) refl refl))
+        (λ b. let m = leb-true n (length s - a) b in rw (b, part-there s at t h k n a l m, rest-at s (a + n) (let z = l .0 in omega arith)))
+        (λ b. rw (b, part-cut s at t h k n a l (leb-false n (length s - a) b)) (neither (ltb mostContents n) (NoValue at) (Cut from) refl refl))
 
-  value-place : (at : ℕ) → placeOf (valueAt s from at) ≡ valued at
-  unfolding valued
-  value-place at =
+  value-tagged : (at : ℕ) → placeOf (valueAt s from at) ≡ valued s (kindTag (isMm (drop at s))) at
+  value-tagged at =
       either (length s) at
-      (λ h. rw (← no-tag s from at h, part-end s at 0xA0 h))
-      (λ h. by (isTag (getD s at 0))
-      (λ t. ap placeOf (sym (tagged s from at h t refl)) ∙ sized at h (eqb-true (getD s at 0) 0xA0 t) (lenAt s (at + 1)) refl)
-      (λ t. rw (← other-tag s from at h t, part-other s at 0xA0 h (eqb-false (getD s at 0) 0xA0 t))))
+      (λ h. rw (← no-tag s from at h, part-end s at (kindTag (isMm (drop at s))) h))
+      (λ h. rw (← starts-at s at 0xA2 h) (by (isTag (getD s at 0))
+      (λ t. ap placeOf (sym (tagged s from at h t refl))
+      ∙ sized (kindTag (eqb (getD s at 0) 0xA2)) at h (tag-true (getD s at 0) t) (lenAt s (at + 1)) refl)
+      (λ t. rw (← other-tag s from at h t, part-other s at (kindTag (eqb (getD s at 0) 0xA2)) h (tag-false (getD s at 0) t)))))
+
+  value-place : (at : ℕ) → placeOf (valueAt s from at) ≡ bind (valueOf (drop at s)) (λ p. some (at, length s - length (p .1)))
+  unfolding valueOf
+  value-place at =
+      value-tagged at
+      ∙ sym (bind-bind (tlvDec (kindTag (isMm (drop at s))) (drop at s)) (λ p. some (tlvEnc (kindTag (isMm (drop at s))) (p .0), p .1))
+      (λ p. some (at, length s - length (p .1))))
 
 -- the place of the entry at a place is found by the mark there and the value after it
-pub place-is : (s : List ℕ) (at : ℕ) → placeOf (entryAt s at) ≡ placeBy s at (markAt (drop at s)) (tlvDec 0xA0 (drop (at + 2) s))
-unfolding valued
+pub place-is : (s : List ℕ) (at : ℕ) → placeOf (entryAt s at) ≡ placeBy s at (markAt (drop at s)) (valueOf (drop (at + 2) s))
 place-is s at =
     either (length s) at (λ h. rw (← at-end s at h, mark-end s at h))
     (λ h. by (eqb (getD s at 0) 0xC3)
@@ -108,53 +128,56 @@ place-is s at =
 
 -- ---- an entry that was found
 
--- the mark stands at `at`, and after it, up to e, the value with these contents
-pub record Stands (s : List ℕ) (at a e : ℕ) (contents : List ℕ) : Type 0 where
+-- the mark stands at `at`, and after it, up to e, a value that a record may be
+pub record Stands (s : List ℕ) (at a e : ℕ) : Type 0 where
   pub begins : a ≡ at + 2
   pub mark : markAt (drop at s) ≡ true
-  pub value : tlvDec 0xA0 (drop (at + 2) s) ≡ some (contents, drop e s)
-  pub octets : octetsIn s (a, e) ≡ tlvEnc 0xA0 contents
-  pub short : length contents < 65536
+  pub value : valueOf (drop (at + 2) s) ≡ some (octetsIn s (a, e), drop e s)
   -- an entry has at least four octets
   pub long : at + 4 ≤ e
   pub inside : e ≤ length s
 
-stands-value : (s : List ℕ) (at : ℕ) (q : List ℕ × List ℕ) → markAt (drop at s) ≡ true → tlvDec 0xA0 (drop (at + 2) s) ≡ some q
-    → Stands s at (at + 2) (length s - length (q .1)) (q .0)
+stands-value : (s : List ℕ) (at : ℕ) (q : List ℕ × List ℕ) → markAt (drop at s) ≡ true → valueOf (drop (at + 2) s) ≡ some q
+    → Stands s at (at + 2) (length s - length (q .1))
 stands-value s at q m d =
-    let w = tlv-sound 0xA0 (drop (at + 2) s) q d in
-    let l = sym (length-drop (at + 2) s) ∙ ap length (w .1) ∙ length-append (tlvEnc 0xA0 (q .0)) (q .1) in
-    let n = tlv-length 0xA0 (q .0) in
-    let z = head-2 (length (q .0)) in
-    let k = rest-is s (at + 2) (tlvEnc 0xA0 (q .0)) (q .1) (w .1) (omega arith) in
-    let f : length s - length (q .1) - (at + 2) ≡ length (tlvEnc 0xA0 (q .0)) = omega arith in
+    let (v, w) = value-sound (drop (at + 2) s) q d in
+    let l = sym (length-drop (at + 2) s) ∙ ap length w ∙ length-append (q .0) (q .1) in
+    let n = value-long v in
+    let k = rest-is s (at + 2) (q .0) (q .1) w (omega arith) in
+    let f : length s - length (q .1) - (at + 2) ≡ length (q .0) = omega arith in
+    let o : octetsIn s (at + 2, length s - length (q .1)) ≡ q .0 = rw (f, w) (take-append-seam (q .0) (q .1)) in
     record {
       begins = refl;
       mark = m;
-      value = d ∙ ap {B = Option (List ℕ × List ℕ)} (λ x. some (q .0, x)) (k .1);
-      octets = rw (f, w .1) (take-append-seam (tlvEnc 0xA0 (q .0)) (q .1));
-      short = w .0;
+      value = d ∙ ap₂ {C = Option (List ℕ × List ℕ)} (λ x y. some (x, y)) (sym o) (k .1);
       long = omega arith;
       inside = omega arith;
     }
 
 -- what the place of a found entry says
-pub stands : (s : List ℕ) (at : ℕ) (p : ℕ × ℕ) → placeOf (entryAt s at) ≡ some p → (c : List ℕ) × Stands s at (p .0) (p .1) c
+pub stands : (s : List ℕ) (at : ℕ) (p : ℕ × ℕ) → placeOf (entryAt s at) ≡ some p → Stands s at (p .0) (p .1)
 stands s at p e =
     let f = sym (place-is s at) ∙ e in
     by (markAt (drop at s))
     (λ m.
-    let (q, d, k) = bind-some (tlvDec 0xA0 (drop (at + 2) s)) (λ p. some (at + 2, length s - length (p .1))) p (rw m at f) in
-    subst (λ (p : ℕ × ℕ). (c : List ℕ) × Stands s at (p .0) (p .1) c) (Option·some-injective _ p k) (q .0, stands-value s at q m d))
+    let (q, d, k) = bind-some (valueOf (drop (at + 2) s)) (λ p. some (at + 2, length s - length (p .1))) p (rw m at f) in
+    subst (λ (p : ℕ × ℕ). Stands s at (p .0) (p .1)) (Option·some-injective _ p k) (stands-value s at q m d))
     (λ m. absurd (Option·none-ne-some p (rw m at f)))
+
+-- the octet after the mark tells the kind
+pub kind-at : (s : List ℕ) (a e : ℕ) → a < e → e ≤ length s → isMm (octetsIn s (a, e)) ≡ eqb (getD s a 0) 0xA2
+kind-at s a e h k = let n : e - a ≡ suc (e - a - 1) = omega arith in rw (n, at-cons s a (omega arith))
 
 -- the same of an entry that a `match` took apart
 module _ (s : List ℕ) (at : ℕ) {x : Entry} {a e : ℕ} (k : x ≡ Found a e) (q : x ≡ entryAt s at) where
   pub found-place : placeOf (entryAt s at) ≡ some (a, e)
   found-place = ap placeOf (sym q ∙ k)
 
-  pub found-stands : (c : List ℕ) × Stands s at a e c
+  pub found-stands : Stands s at a e
   found-stands = stands s at (a, e) found-place
+
+  pub found-fits : (a < e) × (e ≤ length s)
+  found-fits = let w = found-stands in (omega (arith, w .begins, w .long), w .inside)
 
 -- an answer that is no entry, as a `match` knows it where it is not `Found`
 pub other : (x : Entry) → OneOf (1 ∷ 2 ∷ 3 ∷ 4 ∷ []) (tagOf E.the-type x) → placeOf x ≡ none

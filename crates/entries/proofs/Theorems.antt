@@ -1,9 +1,9 @@
--- What stepping has to do with reading: stepping from the start, each record read, to the end is exactly how scdr reads a record list; stepping
+-- What stepping has to do with reading: stepping from the start, each record read, to the end is exactly how a record list is read; stepping
 -- ends; and in a list that reads in full, marks and lengths alone find each record where it lies.
 use mathlib.Core.Path.{_≡_, refl, sym, ap, _∙_}
 use mathlib.Core.Bool.{Bool, true, false, cond}
 use mathlib.Core.Option.{Option, none, some, Option·none-ne-some}
-use mathlib.Core.List.{List, [], _∷_, _++_, append-nil}
+use mathlib.Core.List.{List, [], _∷_, _++_}
 use Prim.Native.Nat.{ℕ, zero, suc, _+_, _-_, _≤_, _<_}
 use native.Mathlib.Nat.{le-of-suc-le-suc}
 use native.Mathlib.Omega.{arith}
@@ -14,28 +14,25 @@ use borrow.Author.Tests.{eq-eqb, ne-eqb}
 use Rattle.format.specs.Maybe.{bind}
 use Rattle.format.proofs.Maybe.{bind-bind}
 use Rattle.format.proofs.Tests.{either}
-use Rattle.ber.specs.Tlv.{tlvEnc, tlvDec}
-use Rattle.ber.specs.Field.{first, nothing}
 use Rattle.ber.proofs.Places.{at-cons}
-use Rattle.ber.proofs.Tlvs.{tlv-complete, tlv-length}
-use Rattle.scdr.specs.declared.Record.{Record}
-use Rattle.scdr.specs.Layout.{inside, scdr}
-use Rattle.scdr.specs.List.{listEnc, markAt, listDec, recordList}
-use Rattle.scdr.proofs.Theorems.{at-most-1024}
-use Rattle.scdr.proofs.Listed.{AllRight, list-reads, reads-list}
+use Rattle.cdrs.specs.Cdr.{Cdr, cdrEnc, cdrDec}
+use Rattle.cdrs.specs.List.{listEnc, markAt, listDec, recordList}
+use Rattle.cdrs.proofs.Values.{valueOf, value-front}
+use Rattle.cdrs.proofs.Cdrs.{is-value, followed, by-value}
+use Rattle.cdrs.proofs.Listed.{AllRight, list-long, list-reads, reads-list}
 use Rattle.entries.specs.declared.Entry.the-variants.{Found}
 use Rattle.entries.specs.Entry.{entryAt}
 use Rattle.entries.specs.Steps.{placeOf, placesFrom, stopFrom, placesOf, stopOf, countOf}
 use Rattle.entries.specs.Read.{octetsIn, readEach, laidFrom}
 use Rattle.entries.proofs.Exits.{at-end}
-use Rattle.entries.proofs.Stands.{placeBy, place-is, Stands, stands, found-stands}
+use Rattle.entries.proofs.Stands.{placeBy, place-is, stands, found-stands}
 use Rattle.entries.proofs.Walks.{one-more, goes-on, no-more, stays}
 
 -- ---- stepping ends
 
 -- an entry begins two octets before its record, has at least four, and lies within the octets
 pub entry-long : (s : List ℕ) (at a e : ℕ) → entryAt s at ≡ Found a e → (a ≡ at + 2) × (at + 4 ≤ e) × (e ≤ length s)
-entry-long s at a e f = let (c, w) = found-stands s at f refl in (w .begins, w .long, w .inside)
+entry-long s at a e f = let w = found-stands s at f refl in (w .begins, w .long, w .inside)
 
 at-end-none : (s : List ℕ) (at : ℕ) → length s ≤ at → placeOf (entryAt s at) ≡ none
 at-end-none s at h = ap placeOf (sym (at-end s at h))
@@ -48,7 +45,7 @@ ends-from (suc n) s at h = go (placeOf (entryAt s at)) refl (λ p k. ends-from n
     go : (o : Option (ℕ × ℕ)) → placeOf (entryAt s at) ≡ o → ((p : ℕ × ℕ) → length s ≤ p .1 + n → placeOf (entryAt s (stopFrom n s (p .1))) ≡ none)
         → placeOf (entryAt s (stopFrom (suc n) s at)) ≡ none
     go none e f = rw (stays s at e (suc n)) e
-    go (some p) e f = let (c, w) = stands s at p e in rw (goes-on s at p e n) (f p (let z = w .long in omega arith))
+    go (some p) e f = let w = stands s at p e in rw (goes-on s at p e n) (f p (let z = w .long in omega arith))
 
 -- where stepping stops, no entry stands: it never stops for want of steps
 pub ends : (s : List ℕ) → placeOf (entryAt s (stopOf s)) ≡ none
@@ -57,44 +54,32 @@ ends s = ends-from (length s) s 0 (omega arith)
 
 -- ---- stepping and reading each record is reading the list
 
--- a record that was read, and what follows it
-abbrev followed : List ℕ → Option Record → Option (Record × List ℕ)
-followed y o = bind o (λ r. some (r, y))
-
--- the octets of a value are a record where its contents are
-scdr-octets : (c : List ℕ) → length c < 65536 → scdr .dec (tlvEnc 0xA0 c) ≡ inside .dec c
-unfolding scdr first
-scdr-octets c h = rw (ap (tlvDec 0xA0) (sym (append-nil (tlvEnc 0xA0 c))) ∙ tlv-complete 0xA0 c [] h) (go (inside .dec c))
-  where
-    go : (o : Option Record) → bind {A = Record × Unit {0}} (bind (followed [] o) (λ p. bind (nothing (p .1)) (λ b. some (p .0, b)))) (λ v. some (v .0)) ≡ o
-    go none = refl
-    go (some r) = refl
-
--- how scdr reads on after a record, and after a value
-abbrev readsOn : ℕ → Option (Record × List ℕ) → Option (List Record)
+-- how a list is read on after a record, and after a value
+abbrev readsOn : ℕ → Option (Cdr × List ℕ) → Option (List Cdr)
 readsOn n o = bind o (λ p. bind (listDec n (p .1)) (λ rs. some (p .0 ∷ rs)))
 
-abbrev afterValue : ℕ → List ℕ × List ℕ → Option (List Record)
-afterValue n q = readsOn n (followed (q .1) (inside .dec (q .0)))
+abbrev afterValue : ℕ → List ℕ × List ℕ → Option (List Cdr)
+afterValue n q = readsOn n (followed (q .1) (cdrDec (q .0)))
 
-dec-step : (n : ℕ) (x : List ℕ) → 0 < length x → listDec (suc n) x ≡ cond (markAt x) (bind (tlvDec 0xA0 (drop 2 x)) (afterValue n)) none
-unfolding listDec first
+dec-step : (n : ℕ) (x : List ℕ) → 0 < length x → listDec (suc n) x ≡ cond (markAt x) (bind (valueOf (drop 2 x)) (afterValue n)) none
+unfolding listDec
 dec-step n [] h = absurd (omega arith)
 dec-step n (a ∷ x) h =
-    ap (λ (o : Option (List Record)). cond (markAt (a ∷ x)) o none)
-    (bind-bind (tlvDec 0xA0 (drop 2 (a ∷ x))) (λ q. followed (q .1) (inside .dec (q .0))) (λ p. bind (listDec n (p .1)) (λ rs. some (p .0 ∷ rs))))
+    ap (λ (o : Option (List Cdr)). cond (markAt (a ∷ x)) o none)
+    (ap (readsOn n) (by-value (drop 2 (a ∷ x)))
+    ∙ bind-bind (valueOf (drop 2 (a ∷ x))) (λ q. followed (q .1) (cdrDec (q .0))) (λ p. bind (listDec n (p .1)) (λ rs. some (p .0 ∷ rs))))
 
 -- the records at the entries from a place on, if the end is reached and each of them reads
-abbrev byEntries : ℕ → List ℕ → ℕ → Option (List Record)
+abbrev byEntries : ℕ → List ℕ → ℕ → Option (List Cdr)
 byEntries n s at = cond (eqb (stopFrom n s at) (length s)) (readEach s (placesFrom n s at)) none
 
-unplaced : (s : List ℕ) (at : ℕ) (m : Bool) (t : Option (List ℕ × List ℕ)) (f : List ℕ × List ℕ → Option (List Record)) → placeBy s at m t ≡ none
+unplaced : (s : List ℕ) (at : ℕ) (m : Bool) (t : Option (List ℕ × List ℕ)) (f : List ℕ × List ℕ → Option (List Cdr)) → placeBy s at m t ≡ none
     → cond m (bind t f) none ≡ none
 unplaced s at true none f e = refl
 unplaced s at true (some q) f e = absurd (Option·none-ne-some _ (sym e))
 unplaced s at false t f e = refl
 
-joined : (o : Option Record) (y : List ℕ) (n : ℕ) (t : Bool) (k : Option (List Record)) → listDec n y ≡ cond t k none
+joined : (o : Option Cdr) (y : List ℕ) (n : ℕ) (t : Bool) (k : Option (List Cdr)) → listDec n y ≡ cond t k none
     → readsOn n (followed y o) ≡ cond t (bind o (λ r. bind k (λ rs. some (r ∷ rs)))) none
 joined none y n true k e = refl
 joined none y n false k e = refl
@@ -117,16 +102,15 @@ module _ (s : List ℕ) (at : ℕ) where
       → listDec (suc n) (drop at s) ≡ byEntries (suc n) s at
   unfolding readEach
   one-entry n p h e ih =
-      let (c, w) = stands s at p e in
-      let r : scdr .dec (octetsIn s p) ≡ inside .dec c = ap (scdr .dec) (w .octets) ∙ scdr-octets c (w .short) in
+      let w = stands s at p e in
       dec-step n (drop at s) (rw (length-drop at s) (omega arith))
-      ∙ rw (w .mark, drop-drop 2 at s, w .value, goes-on s at p e n, one-more s at p e n, r)
-      (joined (inside .dec c) (drop (p .1) s) n (eqb (stopFrom n s (p .1)) (length s)) (readEach s (placesFrom n s (p .1))) ih)
+      ∙ rw (w .mark, drop-drop 2 at s, w .value, goes-on s at p e n, one-more s at p e n)
+      (joined (cdrDec (octetsIn s p)) (drop (p .1) s) n (eqb (stopFrom n s (p .1)) (length s)) (readEach s (placesFrom n s (p .1))) ih)
 
   no-entry : (n : ℕ) → at < length s → placeOf (entryAt s at) ≡ none → listDec (suc n) (drop at s) ≡ byEntries (suc n) s at
   no-entry n h e =
       dec-step n (drop at s) (rw (length-drop at s) (omega arith))
-      ∙ rw (drop-drop 2 at s) (unplaced s at (markAt (drop at s)) (tlvDec 0xA0 (drop (at + 2) s)) (afterValue n) (sym (place-is s at) ∙ e))
+      ∙ rw (drop-drop 2 at s) (unplaced s at (markAt (drop at s)) (valueOf (drop (at + 2) s)) (afterValue n) (sym (place-is s at) ∙ e))
       ∙ sym (none-left h e (suc n))
 
 steps : (n : ℕ) (s : List ℕ) (at : ℕ) → at ≤ length s → listDec n (drop at s) ≡ byEntries n s at
@@ -141,7 +125,7 @@ steps (suc n) s at h =
     go : at < length s → (o : Option (ℕ × ℕ)) → placeOf (entryAt s at) ≡ o → ((e : ℕ) → e ≤ length s → listDec n (drop e s) ≡ byEntries n s e)
         → listDec (suc n) (drop at s) ≡ byEntries (suc n) s at
     go k none e f = no-entry s at n k e
-    go k (some p) e f = let (c, w) = stands s at p e in one-entry s at n p k e (f (p .1) (w .inside))
+    go k (some p) e f = let w = stands s at p e in one-entry s at n p k e (f (p .1) (w .inside))
 
 -- a list reads in full, as these records, exactly where stepping reaches the end and the record of each entry reads, as these
 pub by-steps : (s : List ℕ) → recordList s ≡ cond (eqb (stopOf s) (length s)) (readEach s (placesOf s)) none
@@ -150,25 +134,19 @@ by-steps s = steps (length s) s 0 (omega arith)
 
 -- ---- in a list that reads in full
 
-octets-are : (r : Record) → scdr .enc r ≡ tlvEnc 0xA0 (inside .enc r)
-unfolding scdr
-octets-are r = append-nil (tlvEnc 0xA0 (inside .enc r))
-
 -- the record at the front of the rest of a list is found
-front-found : (s : List ℕ) (at : ℕ) (r : Record) (rs : List Record) → AllRight (r ∷ rs) → drop at s ≡ listEnc (r ∷ rs)
-    → placeOf (entryAt s at) ≡ some (at + 2, at + 2 + length (scdr .enc r))
+front-found : (s : List ℕ) (at : ℕ) (r : Cdr) (rs : List Cdr) → AllRight (r ∷ rs) → drop at s ≡ listEnc (r ∷ rs)
+    → placeOf (entryAt s at) ≡ some (at + 2, at + 2 + length (cdrEnc r))
 unfolding listEnc markAt
 front-found s at r rs a e =
     let m : markAt (drop at s) ≡ true = rw e in
-    let d : drop (at + 2) s ≡ tlvEnc 0xA0 (inside .enc r) ++ listEnc rs = sym (drop-drop 2 at s) ∙ ap (drop 2) e ∙ rw (octets-are r) in
-    let o = octets-are r in
-    let f : length (inside .enc r) < 65536 = omega (arith, at-most-1024 r (a .0), ap length o, tlv-length 0xA0 (inside .enc r)) in
-    let t : tlvDec 0xA0 (drop (at + 2) s) ≡ some (inside .enc r, listEnc rs) = ap (tlvDec 0xA0) d ∙ tlv-complete 0xA0 (inside .enc r) (listEnc rs) f in
+    let d : drop (at + 2) s ≡ cdrEnc r ++ listEnc rs = sym (drop-drop 2 at s) ∙ ap (drop 2) e in
+    let t : valueOf (drop (at + 2) s) ≡ some (cdrEnc r, listEnc rs) = ap valueOf d ∙ value-front (is-value r (a .0)) (listEnc rs) in
     let l = sym (length-drop at s) ∙ ap length e in
-    let z : length s - length (listEnc rs) ≡ at + 2 + length (scdr .enc r) = omega (arith, length-append (scdr .enc r) (listEnc rs)) in
+    let z : length s - length (listEnc rs) ≡ at + 2 + length (cdrEnc r) = omega (arith, length-append (cdrEnc r) (listEnc rs)) in
     place-is s at ∙ rw (m, t, z)
 
-laid : (rs : List Record) (n : ℕ) (s : List ℕ) (at : ℕ) → AllRight rs → length rs ≤ n → at ≤ length s → drop at s ≡ listEnc rs
+laid : (rs : List Cdr) (n : ℕ) (s : List ℕ) (at : ℕ) → AllRight rs → length rs ≤ n → at ≤ length s → drop at s ≡ listEnc rs
     → (placesFrom n s at ≡ laidFrom at rs) × (stopFrom n s at ≡ length s)
 unfolding listEnc laidFrom
 laid [] n s at a h i e =
@@ -178,37 +156,32 @@ laid [] n s at a h i e =
 laid (r ∷ rs) zero s at a h i e = absurd (omega arith)
 laid (r ∷ rs) (suc n) s at a h i e =
     let f = front-found s at r rs a e in
-    let b = at + 2 + length (scdr .enc r) in
+    let b = at + 2 + length (cdrEnc r) in
     let l = sym (length-drop at s) ∙ ap length e in
     let d : drop b s ≡ listEnc rs =
-    sym (drop-drop (length (scdr .enc r)) (at + 2) s) ∙ ap (drop (length (scdr .enc r))) (sym (drop-drop 2 at s) ∙ ap (drop 2) e)
-    ∙ drop-append-seam (scdr .enc r) (listEnc rs) in
-    let (p, q) = laid rs n s b (a .1) (le-of-suc-le-suc h) (omega (arith, length-append (scdr .enc r) (listEnc rs))) d in
+    sym (drop-drop (length (cdrEnc r)) (at + 2) s) ∙ ap (drop (length (cdrEnc r))) (sym (drop-drop 2 at s) ∙ ap (drop 2) e)
+    ∙ drop-append-seam (cdrEnc r) (listEnc rs) in
+    let (p, q) = laid rs n s b (a .1) (le-of-suc-le-suc h) (omega (arith, length-append (cdrEnc r) (listEnc rs))) d in
     (one-more s at (at + 2, b) f n ∙ ap (λ (l : List (ℕ × ℕ)). (at + 2, b) ∷ l) p, goes-on s at (at + 2, b) f n ∙ q)
 
-long : (rs : List Record) → length rs ≤ length (listEnc rs)
-unfolding listEnc
-long [] = omega arith
-long (r ∷ rs) = omega (arith, long rs, length-append (scdr .enc r) (listEnc rs))
-
-laid-length : (at : ℕ) (rs : List Record) → length (laidFrom at rs) ≡ length rs
+laid-length : (at : ℕ) (rs : List Cdr) → length (laidFrom at rs) ≡ length rs
 unfolding laidFrom
 laid-length at [] = refl
-laid-length at (r ∷ rs) = ap suc (laid-length (at + 2 + length (scdr .enc r)) rs)
+laid-length at (r ∷ rs) = ap suc (laid-length (at + 2 + length (cdrEnc r)) rs)
 
 -- Stepping by marks and lengths alone finds each record of the list where it lies, and nothing else: the answer of a walk over the entries
 -- equals the one from reading it all.
-pub record InFull (s : List ℕ) (rs : List Record) : Type 0 where
+pub record InFull (s : List ℕ) (rs : List Cdr) : Type 0 where
   pub places : placesOf s ≡ laidFrom 0 rs
   pub stop : stopOf s ≡ length s
   pub reads : readEach s (placesOf s) ≡ some rs
   pub count : countOf s ≡ length rs
 
-pub in-full : (s : List ℕ) (rs : List Record) → recordList s ≡ some rs → InFull s rs
+pub in-full : (s : List ℕ) (rs : List Cdr) → recordList s ≡ some rs → InFull s rs
 unfolding recordList placesOf stopOf countOf
 in-full s rs e =
     let (a, w) = reads-list (length s) s rs e in
-    let (p, q) = laid rs (length s) s 0 a (omega (arith, long rs, ap length w)) (omega arith) w in
+    let (p, q) = laid rs (length s) s 0 a (omega (arith, list-long rs, ap length w)) (omega arith) w in
     record {
       places = p;
       stop = q;
@@ -217,5 +190,5 @@ in-full s rs e =
     }
 
 -- as many entries as records are counted in the octets of a list of records within the rules
-pub count-of-list : (rs : List Record) → AllRight rs → countOf (listEnc rs) ≡ length rs
+pub count-of-list : (rs : List Cdr) → AllRight rs → countOf (listEnc rs) ≡ length rs
 count-of-list rs a = in-full (listEnc rs) rs (list-reads rs a) .count

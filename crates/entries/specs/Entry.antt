@@ -1,6 +1,6 @@
 -- What stands at a place of octets that may be a record list, by the mark and the length alone. "Each record follows the mark C3 5A"
 -- (01, "The record's octets"); a record is one BER value.
-use mathlib.Core.Bool.{Bool, cond, not}
+use mathlib.Core.Bool.{Bool, cond, not, _||_}
 use Prim.Native.Nat.{ℕ, _+_, _-_}
 use mathlib.Core.List.{List}
 use lib.Dec.{leb, ltb, eqb}
@@ -11,9 +11,9 @@ use Rattle.ber.specs.Read.{lenAt}
 use Rattle.entries.specs.declared.Entry.{Entry}
 use Rattle.entries.specs.declared.Entry.the-variants.{Found, End, NoMark, Cut, NoValue}
 
--- the tags that a record of a list may have: A0, of an S-CDR
+-- the tags that a record of a list may have: A0, of an S-CDR, and A2, of an M-CDR
 abbrev pub isTag : ℕ → Bool
-isTag t = eqb t 0xA0
+isTag t = eqb t 0xA0 || eqb t 0xA2
 
 -- the most contents of a record: 1,024 octets with tag and length
 abbrev pub mostContents : ℕ

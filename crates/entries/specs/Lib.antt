@@ -1,3 +1,4 @@
 pub mod Entry
 pub mod Steps
 pub mod Read
+pub mod Private

@@ -1,7 +1,8 @@
-// Record lists: records one after another, each after the mark C3 5A (01, "The record's octets"). An entry is a mark and the record after it.
+// Record lists: records one after another, each after the mark C3 5A (01, "The record's octets"): S-CDRs and M-CDRs. An entry is a mark and the
+// record after it.
 //
 // step.rt goes from entry to entry by the marks and the lengths alone, read.rt reads the record of an entry, count.rt counts entries.
-// What a list is that reads in full is scdr's (crates/scdr/specs/List.antt); proofs/Theorems.antt says what stepping has to do with it.
+// What a list is that reads in full is said in `cdrs` (crates/cdrs/specs/List.antt); proofs/Theorems.antt says what stepping has to do with it.
 pub mod count;
 pub mod read;
 pub mod step;

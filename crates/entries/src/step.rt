@@ -55,5 +55,5 @@ fn value_at(s: &[u8], from: usize, at: usize) -> Entry
 fn is_tag(t: u8) -> bool
     ensures { λ r. ⌜ r ≡ isTag t ⌝ }
 {
-    t == 0xA0
+    (t == 0xA0) | (t == 0xA2)
 }

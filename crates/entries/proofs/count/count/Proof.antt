@@ -27,14 +27,14 @@ add-n : tie.Need-add-n Inv-loop μ-loop
 add-n c =
     let l = c .before .before .before .before .loop in
     let s = c .before .before .before .before .before .before .args .s .now in
-    let w = found-stands s (l .at) (c .before .e .given .1) (c .before .before .before .entry-at .ensures) .1 in
+    let w = found-stands s (l .at) (c .before .e .given .1) (c .before .before .before .entry-at .ensures) in
     omega (arith, w .long, w .inside, l .inv .few)
 
 loop-less : tie.Need-loop-less Inv-loop μ-loop
 loop-less c =
     let l = c .before .before .before .before .loop in
     let s = c .before .before .before .before .before .before .args .s .now in
-    let w = found-stands s (l .at) (c .before .e .given .1) (c .before .before .before .entry-at .ensures) .1 in
+    let w = found-stands s (l .at) (c .before .e .given .1) (c .before .before .before .entry-at .ensures) in
     omega (arith, w .long, w .inside)
 
 loop-again : tie.Need-loop-again Inv-loop μ-loop

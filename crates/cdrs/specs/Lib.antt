@@ -1,0 +1,2 @@
+pub mod Cdr
+pub mod List
