@@ -10,26 +10,42 @@ use lib.ListN.{length, take, drop, length-append, length-map}
 use borrow.Author.Tests.{eqb-true, le-ltb}
 use Rattle.format.proofs.Tests.{by}
 use Rattle.scdr.specs.declared.Record.{Record}
+use Rattle.mcdr.specs.declared.MmRecord.{MmRecord}
+use Rattle.mcdr.specs.Change.{samePlace}
+use Rattle.mcdr.proofs.Theorems.{at-most-400}
 use Rattle.profile.specs.declared.Profile.{Profile}
-use Rattle.event.specs.declared.Name.{Name}
 use Rattle.event.specs.Fields.{timeOf}
 use Rattle.event.specs.Rows.{Row, row, firstFit}
+use Rattle.event.specs.Event.{eventOf}
 use Rattle.event.specs.Framing.{nextLength}
 use Rattle.context.specs.declared.Context.{Context}
 use Rattle.history.specs.Lists.{All}
-use Rattle.history.specs.Log.{Said, activates, tells, tellsAll, nothing}
-use Rattle.history.specs.Table.{slot, slotsWrite, hears}
+use Rattle.history.specs.Slots as S
+use Rattle.history.specs.Log.{Said, tells, tellsAll}
+use Rattle.history.specs.Table.{Handling, slot, slotsWrite, hears}
+use Rattle.subscriber.specs.declared.Subscriber.{Subscriber}
+use Rattle.subscriber.specs.declared.Notice.{Notice}
+use Rattle.subscriber.specs.declared.Notice.the-variants.{Moved, Managed, Detached}
+use Rattle.subscriber.specs.Subscriber.{placeOf, taken as isAttached}
+use Rattle.subscriber.specs.Hear.{fifteenth, closesWith, hear as notices}
+use Rattle.subscriber.specs.Tell.{markedOctets as mmMarkedOctets, octetsOf as mmOctetsOf}
 use Rattle.node.specs.declared.Node.{Node}
 use Rattle.node.specs.declared.Message.{Message}
+use Rattle.node.specs.declared.meaning.Meaning.{Meaning}
+use Rattle.node.specs.declared.meaning.Meaning.the-variants.{Opens, Tells, TellsAll, Attaches, Notifies}
+use Rattle.node.specs.Meaning.{meaningOf}
 use Rattle.node.specs.Hear.{closing, hearWith, hear}
 use Rattle.node.specs.Step.{
-  Brought,
+  saying,
   handling,
+  subscribing,
   seen,
   slots,
+  places,
   markedOctets,
   octetsOf,
   recordsOf,
+  mmRecordsOf,
   output,
   saidOf,
   refusals,
@@ -38,14 +54,15 @@ use Rattle.node.specs.Step.{
 use Rattle.node.specs.Held.{Octets, Held, Whole}
 use Rattle.node.proofs.ContextKept.{Fine}
 use Rattle.node.proofs.Demands.{answered}
-use Rattle.node.proofs.NodeKept.{records-good}
+use Rattle.node.proofs.SubscribersKept.{MmFine}
+use Rattle.node.proofs.NodeKept.{records-good, mm-records-good}
 use Rattle.node.proofs.StepKept.{step-kept}
 use Rattle.charging.specs.Done.{Done, andThen}
 use Rattle.charging.specs.File.{nextEvent, roomy, taken, firstOf, chargedIn, charged}
 use Rattle.charging.proofs.Steps.{room-size}
 use Rattle.charging.proofs.Cuts.{drop-octets}
 
--- ---- what an event writes at most: a record a slot
+-- ---- what an event writes at most: a record a slot, in one of the two tables
 
 with-few : (p : Profile) (c : Context) (t : ℕ) (h : Message) (o : Option ℕ) → length (hearWith p c t h o .out) ≤ 1
 unfolding hearWith
@@ -56,31 +73,53 @@ hear-few : (p : Profile) (c : Context) (t : ℕ) (h : Message) → length (hear 
 unfolding hear
 hear-few p c t h = with-few p c t h (closing (p .limits) (c .current) t h)
 
-module _ (p : Profile) (t : ℕ) (w : Said (Unit {0}) Name Brought Message) where
-  listen-few : (c : Context) (o : Option Message) → hears (handling p) (c .name) w ≡ o → length (slot (handling p) tt t w (some c) .out) ≤ 1
-  listen-few c none e = rw e (omega arith)
-  listen-few c (some h) e = rw e (hear-few p c t h)
+notice-few : (p : Profile) (s : Subscriber) (t : ℕ) (m : Notice) → length (notices p s t m .out) ≤ 1
+unfolding notices closesWith
+notice-few p s t (Moved q) =
+    by (samePlace (placeOf s) q) (λ e. rw e (omega arith))
+    (λ e. rw e (by (fifteenth s) (λ f. rw f (omega arith)) (λ f. rw f (omega arith))))
+notice-few p s t Managed = omega arith
+notice-few p s t (Detached cause) = omega arith
 
-  slot-few : (o : Option Context) → length (slot (handling p) tt t w o .out) ≤ 1
-  slot-few none = omega arith
-  slot-few (some c) = listen-few c (hears (handling p) (c .name) w) refl
+-- of either table
+module _ {N S E W C B : Type 0} (K : Handling (Unit {0}) N S E W C B) (few : (c : C) (t : ℕ) (h : E) → length (K .hear tt c t h .out) ≤ 1) (t : ℕ) where
+  listen-few : (w : Said (Unit {0}) N S E) (c : C) (o : Option E) → hears K (K .name c) w ≡ o → length (slot K tt t w (some c) .out) ≤ 1
+  listen-few w c none e = rw e (omega arith)
+  listen-few w c (some h) e = rw e (few c t h)
 
-  slots-few : (os : List (Option Context)) → length (slotsWrite (handling p) tt t w os) ≤ length os
-  slots-few [] = omega arith
-  slots-few (o ∷ os) =
-      omega (arith, length-append (slot (handling p) tt t w o .out) (slotsWrite (handling p) tt t w os), slot-few o, slots-few os)
+  slot-few : (w : Said (Unit {0}) N S E) (o : Option C) → length (slot K tt t w o .out) ≤ 1
+  slot-few w none = omega arith
+  slot-few w (some c) = listen-few w c (hears K (K .name c) w) refl
 
-records-few : (n : Node) (t : ℕ) (w : Said (Unit {0}) Name Brought Message) → length (recordsOf n t w) ≤ length (slots n)
-unfolding recordsOf
-records-few n t (activates m b) = omega arith
-records-few n t (tells m h) = slots-few (n .profile) t (tells m h) (slots n)
-records-few n t (tellsAll h) = slots-few (n .profile) t (tellsAll h) (slots n)
-records-few n t nothing = omega arith
+  slots-few : (w : Said (Unit {0}) N S E) (os : List (Option C)) → length (slotsWrite K tt t w os) ≤ length os
+  slots-few w [] = omega arith
+  slots-few w (o ∷ os) = omega (arith, length-append (slot K tt t w o .out) (slotsWrite K tt t w os), slot-few w o, slots-few w os)
+
+-- an event speaks to one of the two tables, which have 16 slots each
+records-few : (n : Node) (t : ℕ) (m : Meaning) (s : List ℕ) → Held n → length (recordsOf n t (saying m s)) + length (mmRecordsOf n t (saying m s)) ≤ 16
+unfolding recordsOf mmRecordsOf
+records-few n t (Opens a) s h = omega arith
+records-few n t (Tells m x) s h =
+    let p = n .profile in
+    omega (arith, slots-few (handling p) (hear-few p) t (tells m x) (slots n), length-map (n .contexts) seen, h .size)
+records-few n t (TellsAll x) s h =
+    let p = n .profile in
+    omega (arith, slots-few (handling p) (hear-few p) t (tellsAll x) (slots n), length-map (n .contexts) seen, h .size)
+records-few n t (Attaches k q) s h = omega arith
+records-few n t (Notifies k m) s h =
+    let p = n .profile in
+    omega (arith, slots-few (subscribing p) (notice-few p) t (tells k m) (places n), length-map (n .subscribers) (S.seen isAttached), h .places)
 
 octets-few : (rs : List Record) → All Fine rs → length (octetsOf rs) ≤ 1026 * length rs
 unfolding octetsOf markedOctets
 octets-few [] a = omega arith
 octets-few (r ∷ rs) a = omega (arith, length-append (markedOctets r) (octetsOf rs), a .0 .short, octets-few rs (a .1))
+
+mm-octets-few : (rs : List MmRecord) → All MmFine rs → length (mmOctetsOf rs) ≤ 1026 * length rs
+unfolding mmOctetsOf mmMarkedOctets
+mm-octets-few [] a = omega arith
+mm-octets-few (r ∷ rs) a =
+    omega (arith, length-append (mmMarkedOctets r) (mmOctetsOf rs), at-most-400 r (a .0), mm-octets-few rs (a .1))
 
 -- ---- 11 is the last row
 
@@ -99,7 +138,7 @@ last-row k (row j false ∷ rs) t z o e = last-row k rs t z (o .1) e
 module _ (n : Node) (s : List ℕ) where
   -- the rows before the last, which alone asks for the room
   early : List Row
-  early = take 11 (refusals n s [])
+  early = take 14 (refusals n s [])
 
   abbrev x : List ℕ
   x = output n (timeOf s) (saidOf s)
@@ -110,25 +149,7 @@ module _ (n : Node) (s : List ℕ) where
 
   others : Other 11 early
   unfolding refusals early
-  others = (
-    (λ e. omega arith),
-    (
-      (λ e. omega arith),
-      (
-        (λ e. omega arith),
-        (
-          (λ e. omega arith),
-          (
-            (λ e. omega arith),
-            (
-              (λ e. omega arith),
-              ((λ e. omega arith), ((λ e. omega arith), ((λ e. omega arith), ((λ e. omega arith), ((λ e. omega arith), tt))))),
-            ),
-          ),
-        ),
-      ),
-    ),
-  )
+  others = ((λ e. omega arith), ((λ e. omega arith), ((λ e. omega arith), ((λ e. omega arith), ((λ e. omega arith), ((λ e. omega arith), ((λ e. omega arith), ((λ e. omega arith), ((λ e. omega arith), ((λ e. omega arith), ((λ e. omega arith), ((λ e. omega arith), ((λ e. omega arith), ((λ e. omega arith), tt))))))))))))))
 
   -- with room for what it writes
   fits-then : (b c : List ℕ) → firstFit (refusals n s b) ≡ 11 → length x ≤ length c → firstFit (refusals n s c) ≡ 0
@@ -140,9 +161,12 @@ module _ (n : Node) (s : List ℕ) where
   unfolding output
   enough h o e =
       let rs = recordsOf n (timeOf s) (saidOf s) in
-      let g = records-good n s x h o (fits-then roomy x e (omega arith)) in
+      let ms = mmRecordsOf n (timeOf s) (saidOf s) in
+      let f = fits-then roomy x e (omega arith) in
+      let g = records-good n s x h o f in
+      let d = mm-records-good n s x h o f in
       let l : length x ≤ 16416 =
-      omega (arith, octets-few rs g, records-few n (timeOf s) (saidOf s), length-map (n .contexts) seen, h .size) in
+      omega (arith, length-append (octetsOf rs) (mmOctetsOf ms), octets-few rs g, mm-octets-few ms d, records-few n (timeOf s) (meaningOf (eventOf s)) s h) in
       let z = fits-then roomy roomy e (omega (arith, room-size)) in
       omega arith
 

@@ -23,7 +23,8 @@ use Rattle.history.specs.Log.{Said}
 use Rattle.node.specs.declared.Node.{Node}
 use Rattle.node.specs.declared.Message.{Message}
 use Rattle.node.specs.Sound.{sound, latest, mostAccepted}
-use Rattle.node.specs.Step.{Brought, slots, output, notActive, isActive, allTaken, saidOf, refusals, stepOf}
+use Rattle.node.specs.Step.{Words, handling, subscribing, slots, places, output, saidOf, refusals, stepOf}
+use Rattle.history.specs.Table.{notActive, isActive, allTaken}
 use Rattle.node.specs.Held.{Octets, Held}
 use Rattle.node.specs.Batch.{Done, pairsOf, reportsOf, oneByOne, listRefusals, batchBy, batchOf}
 use Rattle.node.proofs.RefusalRows.{tableRows, laterRows, parted, numbered-rows, fit-more}
@@ -168,20 +169,28 @@ answers = 0 ∷ 13 ∷ 14 ∷ 6 ∷ 7 ∷ 8 ∷ 11 ∷ []
 
 -- an event that names a context to tell it something is not refused as an activation is
 module _ (n : Node) (s b : List ℕ) (m : Name) (up down : ℕ) (told : eventOf s ≡ E.Traffic m up down) where
-  abbrev w : Said (Unit {0}) Name Brought Message
+  abbrev w : Words
   w = saidOf s
 
   abbrev of-traffic : List Row
   of-traffic = row 13 (not (sound n)) ∷ row 14 false ∷ row 6 (ltb latest (timeOf s) || ltb (timeOf s) (n .clock)) ∷ row 7 (leb mostAccepted (n .accepted))
-      ∷ row 8 (notActive (n .profile) w (slots n)) ∷ row 11 (ltb (length b) (length (output n (timeOf s) w))) ∷ []
+      ∷ row 8 (notActive (handling (n .profile)) (w .contexts) (slots n)) ∷ row 11 (ltb (length b) (length (output n (timeOf s) w))) ∷ []
 
-  names-none : (isActive (n .profile) w (slots n) ≡ false) × (allTaken w (slots n) ≡ false)
-  unfolding isActive allTaken
-  names-none = (rw told, rw told)
+  -- nor as one for a subscriber is
+  record Passes : Type 0 where
+    new : isActive (handling (n .profile)) (w .contexts) (slots n) ≡ false
+    room : allTaken (handling (n .profile)) (w .contexts) (slots n) ≡ false
+    attached : notActive (subscribing (n .profile)) (w .subscribers) (places n) ≡ false
+    detached : isActive (subscribing (n .profile)) (w .subscribers) (places n) ≡ false
+    vacant : allTaken (subscribing (n .profile)) (w .subscribers) (places n) ≡ false
+
+  passes : Passes
+  unfolding notActive isActive allTaken
+  passes = record { new = rw told; room = rw told; attached = rw told; detached = rw told; vacant = rw told }
 
   later-rows : firstFit (row 13 (not (sound n)) ∷ laterRows n (timeOf s) w b) ≡ firstFit of-traffic
   unfolding firstFit laterRows tableRows
-  later-rows = rw (names-none .0, names-none .1)
+  later-rows = rw (passes .new, passes .room, passes .attached, passes .detached, passes .vacant)
 
   rows-first : firstFit (rows s) ≡ 0
       → firstFit (row 13 (not (sound n)) ∷ (rows s ++ laterRows n (timeOf s) w b)) ≡ firstFit (row 13 (not (sound n)) ∷ laterRows n (timeOf s) w b)

@@ -26,9 +26,13 @@ use Rattle.context.specs.Sound.{slotsOk, contextOk}
 use Rattle.context.proofs.Scans.{slots-ask}
 use Rattle.context.proofs.Sounds.{slot-active}
 use Rattle.history.specs.Lists.{All}
-use Rattle.history.proofs.Lists.{all-map}
-use Rattle.history.proofs.Scans.{First, here, there, first-below, asks-at}
+use Rattle.history.proofs.Lists.{all-map, all-at}
+use Rattle.history.proofs.Scans.{first-passes, first-below, asks-at}
 use Rattle.history.proofs.Slots.{neither}
+use Rattle.keys.specs.declared.Slot as N
+use Rattle.keys.specs.Slots as keys
+use Rattle.subscriber.specs.Subscriber.{slotOf as imsiSlot}
+use Rattle.subscriber.specs.Sound.{slotsOk as subscribersOk}
 use Rattle.node.specs.declared.Node.{Node}
 use Rattle.node.specs.declared.batch.Reports.{Reports}
 use Rattle.node.specs.declared.batch.Reports.the-variants.{Refuse, Nothing, Tell}
@@ -46,17 +50,6 @@ use Rattle.node.proofs.Calls.{is-sound}
 use Rattle.node.proofs.Tasks.{Tasked, tasked}
 use Rattle.node.proofs.Ones.{throughAll, alike}
 use Rattle.node.proofs.Seats.{Good, Fine, event, same, kept}
-
--- ---- elements at a place
-
-first-passes : {A : Type 0} {q : A → Bool} {l : List A} {i : ℕ} (d : A) → First q l i → q (getD l i d) ≡ true
-first-passes d (here e) = e
-first-passes d (there e f) = first-passes d f
-
-all-at : {A : Type 0} (P : A → Type 0) (l : List A) (i : ℕ) (d : A) → All P l → i < length l → P (getD l i d)
-all-at P [] i d a h = absurd (omega arith)
-all-at P (x ∷ xs) zero d a h = a .0
-all-at P (x ∷ xs) (suc i) d a h = all-at P xs i d (a .1) (omega arith)
 
 -- ---- the numbers of a list are of four octets each
 
@@ -94,11 +87,11 @@ module _ (n : Node) (m : Name) (t : ℕ) (vs b : List ℕ) (h : Held n) (tl : Wo
 
   -- the first pair's event, as the node takes it
   task : (u d : ℕ) → Word u → Word d → sound n ≡ true
-      → Tasked n (trafficEvent m t u d) b (timelyTask (n .clock) (n .accepted) (map slotOf (n .contexts)) t (E.Traffic m u d))
+      → Tasked n (trafficEvent m t u d) b (timelyTask (n .clock) (n .accepted) (map slotOf (n .contexts)) (map imsiSlot (n .subscribers)) t (E.Traffic m u d))
   unfolding taskFor
   task u d ul dl ok =
       let s = traffic-said m t u d (omega (arith, tl)) (omega (arith, id)) (omega (arith, ggsn)) (omega (arith, ul)) (omega (arith, dl)) in
-      rw s at (tasked n (trafficEvent m t u d) b (shapes (n .contexts) (h .contexts)) (h .size) true ok)
+      rw s at (tasked n (trafficEvent m t u d) b h true ok)
 
   -- the context in the slot i is told
   pub record Telling (i : ℕ) : Type 0 where
@@ -184,7 +177,7 @@ module _ {n : Node} {m : Name} {t : ℕ} {vs b : List ℕ} {h : Held n} {tl : Wo
     active : getD (n .contexts) i d .active ≡ 1
     active =
         let c = getD (n .contexts) i d in
-        eqb-true (c .active) 1 (both (taken c) _ (first-passes d (named-at (n .contexts) m (k .found))) .0)
+        eqb-true (c .active) 1 (both (taken c) _ (first-passes (named-at (n .contexts) m (k .found)) d) .0)
 
     pub listens : Listens (n .profile) (n .clock) (n .accepted) (getD (n .contexts) i d) t
     listens =
@@ -198,7 +191,7 @@ module _ {n : Node} {m : Name} {t : ℕ} {vs b : List ℕ} {h : Held n} {tl : Wo
           few = omega (arith, k .few);
           active = active;
           sound = sym (slot-active (n .profile .limits) (n .profile .zone) (n .clock) (n .accepted) c active) ∙ s;
-          shape = all-at Shaped (n .contexts) i d (shapes (n .contexts) (h .contexts)) place;
+          shape = all-at Shaped (n .contexts) (shapes (n .contexts) (h .contexts)) i d place;
         }
 
     -- at first the seat is the node
@@ -209,7 +202,7 @@ module _ {n : Node} {m : Name} {t : ℕ} {vs b : List ℕ} {h : Held n} {tl : Wo
     seated-first =
         let a : n .accepted + 0 ≡ n .accepted = omega arith in
         let c = set-getD (n .contexts) i d in
-        λ j. record { profile = n .profile; clock = n .clock; accepted = a j; contexts = c j }
+        λ j. record { profile = n .profile; clock = n .clock; accepted = a j; contexts = c j; subscribers = n .subscribers }
 
     id-four : m .id < 256 ^ 4
     id-four = omega (arith, id)
@@ -242,12 +235,13 @@ module _ {n : Node} {m : Name} {t : ℕ} {vs b : List ℕ} {h : Held n} {tl : Wo
 -- ---- as the code finds it out
 
 pub means-by : (n : Node) (m : Name) (t : ℕ) (vs b : List ℕ) (h : Held n) (tl : Word t) (id : Word (m .id)) (ggsn : Word (m .ggsn)) (w : All Word vs)
-    {names : List Slot} {good ok : Bool} {k : Reports}
+    {names : List Slot} {imsis : List N.Slot} {good fine ok : Bool} {k : Reports}
     → (names ≡ map slotOf (n .contexts)) × (good ≡ slotsOk (n .profile .limits) (n .profile .zone) (n .clock) (n .accepted) (n .contexts))
-    → ok ≡ (profileOk (n .profile) && leb (n .clock) latest && leb (n .accepted) mostAccepted && distinct names && good)
+    → (imsis ≡ map imsiSlot (n .subscribers)) × (fine ≡ subscribersOk (n .profile .zone) (n .clock) (n .accepted) (n .subscribers))
+    → ok ≡ (profileOk (n .profile) && leb (n .clock) latest && leb (n .accepted) mostAccepted && distinct names && good && keys.distinct imsis && fine)
     → k ≡ reportsFor ok (n .clock) (n .accepted) names m t (length vs) → Means n m t vs b h tl id ggsn w k
-means-by n m t vs b h tl id ggsn w {names} {good} {ok} {k} looked e q =
-    let s : sound n ≡ ok = is-sound n (looked .0) (e ∙ rw (looked .1)) in
+means-by n m t vs b h tl id ggsn w {ok = ok} looked noted e q =
+    let s : sound n ≡ ok = is-sound n looked noted e in
     rw q (rw (looked .0) (means n m t vs b h tl id ggsn w ok s))
 
 pub batches-still : {n : Node} {m : Name} {t : ℕ} {vs b : List ℕ} {j a c l : ℕ} {n′ : Node}

@@ -6,7 +6,7 @@ use Prim.Native.Nat.{ℕ, zero, suc, _+_, _-_, _^_, _≤_, _<_}
 use native.Mathlib.Omega.{arith}
 use lib.ListN.{length, getD, replicate}
 use lib.Seq.{drop-append-seam}
-use borrow.Author.Tests.{le-leb}
+use borrow.Author.Tests.{le-leb, lt-ltb}
 use Rattle.format.proofs.Tests.{true-T}
 use Rattle.ber.specs.Int.{spelt, octetsFrom, numberIn}
 use Rattle.ber.specs.Imsi.{imsiOk}
@@ -27,13 +27,21 @@ use Rattle.event.specs.declared.Event.the-variants as E
 use Rattle.event.specs.declared.Decoded.the-variants as D
 use Rattle.event.specs.Event.{decoded}
 use Rattle.event.proofs.Numbers.{number-more}
-use Rattle.event.proofs.Theorems.{activated as activate-in, reported as reports, qos-changed, released}
+use Rattle.event.specs.Fields.{lacOf, racOf, detach}
+use Rattle.event.proofs.Theorems.{activated as activate-in, reported as reports, qos-changed, released, attached as attach-in, located as moved-in, detached}
+use Rattle.mcdr.specs.declared.Place.{Place}
+use Rattle.mcdr.specs.Change.{placeOk}
+use Rattle.mcdr.specs.Rules as mm
+use Rattle.subscriber.specs.declared.Notice.{Notice}
+use Rattle.subscriber.specs.declared.Notice.the-variants.{Moved, Managed, Detached}
+use Rattle.subscriber.specs.Hear.{noticeOk}
+use Rattle.subscriber.specs.Held.{noticeHeld}
 use Rattle.context.specs.Sound.{contextOk}
 use Rattle.context.proofs.Sounds.{good-is}
-use Rattle.history.specs.Log.{Said, activates, tells, tellsAll, nothing}
+use Rattle.history.specs.Log.{activates, tells, tellsAll, nothing}
 use Rattle.node.specs.declared.Message.{Message}
-use Rattle.node.specs.Step.{Brought, broughtBy, takes, activated}
-use Rattle.node.specs.Meaning.{report, tariffChange, tick, meaningOf}
+use Rattle.node.specs.Step.{Brought, broughtBy, Attached, ToContexts, ToSubscribers, Words, takes, activated}
+use Rattle.node.specs.Meaning.{report, tariffChange, tick, placeWith, meaningOf}
 use Rattle.node.specs.Private.Premises.{InRange, ReportFits}
 use Rattle.node.specs.Private.Task.{MeaningInRange}
 use Rattle.node.specs.Held.{Octets, HeldContext}
@@ -66,12 +74,28 @@ pub record Brings (m : Name) (b : Brought) : Type 0 where
   pub pdptype : b .pdptype < 2 ^ 16
   pub address : b .address < 2 ^ 32
 
--- Of any event; none says nothing.
-abbrev pub AllInRange : Said (Unit {0}) Name Brought Message → Type 0
+-- Of what is said to contexts, and to subscribers.
+abbrev pub AllInRange : ToContexts → Type 0
 AllInRange (activates m b) = Brings m (b tt)
 AllInRange (tells m h) = InRange h × ReportFits h
 AllInRange (tellsAll h) = InRange h × ReportFits h
-AllInRange nothing = ⊥
+AllInRange nothing = Unit {0}
+
+-- what an attach of this name must bring
+pub record Comes (k : ℕ) (a : Attached) : Type 0 where
+  pub imsi : imsiOk (a .imsi) ≡ true
+  pub name : spelt 0 (a .imsi) ≡ k
+  pub place : placeOk (a .place) ≡ true
+
+abbrev pub NoticesInRange : ToSubscribers → Type 0
+NoticesInRange (activates k a) = Comes k (a tt)
+NoticesInRange (tells k m) = (noticeOk m ≡ true) × (noticeHeld m ≡ true)
+NoticesInRange (tellsAll m) = ⊥
+NoticesInRange nothing = Unit {0}
+
+pub record Fair (w : Words) : Type 0 where
+  pub contexts : AllInRange (w .contexts)
+  pub subscribers : NoticesInRange (w .subscribers)
 
 -- what each kind of event in range is to a context
 differ : true ≡ false → ⊥
@@ -93,6 +117,19 @@ report-in-range up down = record {
   managed = λ e. absurd (differ (sym e));
 }
 
+moved-ok : (q : Place) → noticeOk (Moved q) ≡ true
+unfolding noticeOk
+moved-ok q = refl
+
+managed-ok : noticeOk Managed ≡ true
+unfolding noticeOk
+managed-ok = refl
+
+-- an event's causes of a detach are a record's
+detached-ok : (c : ℕ) → detach c ≡ true → noticeOk (Detached c) ≡ true
+unfolding noticeOk detach mm.detach
+detached-ok c e = e
+
 -- octets that no row refuses say what is in range
 pub fair-meaning : (s : List ℕ) (e : Event) {t : ℕ} → decoded s ≡ D.Said t e → MeaningInRange (meaningOf e)
 fair-meaning s (E.Activate a) d = tt
@@ -105,31 +142,70 @@ fair-meaning s (E.Release n c) d =
 fair-meaning s E.Tick d = plain tick refl refl refl refl refl refl
 fair-meaning s (E.Management n) d =
     record { uncounted = λ e. (refl, refl); qos = λ e. absurd (differ (sym e)); released = λ e. absurd (differ (sym e)); managed = λ k e. refl }
+fair-meaning s (E.Attach k l r) d = tt
+fair-meaning s (E.Location k l r) d = moved-ok (placeWith l r)
+fair-meaning s (E.ManageSubscriber k) d = managed-ok
+fair-meaning s (E.Detach k c) d = detached-ok c (detached s d)
 
-pub fair-said : (s : List ℕ) (e : Event) {t : ℕ} → Octets s → decoded s ≡ D.Said t e → AllInRange (takes e s)
+small : {m : Message} → m .up ≡ 0 → m .down ≡ 0 → ReportFits m
+small u d = record { up = omega arith; down = omega arith }
+
+-- a place that an event says is one
+there : (s : List ℕ) → Octets s → {l r : ℕ} → l ≡ lacOf s → r ≡ racOf s → placeOk (placeWith l r) ≡ true
+unfolding placeOk
+there s o {l} {r} p q =
+    rw (lt-ltb l (256 ^ 2) (rw p (number-below 2 15 s o)), lt-ltb r 256 (rw q (octet-at s o 17)))
+
+there-noticed : (s : List ℕ) → Octets s → {l r : ℕ} → l ≡ lacOf s → r ≡ racOf s → noticeHeld (Moved (placeWith l r)) ≡ true
+unfolding noticeHeld
+there-noticed s o p q = there s o p q
+
+managed-held : noticeHeld Managed ≡ true
+unfolding noticeHeld
+managed-held = refl
+
+detached-held : (c : ℕ) → noticeHeld (Detached c) ≡ true
+unfolding noticeHeld
+detached-held c = refl
+
+pub fair-said : (s : List ℕ) (e : Event) {t : ℕ} → Octets s → decoded s ≡ D.Said t e → Fair (takes e s)
 fair-said s (E.Activate a) o d =
     let x = activate-in s d in
     let n = x .size in
     record {
-      flags = x .flags;
-      imsi = x .imsi;
-      least = omega (arith, x .least);
-      most = omega (arith, x .most);
-      apn = x .apn;
-      qos = x .qos;
-      id = rw (x .is) (number-below 4 7 s o);
-      ggsn = rw (x .is) (number-below 4 11 s o);
-      pdptype = rw (x .is) (number-below 2 24 s o);
-      address = rw (x .is) (number-below 4 26 s o);
+      contexts = record {
+        flags = x .flags;
+        imsi = x .imsi;
+        least = omega (arith, x .least);
+        most = omega (arith, x .most);
+        apn = x .apn;
+        qos = x .qos;
+        id = rw (x .is) (number-below 4 7 s o);
+        ggsn = rw (x .is) (number-below 4 11 s o);
+        pdptype = rw (x .is) (number-below 2 24 s o);
+        address = rw (x .is) (number-below 4 26 s o);
+      };
+      subscribers = tt;
     }
 fair-said s (E.Traffic n up down) o d =
     let x = reports s d in
-    (fair-meaning s (E.Traffic n up down) d, record { up = rw (x .0) (number-below 4 15 s o); down = rw (x .1) (number-below 4 19 s o) })
-fair-said s (E.Qos n q) o d = (fair-meaning s (E.Qos n q) d, record { up = omega arith; down = omega arith })
-fair-said s E.Tariff o d = (fair-meaning s E.Tariff d, record { up = omega arith; down = omega arith })
-fair-said s (E.Release n c) o d = (fair-meaning s (E.Release n c) d, record { up = omega arith; down = omega arith })
-fair-said s E.Tick o d = (fair-meaning s E.Tick d, record { up = omega arith; down = omega arith })
-fair-said s (E.Management n) o d = (fair-meaning s (E.Management n) d, record { up = omega arith; down = omega arith })
+    record {
+      contexts = (fair-meaning s (E.Traffic n up down) d, record { up = rw (x .0) (number-below 4 15 s o); down = rw (x .1) (number-below 4 19 s o) });
+      subscribers = tt;
+    }
+fair-said s (E.Qos n q) o d = record { contexts = (fair-meaning s (E.Qos n q) d, small refl refl); subscribers = tt }
+fair-said s E.Tariff o d = record { contexts = (fair-meaning s E.Tariff d, small refl refl); subscribers = tt }
+fair-said s (E.Release n c) o d = record { contexts = (fair-meaning s (E.Release n c) d, small refl refl); subscribers = tt }
+fair-said s E.Tick o d = record { contexts = (fair-meaning s E.Tick d, small refl refl); subscribers = tt }
+fair-said s (E.Management n) o d = record { contexts = (fair-meaning s (E.Management n) d, small refl refl); subscribers = tt }
+fair-said s (E.Attach k l r) o d =
+    let x = attach-in s d in
+    record { contexts = tt; subscribers = record { imsi = x .imsi; name = x .name ∙ sym (x .key); place = there s o (x .lac) (x .rac) } }
+fair-said s (E.Location k l r) o d =
+    let x = moved-in s d in
+    record { contexts = tt; subscribers = (fair-meaning s (E.Location k l r) d, there-noticed s o (x .0) (x .1)) }
+fair-said s (E.ManageSubscriber k) o d = record { contexts = tt; subscribers = (fair-meaning s (E.ManageSubscriber k) d, managed-held) }
+fair-said s (E.Detach k c) o d = record { contexts = tt; subscribers = (fair-meaning s (E.Detach k c) d, detached-held c) }
 
 -- ---- the context that it opens
 
@@ -175,4 +251,4 @@ module _ (p : Profile) (t : ℕ) (m : Name) (b : Brought) (r : Brings m b) where
 -- so of an activate that is said
 pub activate-sound : (p : Profile) (s : List ℕ) {t : ℕ} {a : Activation} → profileOk p ≡ true → Octets s → decoded s ≡ D.Said t (E.Activate a) → (accepted : ℕ)
     → contextOk (p .limits) (p .zone) t (accepted + 1) (activated p t (a .name) (broughtBy a s)) ≡ true
-activate-sound p s {t} {a} ok o d accepted = activated-sound p t (a .name) (broughtBy a s) (fair-said s (E.Activate a) o d) ok accepted
+activate-sound p s {t} {a} ok o d accepted = activated-sound p t (a .name) (broughtBy a s) (fair-said s (E.Activate a) o d .contexts) ok accepted

@@ -8,7 +8,6 @@ use lib.Dec.{leb, ltb, eqb}
 use lib.ListN.{length}
 use borrow.Author.Tests.{le-leb, lt-leb, le-ltb, lt-ltb, eqb-true, ne-eqb}
 use Rattle.format.proofs.Tests.{by}
-use Rattle.event.specs.declared.Name.{Name}
 use Rattle.event.specs.declared.Event.{Event}
 use Rattle.event.specs.declared.Decoded.{Decoded}
 use Rattle.event.specs.declared.Decoded.the-variants.{Said, Refused}
@@ -20,11 +19,13 @@ use Rattle.profile.specs.Profile.{profileOk}
 use Rattle.context.specs.declared.slots.Slot.{Slot}
 use Rattle.context.specs.Sound.{slotsOk}
 use Rattle.context.specs.Slots.{slotOf, distinct}
-use Rattle.history.specs.Log as L
+use Rattle.keys.specs.declared.Slot as named
+use Rattle.keys.specs.Slots as keys
+use Rattle.subscriber.specs.Subscriber.{slotOf as imsiSlot}
+use Rattle.subscriber.specs.Sound.{slotsOk as subscribersOk}
 use Rattle.node.specs.declared.Node.{Node}
-use Rattle.node.specs.declared.Message.{Message}
 use Rattle.node.specs.Sound.{sound, latest, mostAccepted}
-use Rattle.node.specs.Step.{Brought, takes, saidOf, refusals, outcome, stepOf, Steps}
+use Rattle.node.specs.Step.{Words, takes, saidOf, refusals, outcome, stepOf, Steps}
 use Rattle.node.proofs.RefusalRows.{tableRows, laterRows, parted, numbered-rows, fit-more, fit-first}
 use Rattle.node.proofs.Served.{Outs, outs-refused}
 
@@ -52,7 +53,7 @@ refused-by n s {k} h =
 
 -- ---- the answers
 
-module _ (n : Node) (t : ℕ) (w : L.Said (Unit {0}) Name Brought Message) (b : List ℕ) {a k : ℕ} {r : Node} (q : r ≡ n) (u : k ≡ 0) where
+module _ (n : Node) (t : ℕ) (w : Words) (b : List ℕ) {a k : ℕ} {r : Node} (q : r ≡ n) (u : k ≡ 0) where
   pub outs-late : latest < t → a ≡ 6 → Outs (laterRows n t w b) n t w b b a r k
   unfolding laterRows firstFit
   outs-late l p = outs-refused n t w b (laterRows n t w b) 6 (rw (lt-ltb latest t l)) (λ i. omega arith) p q u
@@ -66,7 +67,7 @@ module _ (n : Node) (t : ℕ) (w : L.Said (Unit {0}) Name Brought Message) (b : 
   outs-many m s l p =
       outs-refused n t w b (laterRows n t w b) 7 (rw (le-ltb latest t m, le-ltb t (n .clock) s, le-leb mostAccepted (n .accepted) l)) (λ i. omega arith) p q u
 
-pub outs-timely : (n : Node) (t : ℕ) (w : L.Said (Unit {0}) Name Brought Message) (b : List ℕ) {b′ : List ℕ} {a k : ℕ} {r : Node}
+pub outs-timely : (n : Node) (t : ℕ) (w : Words) (b : List ℕ) {b′ : List ℕ} {a k : ℕ} {r : Node}
     → t ≤ latest → n .clock ≤ t → n .accepted < mostAccepted
     → Outs (tableRows n t w b) n t w b b′ a r k → Outs (laterRows n t w b) n t w b b′ a r k
 unfolding laterRows firstFit
@@ -104,9 +105,10 @@ module _ (n : Node) (s b : List ℕ) where
         record { is = rw f (rw (h .time, h .event) at (o .is)) }
 
 -- the node's rules are those that the code tested
-pub is-sound : (n : Node) {names : List Slot} {r : Bool} → names ≡ map slotOf (n .contexts)
-    → r ≡ (profileOk (n .profile) && leb (n .clock) latest && leb (n .accepted) mostAccepted && distinct names && slotsOk (n .profile .limits)
-    (n .profile .zone) (n .clock) (n .accepted) (n .contexts))
+pub is-sound : (n : Node) {names : List Slot} {imsis : List named.Slot} {good fine r : Bool}
+    → (names ≡ map slotOf (n .contexts)) × (good ≡ slotsOk (n .profile .limits) (n .profile .zone) (n .clock) (n .accepted) (n .contexts))
+    → (imsis ≡ map imsiSlot (n .subscribers)) × (fine ≡ subscribersOk (n .profile .zone) (n .clock) (n .accepted) (n .subscribers))
+    → r ≡ (profileOk (n .profile) && leb (n .clock) latest && leb (n .accepted) mostAccepted && distinct names && good && keys.distinct imsis && fine)
     → sound n ≡ r
 unfolding sound
-is-sound n e k = rw (k, e)
+is-sound n e f k = rw (k, e .0, e .1, f .0, f .1)

@@ -14,7 +14,7 @@ use Rattle.container.specs.declared.OpenRecord.{OpenRecord}
 use Rattle.container.specs.Container.{containerOk}
 use Rattle.container.specs.Open as O
 use Rattle.container.specs.Open.{used, running, endedAll}
-use Rattle.container.proofs.Opens.{padded-rest}
+use Rattle.container.proofs.Padded.{padded-rest}
 use Rattle.container.proofs.OpenRules.{closed-list, opening-ok, running-ok, used-length}
 use Rattle.container.proofs.Padded.{take-padded}
 use Rattle.event.specs.Fields.{release as releases}

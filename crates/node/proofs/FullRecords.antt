@@ -15,7 +15,7 @@ use Rattle.container.specs.declared.OpenRecord.{OpenRecord}
 use Rattle.container.specs.List.{padded, blanks}
 use Rattle.container.specs.Open.{used, roomy, running}
 use Rattle.container.specs.Open as O
-use Rattle.container.proofs.Opens.{padded-used, padded-more}
+use Rattle.container.proofs.Padded.{padded-used, padded-more}
 use Rattle.profile.specs.declared.Profile.{Profile}
 use Rattle.context.specs.declared.Context.{Context}
 use Rattle.scdr.specs.declared.Record.{Record}

@@ -10,7 +10,9 @@ pub mod Ranges
 pub mod Shapes
 pub mod Found
 pub mod Hearing
+pub mod Attached
 pub mod Served
+pub mod Notified
 pub mod Copied
 pub mod Calls
 pub mod Tasks
@@ -21,6 +23,7 @@ pub mod ContextKept
 pub mod Brings
 pub mod TableKept
 pub mod Filled
+pub mod SubscribersKept
 pub mod NodeKept
 pub mod StepKept
 pub mod BatchKept

@@ -1,13 +1,12 @@
 -- Every accepted call keeps the node sound and as the types have it, and each record that it writes is within the rules and reads back.
 use mathlib.Core.Path.{_≡_, refl, sym, _∙_}
 use mathlib.Core.Bool.{true, false, not, _||_}
-use mathlib.Core.List.{List, [], _∷_, _++_}
+use mathlib.Core.List.{List, [], _∷_, _++_, map}
 use Prim.Native.Nat.{ℕ, _+_, _≤_, _<_}
 use native.Mathlib.Omega.{arith}
 use lib.Dec.{leb, ltb}
 use lib.ListN.{length}
 use borrow.Author.Tests.{le-leb, leb-false, ltb-false, not-false as not-false-true}
-use Rattle.event.specs.declared.Name.{Name}
 use Rattle.event.specs.declared.Decoded.the-variants as D
 use Rattle.event.specs.Fields.{timeOf}
 use Rattle.event.specs.Rows.{row, firstFit, known, rows}
@@ -19,22 +18,25 @@ use Rattle.context.specs.Context.{noContext}
 use Rattle.context.proofs.Sounds.{slot-active}
 use Rattle.history.specs.Lists.{All}
 use Rattle.history.specs.Slots.{distinct}
-use Rattle.history.proofs.Slots.{neither, fill-is, filled-all, filled-length, filled-distinct, pairs-length}
+use Rattle.history.specs.Table.{slotsAfter, writes, notActive, isActive, allTaken}
+use Rattle.subscriber.specs.Tell.{stood as stayed}
+use Rattle.history.proofs.Slots.{neither, stand-all, fill-is, filled-all, filled-length, filled-distinct, pairs-length}
 use Rattle.history.proofs.Hearing.{none-bears}
-use Rattle.history.specs.Log.{Said, activates, tells, tellsAll, nothing}
+use Rattle.history.specs.Log.{activates, tells, tellsAll, nothing}
 use Rattle.node.specs.declared.Node.{Node}
-use Rattle.node.specs.declared.Message.{Message}
 use Rattle.node.specs.Sound.{sound, latest, mostAccepted}
-use Rattle.node.specs.Step.{Brought, handling, taken, slots, activated, nodeAfter, recordsOf, output, notActive, isActive, allTaken, saidOf, refusals}
+use Rattle.node.specs.Step.{ToContexts, Words, handling, subscribing, taken, stood, slots, places, activated}
+use Rattle.node.specs.Step.{nodeAfter, recordsOf, mmRecordsOf, output, saidOf, refusals}
 use Rattle.node.specs.Private.Premises.{Due}
-use Rattle.node.specs.Private.Range.{advanced}
 use Rattle.node.specs.Held.{Octets, HeldContext, Held, Whole}
 use Rattle.node.proofs.Rules.{rules}
 use Rattle.node.proofs.RefusalRows.{tableRows, laterRows, parted, numbered-rows, none-fits}
 use Rattle.node.proofs.Found.{contexts, apart}
 use Rattle.node.proofs.Hearing.{same-exactly, all-settled}
 use Rattle.node.proofs.ContextKept.{Fine}
-use Rattle.node.proofs.Brings.{AllInRange, fair-said, activated-sound, activated-held}
+use Rattle.node.proofs.Attached as attached
+use Rattle.node.proofs.SubscribersKept.{MmFine, subscribers-kept, mm-fine}
+use Rattle.node.proofs.Brings.{AllInRange, NoticesInRange, Fair, fair-said, activated-sound, activated-held}
 use Rattle.node.proofs.TableKept.{shapes, Onward, onward-slots, onward-held, onward-distinct, all-stay, all-fine}
 use Rattle.node.proofs.Filled.{slots-later, filled-slots}
 
@@ -48,9 +50,12 @@ pub record Accepts (n : Node) (s b : List ℕ) : Type 0 where
   pub since : n .clock ≤ timeOf s
   pub until : timeOf s ≤ latest
   pub few : n .accepted < mostAccepted
-  pub known : notActive (n .profile) (saidOf s) (slots n) ≡ false
-  pub new : isActive (n .profile) (saidOf s) (slots n) ≡ false
-  pub room : allTaken (saidOf s) (slots n) ≡ false
+  pub known : notActive (handling (n .profile)) (saidOf s .contexts) (slots n) ≡ false
+  pub new : isActive (handling (n .profile)) (saidOf s .contexts) (slots n) ≡ false
+  pub room : allTaken (handling (n .profile)) (saidOf s .contexts) (slots n) ≡ false
+  pub attached : notActive (subscribing (n .profile)) (saidOf s .subscribers) (places n) ≡ false
+  pub detached : isActive (subscribing (n .profile)) (saidOf s .subscribers) (places n) ≡ false
+  pub vacant : allTaken (subscribing (n .profile)) (saidOf s .subscribers) (places n) ≡ false
   pub fits : length (output n (timeOf s) (saidOf s)) ≤ length b
 
 is-known : (s : List ℕ) → firstFit (rows s) ≡ 0 → known s ≡ true
@@ -71,19 +76,25 @@ module _ (n : Node) (s b : List ℕ) where
       let t = timeOf s in
       let w = saidOf s in
       let r₁₁ = row 11 (ltb (length b) (length (output n t w))) ∷ [] in
-      let r₁₀ = row 10 (allTaken w (slots n)) ∷ r₁₁ in
-      let r₉ = row 9 (isActive (n .profile) w (slots n)) ∷ r₁₀ in
-      let r₈ = row 8 (notActive (n .profile) w (slots n)) ∷ r₉ in
+      let r₁₇ = row 17 (allTaken (subscribing (n .profile)) (w .subscribers) (places n)) ∷ r₁₁ in
+      let r₁₅ = row 15 (isActive (subscribing (n .profile)) (w .subscribers) (places n)) ∷ r₁₇ in
+      let r₁₆ = row 16 (notActive (subscribing (n .profile)) (w .subscribers) (places n)) ∷ r₁₅ in
+      let r₁₀ = row 10 (allTaken (handling (n .profile)) (w .contexts) (slots n)) ∷ r₁₆ in
+      let r₉ = row 9 (isActive (handling (n .profile)) (w .contexts) (slots n)) ∷ r₁₀ in
+      let r₈ = row 8 (notActive (handling (n .profile)) (w .contexts) (slots n)) ∷ r₉ in
       let r₇ = row 7 (leb mostAccepted (n .accepted)) ∷ r₈ in
       let r₆ = row 6 (ltb latest t || ltb t (n .clock)) ∷ r₇ in
       let p₁₃ = passed 13 (not (sound n)) (rows s ++ r₆) (omega arith) (rw (parted n s b) at e) in
       let q = none-fits (rows s) r₆ (numbered-rows s) (p₁₃ .rest) in
       let p₆ = passed 6 (ltb latest t || ltb t (n .clock)) r₇ (omega arith) (q .1) in
       let p₇ = passed 7 (leb mostAccepted (n .accepted)) r₈ (omega arith) (p₆ .rest) in
-      let p₈ = passed 8 (notActive (n .profile) w (slots n)) r₉ (omega arith) (p₇ .rest) in
-      let p₉ = passed 9 (isActive (n .profile) w (slots n)) r₁₀ (omega arith) (p₈ .rest) in
-      let p₁₀ = passed 10 (allTaken w (slots n)) r₁₁ (omega arith) (p₉ .rest) in
-      let p₁₁ = passed 11 (ltb (length b) (length (output n t w))) [] (omega arith) (p₁₀ .rest) in
+      let p₈ = passed 8 (notActive (handling (n .profile)) (w .contexts) (slots n)) r₉ (omega arith) (p₇ .rest) in
+      let p₉ = passed 9 (isActive (handling (n .profile)) (w .contexts) (slots n)) r₁₀ (omega arith) (p₈ .rest) in
+      let p₁₀ = passed 10 (allTaken (handling (n .profile)) (w .contexts) (slots n)) r₁₆ (omega arith) (p₉ .rest) in
+      let p₁₆ = passed 16 (notActive (subscribing (n .profile)) (w .subscribers) (places n)) r₁₅ (omega arith) (p₁₀ .rest) in
+      let p₁₅ = passed 15 (isActive (subscribing (n .profile)) (w .subscribers) (places n)) r₁₇ (omega arith) (p₁₆ .rest) in
+      let p₁₇ = passed 17 (allTaken (subscribing (n .profile)) (w .subscribers) (places n)) r₁₁ (omega arith) (p₁₅ .rest) in
+      let p₁₁ = passed 11 (ltb (length b) (length (output n t w))) [] (omega arith) (p₁₇ .rest) in
       let v = neither (ltb latest t) (ltb t (n .clock)) (p₆ .fails) in
       record {
         sound = not-false-true (sound n) (p₁₃ .fails);
@@ -95,6 +106,9 @@ module _ (n : Node) (s b : List ℕ) where
         known = p₈ .fails;
         new = p₉ .fails;
         room = p₁₀ .fails;
+        attached = p₁₆ .fails;
+        detached = p₁₅ .fails;
+        vacant = p₁₇ .fails;
         fits = ltb-false (length b) (length (output n t w)) (p₁₁ .fails);
       }
 
@@ -104,42 +118,95 @@ module _ (n : Node) (t : ℕ) (ok : sound n ≡ true) (h : Held n) (since : n .c
   abbrev due : Due (n .profile) t
   due = record { clock = n .clock; accepted = n .accepted; profile = rules n ok .profile; since = since; until = until; few = few }
 
-  -- with this table then
-  whole : (cs : List Context) → slotsOk (n .profile .limits) (n .profile .zone) t (n .accepted + 1) cs ≡ true → distinct contexts cs ≡ true
-      → All HeldContext cs → length cs ≡ length (n .contexts) → Whole (advanced n t cs)
-  unfolding sound
-  whole cs k d a l = record {
-    sound = rw (rules n ok .profile, le-leb t latest until, le-leb (n .accepted + 1) mostAccepted (omega arith), apart cs ∙ d, k);
-    held = record { profile = h .profile; size = l ∙ h .size; contexts = a };
+  -- the table cs of contexts after it
+  record Kept (cs : List Context) : Type 0 where
+    slots : slotsOk (n .profile .limits) (n .profile .zone) t (n .accepted + 1) cs ≡ true
+    names : distinct contexts cs ≡ true
+    held : All HeldContext cs
+    size : length cs ≡ length (n .contexts)
+
+  onward-kept : (cs : List Context) → Onward (n .profile) t (n .accepted + 1) (n .contexts) cs → Kept cs
+  onward-kept cs o = record {
+    slots = onward-slots o;
+    names = onward-distinct o (sym (apart (n .contexts)) ∙ rules n ok .names);
+    held = onward-held o;
+    size = pairs-length o;
   }
 
-  onward-whole : (cs : List Context) → Onward (n .profile) t (n .accepted + 1) (n .contexts) cs → Whole (advanced n t cs)
-  onward-whole cs o = whole cs (onward-slots o) (onward-distinct o (sym (apart (n .contexts)) ∙ rules n ok .names)) (onward-held o) (pairs-length o)
-
-  node-kept : (w : Said (Unit {0}) Name Brought Message) → AllInRange w → isActive (n .profile) w (slots n) ≡ false → Whole (nodeAfter n t w)
-  unfolding nodeAfter isActive activated
-  node-kept (activates m b) f new =
+  contexts-kept : (v : ToContexts) → AllInRange v → isActive (handling (n .profile)) v (slots n) ≡ false
+      → Kept (map stood (slotsAfter (handling (n .profile)) tt t v (slots n)))
+  unfolding isActive activated
+  contexts-kept (activates m b) f new =
       let p = n .profile in
       let r = rules n ok in
       let x = activated p t m (b tt) in
       let s = all-settled (p .limits) (p .zone) (n .clock) (n .accepted) (n .contexts) (shapes (n .contexts) (h .contexts)) (r .slots) in
       let g = fill-is taken noContext x (n .contexts) s in
       let k = activated-sound p t m (b tt) f (r .profile) (n .accepted) in
-      whole _
-      (filled-slots (p .limits) (p .zone) t (n .accepted + 1) g (slot-active (p .limits) (p .zone) t (n .accepted + 1) x refl ∙ k)
-      (slots-later (p .limits) (p .zone) (n .clock) (n .accepted) t (n .accepted + 1) since (omega arith) (n .contexts) (r .slots)))
-      (filled-distinct contexts same-exactly noContext g (none-bears (handling p) taken m (n .contexts) new) (sym (apart (n .contexts)) ∙ r .names))
-      (filled-all taken noContext HeldContext g (activated-held p t m (b tt) f) (h .contexts)) (filled-length taken noContext g)
-  node-kept (tells m x) f new = onward-whole _ (all-stay (n .profile) t due (h .profile) (tells m x) f (n .contexts) (rules n ok .slots) (h .contexts))
-  node-kept (tellsAll x) f new = onward-whole _ (all-stay (n .profile) t due (h .profile) (tellsAll x) f (n .contexts) (rules n ok .slots) (h .contexts))
-  node-kept nothing f new = absurd f
+      record {
+        slots = filled-slots (p .limits) (p .zone) t (n .accepted + 1) g (slot-active (p .limits) (p .zone) t (n .accepted + 1) x refl ∙ k)
+            (slots-later (p .limits) (p .zone) (n .clock) (n .accepted) t (n .accepted + 1) since (omega arith) (n .contexts) (r .slots));
+        names = filled-distinct contexts same-exactly noContext g (none-bears (handling p) taken m (n .contexts) new) (sym (apart (n .contexts)) ∙ r .names);
+        held = filled-all taken noContext HeldContext g (activated-held p t m (b tt) f) (h .contexts);
+        size = filled-length taken noContext g;
+      }
+  contexts-kept (tells m x) f new = onward-kept _ (all-stay (n .profile) t due (h .profile) (tells m x) f (n .contexts) (rules n ok .slots) (h .contexts))
+  contexts-kept (tellsAll x) f new = onward-kept _ (all-stay (n .profile) t due (h .profile) (tellsAll x) f (n .contexts) (rules n ok .slots) (h .contexts))
+  contexts-kept nothing f new =
+      let p = n .profile in
+      let r = rules n ok in
+      rw (stand-all taken noContext (n .contexts)
+      (all-settled (p .limits) (p .zone) (n .clock) (n .accepted) (n .contexts) (shapes (n .contexts) (h .contexts)) (r .slots)))
+      (record {
+        slots = slots-later (p .limits) (p .zone) (n .clock) (n .accepted) t (n .accepted + 1) since (omega arith) (n .contexts) (r .slots);
+        names = sym (apart (n .contexts)) ∙ r .names;
+        held = h .contexts;
+        size = refl;
+      })
 
-  records-fine : (w : Said (Unit {0}) Name Brought Message) → AllInRange w → All Fine (recordsOf n t w)
+  node-kept : (w : Words) → Fair w → isActive (handling (n .profile)) (w .contexts) (slots n) ≡ false
+      → isActive (subscribing (n .profile)) (w .subscribers) (places n) ≡ false → Whole (nodeAfter n t w)
+  unfolding nodeAfter sound
+  node-kept w f new come =
+      let r = rules n ok in
+      let c = contexts-kept (w .contexts) (f .contexts) new in
+      let s = subscribers-kept (n .profile) t due (h .profile) (n .subscribers) (r .places) (sym (attached.apart (n .subscribers)) ∙ r .imsis) (h .subscribers)
+      (w .subscribers) (f .subscribers) come in
+      record {
+        sound = rw (
+          r .profile,
+          le-leb t latest until,
+          le-leb (n .accepted + 1) mostAccepted (omega arith),
+          apart (map stood (slotsAfter (handling (n .profile)) tt t (w .contexts) (slots n))) ∙ c .names,
+          c .slots,
+          attached.apart (map stayed (slotsAfter (subscribing (n .profile)) tt t (w .subscribers) (places n))) ∙ s .names,
+          s .slots,
+        );
+        held = record {
+          profile = h .profile;
+          size = c .size ∙ h .size;
+          contexts = c .held;
+          places = s .size ∙ h .places;
+          subscribers = s .held;
+        };
+      }
+
+  records-fine : (w : Words) → AllInRange (w .contexts) → All Fine (recordsOf n t w)
   unfolding recordsOf
-  records-fine (activates m b) f = tt
-  records-fine (tells m x) f = all-fine (n .profile) t due (h .profile) (tells m x) f (n .contexts) (rules n ok .slots) (h .contexts)
-  records-fine (tellsAll x) f = all-fine (n .profile) t due (h .profile) (tellsAll x) f (n .contexts) (rules n ok .slots) (h .contexts)
-  records-fine nothing f = absurd f
+  records-fine w f = go (w .contexts) f
+    where
+      go : (v : ToContexts) → AllInRange v → All Fine (writes (handling (n .profile)) tt t v (slots n))
+      go (activates m b) f = tt
+      go (tells m x) f = all-fine (n .profile) t due (h .profile) (tells m x) f (n .contexts) (rules n ok .slots) (h .contexts)
+      go (tellsAll x) f = all-fine (n .profile) t due (h .profile) (tellsAll x) f (n .contexts) (rules n ok .slots) (h .contexts)
+      go nothing f = tt
+
+  mm-records-fine : (w : Words) → NoticesInRange (w .subscribers) → All MmFine (mmRecordsOf n t w)
+  unfolding mmRecordsOf
+  mm-records-fine w f =
+      let r = rules n ok in
+      mm-fine (n .profile) t due (h .profile) (n .subscribers) (r .places) (sym (attached.apart (n .subscribers)) ∙ r .imsis)
+      (h .subscribers) (w .subscribers) f
 
 -- ---- the theorems
 
@@ -149,10 +216,15 @@ module _ (n : Node) (s b : List ℕ) (h : Held n) (o : Octets s) (e : firstFit (
   pub sound-kept : Whole (nodeAfter n (timeOf s) (saidOf s))
   sound-kept =
       let a = accepts n s b e in
-      node-kept n (timeOf s) (a .sound) h (a .since) (a .until) (a .few) (saidOf s) (fair-said s (eventOf s) o (a .said)) (a .new)
+      node-kept n (timeOf s) (a .sound) h (a .since) (a .until) (a .few) (saidOf s) (fair-said s (eventOf s) o (a .said)) (a .new) (a .detached)
 
   -- every record that it writes is within the rules and as the types have it, reads back, and does not pass 1,024 octets
   pub records-good : All Fine (recordsOf n (timeOf s) (saidOf s))
   records-good =
       let a = accepts n s b e in
-      records-fine n (timeOf s) (a .sound) h (a .since) (a .until) (a .few) (saidOf s) (fair-said s (eventOf s) o (a .said))
+      records-fine n (timeOf s) (a .sound) h (a .since) (a .until) (a .few) (saidOf s) (fair-said s (eventOf s) o (a .said) .contexts)
+
+  pub mm-records-good : All MmFine (mmRecordsOf n (timeOf s) (saidOf s))
+  mm-records-good =
+      let a = accepts n s b e in
+      mm-records-fine n (timeOf s) (a .sound) h (a .since) (a .until) (a .few) (saidOf s) (fair-said s (eventOf s) o (a .said) .subscribers)

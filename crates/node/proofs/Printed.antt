@@ -26,6 +26,12 @@ use Rattle.profile.specs.Profile.{limitsOk, profileOk}
 use Rattle.context.specs.Sound.{fieldsOk as storedOk, closedOk, contextOk, zeroOk, slotOk, slotsOk}
 use Rattle.context.specs.Slots.{sameName, isActive, isFree, bears}
 use Rattle.history.specs.Slots.{noneBears, distinct}
+use Rattle.history.specs.Table.{notActive, isActive as wasActive, allTaken}
+use Rattle.keys.specs.Slots as keys
+use Rattle.mcdr.specs.Change.{samePlace}
+use Rattle.mcdr.specs.Changes.{noChanges, isBlank as isUnused, blanks as allUnused}
+use Rattle.subscriber.specs.Sound.{zeroOk as nobodyOk, slotOk as placeOk, slotsOk as placesOk}
+use Rattle.subscriber.specs.Tell.{octetsOf as mmOctetsOf}
 use Rattle.node.specs.Hear.{reported, qosAfter, changeOf, limitMet, closing, numberFor, recordOf, goesOn, closedBy, afterClosing, hearWith, hear}
 use Rattle.node.specs.Sound.{sound}
 use Rattle.node.specs.Step.{
@@ -35,9 +41,7 @@ use Rattle.node.specs.Step.{
   nodeAfter,
   recordsOf,
   output,
-  notActive,
-  isActive as wasActive,
-  allTaken,
+  mmRecordsOf,
   refusals,
   outcome,
   stepOf,
@@ -52,6 +56,7 @@ unfolding intEnc lowest lenEnc tlvEnc halves leading allF imsiOk imsiEnc monthLe
     firstFit marked known measured eventOf activate traffic released limitsOk profileOk storedOk unusedOk closedOk countOk containersOk
     volumeOk soundOpen blankOpen contextOk zeroOk slotOk slotsOk sameName isActive isFree bears noneBears distinct reported qosAfter changeOf limitMet closing
     numberFor recordOf goesOn closedBy afterClosing hearWith hear sound activated markedOctets octetsOf nodeAfter recordsOf
+    mmRecordsOf mmOctetsOf noChanges samePlace isUnused allUnused nobodyOk placeOk placesOk keys.isActive
     output notActive wasActive allTaken refusals outcome stepOf answers containers container qos
 one-session = refl
 
@@ -65,5 +70,6 @@ unfolding first second third intEnc lowest lenEnc tlvEnc halves leading allF ims
     fieldsOk firstFit marked known measured eventOf activate traffic limitsOk profileOk storedOk unusedOk closedOk countOk containersOk
     volumeOk soundOpen blankOpen contextOk zeroOk slotOk slotsOk sameName isActive isFree bears noneBears distinct reported qosAfter changeOf limitMet closing
     numberFor recordOf goesOn closedBy afterClosing hearWith hear sound activated markedOctets octetsOf nodeAfter recordsOf
+    mmRecordsOf mmOctetsOf noChanges samePlace isUnused allUnused nobodyOk placeOk placesOk keys.isActive
     output notActive wasActive allTaken refusals outcome stepOf answers containers container qos
 other-session = refl

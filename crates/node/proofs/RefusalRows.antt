@@ -6,28 +6,29 @@ use Prim.Native.Nat.{ℕ}
 use native.Mathlib.Omega.{arith}
 use lib.Dec.{leb, ltb}
 use lib.ListN.{length}
-use Rattle.event.specs.declared.Name.{Name}
 use Rattle.event.specs.Fields.{timeOf}
 use Rattle.event.specs.Rows.{Row, row, firstFit, rows}
-use Rattle.history.specs.Log.{Said}
+use Rattle.history.specs.Table.{notActive, isActive, allTaken}
 use Rattle.node.specs.declared.Node.{Node}
-use Rattle.node.specs.declared.Message.{Message}
 use Rattle.node.specs.Sound.{sound, latest, mostAccepted}
-use Rattle.node.specs.Step.{Brought, slots, output, notActive, isActive, allTaken, saidOf, refusals}
+use Rattle.node.specs.Step.{Words, handling, subscribing, slots, places, output, saidOf, refusals}
 
 -- ---- the table in parts
 
--- 8 to 11, by what an event says
-unfoldable pub tableRows : Node → ℕ → Said (Unit {0}) Name Brought Message → List ℕ → List Row
+-- 8 to 11 with 15 to 17, by what an event says
+unfoldable pub tableRows : Node → ℕ → Words → List ℕ → List Row
 tableRows n t w b =
-    row 8 (notActive (n .profile) w (slots n))
-    ∷ row 9 (isActive (n .profile) w (slots n))
-    ∷ row 10 (allTaken w (slots n))
+    row 8 (notActive (handling (n .profile)) (w .contexts) (slots n))
+    ∷ row 9 (isActive (handling (n .profile)) (w .contexts) (slots n))
+    ∷ row 10 (allTaken (handling (n .profile)) (w .contexts) (slots n))
+    ∷ row 16 (notActive (subscribing (n .profile)) (w .subscribers) (places n))
+    ∷ row 15 (isActive (subscribing (n .profile)) (w .subscribers) (places n))
+    ∷ row 17 (allTaken (subscribing (n .profile)) (w .subscribers) (places n))
     ∷ row 11 (ltb (length b) (length (output n t w)))
     ∷ []
 
 -- 6 and 7, and what follows
-unfoldable pub laterRows : Node → ℕ → Said (Unit {0}) Name Brought Message → List ℕ → List Row
+unfoldable pub laterRows : Node → ℕ → Words → List ℕ → List Row
 laterRows n t w b =
     row 6 (ltb latest t || ltb t (n .clock))
     ∷ row 7 (leb mostAccepted (n .accepted))

@@ -14,16 +14,23 @@ use Rattle.context.specs.Sound.{slotsOk}
 use Rattle.context.specs.Slots.{slotOf, isActive, distinct}
 use Rattle.history.specs.Slots as S
 use Rattle.history.specs.Lists.{All}
+use Rattle.keys.specs.Slots as keys
+use Rattle.subscriber.specs.Subscriber.{slotOf as imsiSlot, noSubscriber}
+use Rattle.subscriber.specs.Sound.{slotsOk as subscribersOk}
+use Rattle.subscriber.specs.Held.{HeldSubscriber}
+use Rattle.subscriber.proofs.Sounds.{blank-ok}
+use Rattle.subscriber.proofs.Helds.{blank-held}
 use Rattle.node.specs.declared.Node.{Node}
 use Rattle.node.specs.Sound.{sound, freshNode, noNode}
-use Rattle.node.specs.Step.{recordsOf, saidOf, stepOf}
+use Rattle.node.specs.Step.{recordsOf, mmRecordsOf, saidOf, stepOf}
 use Rattle.node.specs.Held.{Octets, HeldContext, HeldProfile, Held, Whole}
 use Rattle.node.specs.Batch.{batchOf}
 use Rattle.node.specs.Run.{Call, step, batch, afterOne, after, Given}
 use Rattle.node.proofs.Demands.{answered}
 use Rattle.node.proofs.ContextKept.{Fine}
 use Rattle.node.proofs.TableKept.{nothing-ok, nothing-held}
-use Rattle.node.proofs.NodeKept.{records-good}
+use Rattle.node.proofs.SubscribersKept.{MmFine}
+use Rattle.node.proofs.NodeKept.{records-good, mm-records-good}
 use Rattle.node.proofs.StepKept.{step-kept, not-13}
 use Rattle.node.proofs.BatchKept.{batch-kept, batch-not-13}
 
@@ -40,6 +47,21 @@ unfolding S.distinct isActive
 free-distinct zero = refl
 free-distinct (suc k) = rw (free-distinct k)
 
+-- the same of subscribers
+nobody : (zone clock accepted k : ℕ) → subscribersOk zone clock accepted (replicate k noSubscriber) ≡ true
+unfolding subscribersOk
+nobody zone clock accepted zero = refl
+nobody zone clock accepted (suc k) = rw (blank-ok zone clock accepted, nobody zone clock accepted k)
+
+nobody-distinct : (k : ℕ) → keys.distinct (map imsiSlot (replicate k noSubscriber)) ≡ true
+unfolding S.distinct keys.isActive
+nobody-distinct zero = refl
+nobody-distinct (suc k) = rw (nobody-distinct k)
+
+nobody-held : (k : ℕ) → All HeldSubscriber (replicate k noSubscriber)
+nobody-held zero = tt
+nobody-held (suc k) = (blank-held, nobody-held k)
+
 free-held : (k : ℕ) → All HeldContext (replicate k noContext)
 free-held zero = tt
 free-held (suc k) = (nothing-held, free-held k)
@@ -47,10 +69,16 @@ free-held (suc k) = (nothing-held, free-held k)
 module _ (p : Profile) where
   pub fresh-sound : profileOk p ≡ true → sound (freshNode p) ≡ true
   unfolding sound
-  fresh-sound ok = rw (ok, free-distinct 16, free-slots (p .limits) (p .zone) 0 0 16)
+  fresh-sound ok = rw (ok, free-distinct 16, free-slots (p .limits) (p .zone) 0 0 16, nobody-distinct 16, nobody (p .zone) 0 0 16)
 
   pub fresh-held : HeldProfile p → Held (freshNode p)
-  fresh-held h = record { profile = h; size = length-replicate 16 noContext; contexts = free-held 16 }
+  fresh-held h = record {
+    profile = h;
+    size = length-replicate 16 noContext;
+    contexts = free-held 16;
+    places = length-replicate 16 noSubscriber;
+    subscribers = nobody-held 16;
+  }
 
   pub fresh-whole : profileOk p ≡ true → HeldProfile p → Whole (freshNode p)
   fresh-whole ok h = record { sound = fresh-sound ok; held = fresh-held h }
@@ -87,3 +115,7 @@ module _ (p : Profile) (ok : profileOk p ≡ true) (h : HeldProfile p) (cs : Lis
   -- what the next one writes, where it is accepted
   pub run-records : (s b : List ℕ) → Octets s → stepOf (after (freshNode p) cs) s b .0 ≡ 0 → All Fine (recordsOf (after (freshNode p) cs) (timeOf s) (saidOf s))
   run-records s b k e = let n = after (freshNode p) cs in records-good n s b (run-kept .held) k (sym (answered n s b) ∙ e)
+
+  pub run-mm-records : (s b : List ℕ) → Octets s → stepOf (after (freshNode p) cs) s b .0 ≡ 0
+      → All MmFine (mmRecordsOf (after (freshNode p) cs) (timeOf s) (saidOf s))
+  run-mm-records s b k e = let n = after (freshNode p) cs in mm-records-good n s b (run-kept .held) k (sym (answered n s b) ∙ e)

@@ -92,7 +92,7 @@ module _ (n : Node) (i t : ℕ) (d : Context) (m : Name) (until : t ≤ latest) 
     task : Tasked (N s) (event v) b (cond (leb mostAccepted (s .accepted)) (K.Refuse 7) (K.One i t h))
     unfolding taskFor timelyTask taskOf namedTask
     task =
-        let x = tasked (N s) (event v) b (shapes (N s .contexts) (w .whole .held .contexts)) (w .whole .held .size) true (w .whole .sound) in
+        let x = tasked (N s) (event v) b (w .whole .held) true (w .whole .sound) in
         rw (said, names, le-ltb latest t until, le-ltb t (s .clock) (w .since), found) at x
 
     there : getD (N s .contexts) i d ≡ s .context
@@ -106,7 +106,13 @@ module _ (n : Node) (i t : ℕ) (d : Context) (m : Name) (until : t ≤ latest) 
         let y = served-one (N s) i t h d l x refl refl refl in
         sym (y .is) ∙ by (eqb (r .0) 0)
         (λ e. let z = eqb-true (r .0) 0 e in let u = set-set (n .contexts) i (s .context) (r .1 .0) in
-        rw e (λ j. (z j, (record { profile = n .profile; clock = t; accepted = s .accepted + 1; contexts = u j }, (r .1 .1 .0, r .1 .1 .1)))))
+        rw e (λ j. (
+          z j,
+          (
+            record { profile = n .profile; clock = t; accepted = s .accepted + 1; contexts = u j; subscribers = n .subscribers },
+            (r .1 .1 .0, r .1 .1 .1),
+          ),
+        )))
         (λ e. rw e)
 
     pub same : stepOf (N s) (event v) b ≡ through (seated n i) (seatStep (n .profile) t s v b)

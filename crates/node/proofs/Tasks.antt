@@ -1,8 +1,8 @@
 -- What a call is to do is what the table of refusals and the rules say.
 use mathlib.Core.Path.{_≡_, refl, sym, ap, _∙_}
 use mathlib.Core.Bool.{Bool, true, false, cond, _&&_}
-use mathlib.Core.List.{List, _++_, map}
-use Prim.Native.Nat.{ℕ, _+_, _≤_, _<_}
+use mathlib.Core.List.{List, [], _∷_, _++_, map}
+use Prim.Native.Nat.{ℕ, zero, suc, _+_, _≤_, _<_}
 use native.Mathlib.Omega.{arith}
 use lib.Dec.{leb, eqb}
 use lib.ListN.{length, drop, getD, set}
@@ -18,18 +18,29 @@ use Rattle.event.specs.declared.Decoded.{Decoded}
 use Rattle.event.specs.declared.Decoded.the-variants as D
 use Rattle.event.specs.Event.{decoded}
 use Rattle.event.specs.Private.Activated.{Activated}
-use Rattle.event.proofs.Theorems.{activated as activate-in}
+use Rattle.event.specs.Fields.{subscriberImsi}
+use Rattle.event.proofs.Theorems.{activated as activate-in, attached as attach-in}
 use Rattle.context.specs.declared.Context.{Context}
 use Rattle.context.specs.declared.slots.Slot.{Slot}
 use Rattle.context.specs.declared.slots.Found.{Found}
 use Rattle.context.specs.declared.slots.Found.the-variants.{At, Nothing}
 use Rattle.context.specs.Sound.{slotsOk}
 use Rattle.context.specs.Slots.{slotOf, isFree, bears, firstFrom, distinct}
-use Rattle.history.specs.Lists.{All}
 use Rattle.history.specs.Slots.{across, along}
 use Rattle.history.proofs.Scans.{first-below}
 use Rattle.history.proofs.Ranges.{across-one, along-one}
-use Rattle.history.specs.Log.{Said, activates, tells, tellsAll}
+use Rattle.history.specs.Log.{activates, tells, tellsAll}
+use Rattle.mcdr.specs.declared.Place.{Place}
+use Rattle.keys.specs.declared.Slot as N
+use Rattle.keys.specs.declared.Found as G
+use Rattle.keys.specs.declared.Found.the-variants as F
+use Rattle.keys.specs.Slots as keys
+use Rattle.subscriber.specs.declared.Subscriber.{Subscriber}
+use Rattle.subscriber.specs.declared.Notice.{Notice}
+use Rattle.subscriber.specs.Subscriber.{slotOf as imsiSlot, noSubscriber}
+use Rattle.subscriber.specs.Sound.{slotsOk as subscribersOk}
+use Rattle.subscriber.specs.Hear.{attached, noticeOk}
+use Rattle.subscriber.specs.Tell.{Tells}
 use Rattle.node.specs.declared.Node.{Node}
 use Rattle.node.specs.declared.Message.{Message}
 use Rattle.node.specs.declared.meaning.Meaning.{Meaning}
@@ -38,12 +49,15 @@ use Rattle.node.specs.Meaning.{meaningOf}
 use Rattle.node.specs.declared.task.Task.{Task}
 use Rattle.node.specs.declared.task.Task.the-variants as K
 use Rattle.node.specs.Sound.{sound, latest, mostAccepted}
-use Rattle.node.specs.Step.{Brought, broughtBy, saying, takes, activated, stepOf, Steps}
-use Rattle.node.specs.Held.{Shaped}
-use Rattle.node.specs.Private.Range.{slotNext, slotOut, Stands, advanced, triedOf, Tries, servedOf, Serves}
-use Rattle.node.specs.Private.Task.{oneAt, namedTask, openAt, openTask, taskOf, timelyTask, taskFor, doneBy}
+use Rattle.node.specs.Step.{broughtBy, Words, toContexts, toSubscribers, saying, takes, activated, stepOf, Steps}
+use Rattle.node.specs.Held.{Held}
+use Rattle.node.specs.Private.Range.{slotNext, slotOut, Stands, advanced, enrolled, told, triedOf, Tries, servedOf, Serves, notifiedOf}
+use Rattle.node.specs.Private.Task.{oneAt, namedTask, openAt, openTask, notifyAt, notifyTask, attachAt, attachTask, taskOf, timelyTask, taskFor, doneBy}
 use Rattle.node.proofs.RefusalRows.{tableRows}
 use Rattle.node.proofs.Found.{named-at, none-named, free-at, all-taken}
+use Rattle.node.proofs.Brings.{fair-meaning}
+use Rattle.node.proofs.Attached.{bearing-at, none-bearing, vacant-at, none-vacant}
+use Rattle.node.proofs.Notified.{outs-notify, outs-attach, outs-15, outs-16, outs-17}
 use Rattle.node.proofs.Served.{Sounding, Outs, outs-tell, outs-all, outs-activate, outs-8, outs-9, outs-10}
 use Rattle.node.proofs.Calls.{outs-late, outs-early, outs-many, outs-timely, is-sound, steps-13, steps-octets, steps-said}
 
@@ -52,6 +66,8 @@ abbrev OpensWell : List ℕ → Meaning → Type 0
 OpensWell s (W.Opens a) = Activated s a
 OpensWell s (W.Tells m h) = Unit {0}
 OpensWell s (W.TellsAll h) = Unit {0}
+OpensWell s (W.Attaches k q) = length s ≡ 18
+OpensWell s (W.Notifies k m) = noticeOk m ≡ true
 
 opens-well : (s : List ℕ) (e : Event) {t : ℕ} → decoded s ≡ D.Said t e → OpensWell s (meaningOf e)
 opens-well s (E.Activate a) q = activate-in s q
@@ -61,6 +77,16 @@ opens-well s E.Tariff q = tt
 opens-well s (E.Release n c) q = tt
 opens-well s E.Tick q = tt
 opens-well s (E.Management n) q = tt
+opens-well s (E.Attach k l r) q = attach-in s q .long
+opens-well s (E.Location k l r) q = fair-meaning s (E.Location k l r) q
+opens-well s (E.ManageSubscriber k) q = fair-meaning s (E.ManageSubscriber k) q
+opens-well s (E.Detach k c) q = fair-meaning s (E.Detach k c) q
+
+-- what stands at a place that there is, whatever stands in for one that there is not
+getD-any : {A : Type 0} (xs : List A) (i : ℕ) (d e : A) → i < length xs → getD xs i d ≡ getD xs i e
+getD-any [] i d e h = absurd (omega arith)
+getD-any (x ∷ xs) zero d e h = refl
+getD-any (x ∷ xs) (suc i) d e h = getD-any xs i d e (omega arith)
 
 -- ---- a slot heard alone
 
@@ -121,12 +147,14 @@ Fit n s (K.Refuse k) = Unit {0}
 Fit n s (K.One i t h) = (i < 16) × Sounding n t
 Fit n s (K.All t h) = Sounding n t
 Fit n s (K.Open i t a) = (i < 16) × (Sounding n t × Activated s a)
+Fit n s (K.Notify i t m) = (i < 16) × Sounding n t
+Fit n s (K.Attach i t q) = (i < 16) × (Sounding n t × (length s ≡ 18))
 
 pub record Tasked (n : Node) (s b : List ℕ) (k : Task) : Type 0 where
   pub done : stepOf n s b ≡ doneBy n s b k
   pub fit : Fit n s k
 
-module _ (n : Node) (s b : List ℕ) (z : All Shaped (n .contexts)) (whole : length (n .contexts) ≡ 16) where
+module _ (n : Node) (s b : List ℕ) (z : Held n) where
   refused-task : {j : ℕ} → Steps n s b b j n 0 → Tasked n s b (K.Refuse j)
   unfolding doneBy
   refused-task w = record { done = sym (w .is); fit = tt }
@@ -135,27 +163,31 @@ module _ (n : Node) (s b : List ℕ) (z : All Shaped (n .contexts)) (whole : len
     abbrev names : List Slot
     names = map slotOf (n .contexts)
 
-    module _ (w : Said (Unit {0}) Name Brought Message)
+    abbrev imsis : List N.Slot
+    imsis = map imsiSlot (n .subscribers)
+
+    module _ (w : Words)
         (conv : (b′ : List ℕ) (a k : ℕ) (r : Node) → Outs (tableRows n t w b) n t w b b′ a r k → Steps n s b b′ a r k) where
-      tell-task : (m : Name) (h : Message) → w ≡ tells m h → (f : Found) → firstFrom (bears m) 0 names ≡ f → Tasked n s b (oneAt t h f)
+      tell-task : (m : Name) (h : Message) → w ≡ toContexts (tells m h) → (f : Found) → firstFrom (bears m) 0 names ≡ f → Tasked n s b (oneAt t h f)
       unfolding doneBy
       tell-task m h e (At i) q =
           let f = named-at (n .contexts) m q in
           let r = servedOf n i (i + 1) t h b in
           let v : Serves n i (i + 1) t h b (r .1 .1 .1) (r .0) (r .1 .0) (r .1 .1 .0) = record { is = refl } in
           let o : Outs (tableRows n t w b) n t w b (r .1 .1 .1) (r .0) (r .1 .0) (r .1 .1 .0) = rw e (outs-tell n t b so z m h f v) in
-          record { done = sym (conv _ _ _ _ o .is); fit = (omega (arith, first-below f), so) }
+          record { done = sym (conv _ _ _ _ o .is); fit = (omega (arith, first-below f, z .size), so) }
       tell-task m h e Nothing q = refused-task (conv _ _ _ _ (rw e (outs-8 n t b m refl refl h (none-named (n .contexts) m q) refl)))
 
-      all-task : (h : Message) → w ≡ tellsAll h → Tasked n s b (K.All t h)
+      all-task : (h : Message) → w ≡ toContexts (tellsAll h) → Tasked n s b (K.All t h)
       unfolding doneBy
       all-task h e =
           let r = servedOf n 0 16 t h b in
           let v : Serves n 0 16 t h b (r .1 .1 .1) (r .0) (r .1 .0) (r .1 .1 .0) = record { is = refl } in
-          let o : Outs (tableRows n t w b) n t w b (r .1 .1 .1) (r .0) (r .1 .0) (r .1 .1 .0) = rw e (outs-all n t b so z h whole v) in
+          let o : Outs (tableRows n t w b) n t w b (r .1 .1 .1) (r .0) (r .1 .0) (r .1 .1 .0) = rw e (outs-all n t b so z h v) in
           record { done = sym (conv _ _ _ _ o .is); fit = so }
 
-      open-task : (a : Activation) → w ≡ activates (a .name) (λ g. broughtBy a s) → Activated s a → (f g : Found) → firstFrom (bears (a .name)) 0 names ≡ f
+      open-task : (a : Activation) → w ≡ toContexts (activates (a .name) (λ g. broughtBy a s)) → Activated s a
+          → (f g : Found) → firstFrom (bears (a .name)) 0 names ≡ f
           → firstFrom isFree 0 names ≡ g
           → Tasked n s b (openAt t a f g)
       unfolding doneBy
@@ -165,14 +197,37 @@ module _ (n : Node) (s b : List ℕ) (z : All Shaped (n .contexts)) (whole : len
           let f = free-at (n .contexts) r in
           let new = activated (n .profile) t (a .name) (broughtBy a s) in
           let o = outs-activate n t b so z (a .name) (λ g. broughtBy a s) (none-named (n .contexts) (a .name) q) f {c = new} refl refl refl refl in
-          record { done = sym (conv _ _ _ _ (rw e o) .is); fit = (omega (arith, first-below f), (so, x)) }
+          record { done = sym (conv _ _ _ _ (rw e o) .is); fit = (omega (arith, first-below f, z .size), (so, x)) }
       open-task a e x Nothing Nothing q r =
           refused-task (conv _ _ _ _ (rw e
           (outs-10 n t b (a .name) refl refl (λ g. broughtBy a s) (none-named (n .contexts) (a .name) q) (all-taken (n .contexts) r) refl)))
 
+      notify-task : (k : ℕ) (m : Notice) → w ≡ toSubscribers (tells k m) → noticeOk m ≡ true → (f : G.Found) → keys.firstFrom (keys.bears k) 0 imsis ≡ f
+          → Tasked n s b (notifyAt t m f)
+      unfolding doneBy
+      notify-task k m e right (F.At i) q =
+          let f = bearing-at (n .subscribers) k q in
+          let r = notifiedOf n i t m b in
+          let o : Outs (tableRows n t w b) n t w b (r .1 .1 .1) (r .0) (r .1 .0) (r .1 .1 .0) = rw e (outs-notify n t b so z k m right f r refl) in
+          record { done = sym (conv _ _ _ _ o .is); fit = (omega (arith, first-below f, z .places), so) }
+      notify-task k m e right F.Nothing q = refused-task (conv _ _ _ _ (rw e (outs-16 n t b k m (none-bearing (n .subscribers) k q))))
+
+      attach-task : (k : ℕ) (q : Place) → w ≡ toSubscribers (activates k (λ g. record { imsi = subscriberImsi s; place = q })) → length s ≡ 18
+          → (f g : G.Found) → keys.firstFrom (keys.bears k) 0 imsis ≡ f → keys.firstFrom keys.isFree 0 imsis ≡ g → Tasked n s b (attachAt t q f g)
+      unfolding doneBy
+      attach-task k q e x (F.At i) g y r =
+          refused-task (conv _ _ _ _ (rw e (outs-15 n t b k (λ g. record { imsi = subscriberImsi s; place = q }) (bearing-at (n .subscribers) k y))))
+      attach-task k q e x F.Nothing (F.At i) y r =
+          let f = vacant-at (n .subscribers) r in
+          let o = outs-attach n t b so z k (λ g. record { imsi = subscriberImsi s; place = q }) (none-bearing (n .subscribers) k y) f in
+          record { done = sym (conv _ _ _ _ (rw e o) .is); fit = (omega (arith, first-below f, z .places), (so, x)) }
+      attach-task k q e x F.Nothing F.Nothing y r =
+          refused-task (conv _ _ _ _ (rw e
+          (outs-17 n t b k (λ g. record { imsi = subscriberImsi s; place = q }) (none-bearing (n .subscribers) k y) (none-vacant (n .subscribers) r))))
+
     module _ (ok : sound n ≡ true) where
-      kind-task : (e : Event) → decoded s ≡ D.Said t e → Tasked n s b (taskOf names t (meaningOf e))
-      unfolding taskOf namedTask openTask
+      kind-task : (e : Event) → decoded s ≡ D.Said t e → Tasked n s b (taskOf names imsis t (meaningOf e))
+      unfolding taskOf namedTask openTask notifyTask attachTask
       kind-task e q = go (meaningOf e) opens later
         where
           later : (b′ : List ℕ) (a k : ℕ) (r : Node) → Outs (tableRows n t (takes e s) b) n t (takes e s) b b′ a r k → Steps n s b b′ a r k
@@ -183,16 +238,19 @@ module _ (n : Node) (s b : List ℕ) (z : All Shaped (n .contexts)) (whole : len
 
           go : (w : Meaning) → OpensWell s w
               → ((b′ : List ℕ) (a k : ℕ) (r : Node) → Outs (tableRows n t (saying w s) b) n t (saying w s) b b′ a r k → Steps n s b b′ a r k)
-              → Tasked n s b (taskOf names t w)
+              → Tasked n s b (taskOf names imsis t w)
           go (W.Opens a) x conv = open-task (saying (W.Opens a) s) conv a refl x (firstFrom (bears (a .name)) 0 names) (firstFrom isFree 0 names) refl refl
           go (W.Tells m h) x conv = tell-task (saying (W.Tells m h) s) conv m h refl (firstFrom (bears m) 0 names) refl
           go (W.TellsAll h) x conv = all-task (saying (W.TellsAll h) s) conv h refl
+          go (W.Attaches k q) x conv =
+              attach-task (saying (W.Attaches k q) s) conv k q refl x (keys.firstFrom (keys.bears k) 0 imsis) (keys.firstFrom keys.isFree 0 imsis) refl refl
+          go (W.Notifies k m) x conv = notify-task (saying (W.Notifies k m) s) conv k m refl x (keys.firstFrom (keys.bears k) 0 imsis) refl
 
   module _ (ok : sound n ≡ true) (t : ℕ) (e : Event) (q : decoded s ≡ D.Said t e) where
-    abbrev w : Said (Unit {0}) Name Brought Message
+    abbrev w : Words
     w = takes e s
 
-    timely-task : Tasked n s b (timelyTask (n .clock) (n .accepted) (map slotOf (n .contexts)) t e)
+    timely-task : Tasked n s b (timelyTask (n .clock) (n .accepted) (map slotOf (n .contexts)) (map imsiSlot (n .subscribers)) t e)
     unfolding timelyTask
     timely-task =
         either t latest
@@ -205,24 +263,27 @@ module _ (n : Node) (s b : List ℕ) (z : All Shaped (n .contexts)) (whole : len
         (λ l. rw (le-ltb latest t m, lt-ltb t (n .clock) l) (refused-task (steps-said n s b ok q (outs-early n t w b refl refl m l refl)))))
         (λ m. rw (lt-ltb latest t m) (refused-task (steps-said n s b ok q (outs-late n t w b refl refl m refl))))
 
-  said-task : sound n ≡ true → (d : Decoded) → decoded s ≡ d → Tasked n s b (taskFor true (n .clock) (n .accepted) (map slotOf (n .contexts)) d)
+  said-task : sound n ≡ true → (d : Decoded) → decoded s ≡ d
+      → Tasked n s b (taskFor true (n .clock) (n .accepted) (map slotOf (n .contexts)) (map imsiSlot (n .subscribers)) d)
   unfolding taskFor
   said-task ok (D.Refused k) q = refused-task (steps-octets n s b ok q refl refl refl)
   said-task ok (D.Said t e) q = timely-task ok t e q
 
-  pub tasked : (ok : Bool) → sound n ≡ ok → Tasked n s b (taskFor ok (n .clock) (n .accepted) (map slotOf (n .contexts)) (decoded s))
+  pub tasked : (ok : Bool) → sound n ≡ ok
+      → Tasked n s b (taskFor ok (n .clock) (n .accepted) (map slotOf (n .contexts)) (map imsiSlot (n .subscribers)) (decoded s))
   unfolding taskFor
   tasked false e = refused-task (steps-13 n s b e refl refl refl)
   tasked true e = said-task e (decoded s) refl
 
 -- as the code finds it out
-pub tasked-by : (n : Node) (s b : List ℕ) → All Shaped (n .contexts) → length (n .contexts) ≡ 16 → {names : List Slot} {good ok : Bool} {k : Task}
+pub tasked-by : (n : Node) (s b : List ℕ) → Held n → {names : List Slot} {imsis : List N.Slot} {good fine ok : Bool} {k : Task}
     → (names ≡ map slotOf (n .contexts)) × (good ≡ slotsOk (n .profile .limits) (n .profile .zone) (n .clock) (n .accepted) (n .contexts))
-    → ok ≡ (profileOk (n .profile) && leb (n .clock) latest && leb (n .accepted) mostAccepted && distinct names && good)
-    → k ≡ taskFor ok (n .clock) (n .accepted) names (decoded s) → Tasked n s b k
-tasked-by n s b z whole {names} {good} {ok} {k} looked e q =
-    let w : sound n ≡ ok = is-sound n (looked .0) (e ∙ rw (looked .1)) in
-    rw q (rw (looked .0) (tasked n s b z whole ok w))
+    → (imsis ≡ map imsiSlot (n .subscribers)) × (fine ≡ subscribersOk (n .profile .zone) (n .clock) (n .accepted) (n .subscribers))
+    → ok ≡ (profileOk (n .profile) && leb (n .clock) latest && leb (n .accepted) mostAccepted && distinct names && good && keys.distinct imsis && fine)
+    → k ≡ taskFor ok (n .clock) (n .accepted) names imsis (decoded s) → Tasked n s b k
+tasked-by n s b z {ok = ok} looked noted e q =
+    let w : sound n ≡ ok = is-sound n looked noted e in
+    rw q (rw (looked .0, noted .0) (tasked n s b z ok w))
 
 -- ---- what the code answers when it has done it
 
@@ -253,4 +314,30 @@ module _ (n : Node) (s b : List ℕ) where
       let g : m ≡ advanced n t (set (n .contexts) i new) = p .1 .0 ∙ rw (o .0, o .1 .0) in
       let h : k′ ≡ 0 = p .1 .1 ∙ rw (o .0, o .1 .1) in
       let y : _≡_ {A = ℕ × (Node × (ℕ × List ℕ))} (a′, (m, (k′, b))) (0, (advanced n t (set (n .contexts) i new), (0, b))) = (λ j. (f j, (g j, (h j, b)))) in
+      record { is = y ∙ sym (x .done) }
+
+  pub steps-notify : {i t : ℕ} {x : Notice} (d : Subscriber) → length (n .subscribers) ≡ 16 → {b′ : List ℕ} {a k a′ k′ : ℕ} {c : Subscriber} {m : Node}
+      → Tasked n s b (K.Notify i t x) → Tells (n .profile) t x (getD (n .subscribers) i d) b b′ a c k
+      → (a′ ≡ a) × ((m ≡ told n i t a c) × (k′ ≡ cond (eqb a 0) k 0)) → Steps n s b b′ a′ m k′
+  unfolding doneBy notifiedOf
+  steps-notify {i} {t} {x} d whole {b′} {a} {k} {a′} {k′} {c} {m} y w p =
+      let h : getD (n .subscribers) i d ≡ getD (n .subscribers) i noSubscriber = getD-any (n .subscribers) i d noSubscriber (omega (arith, y .fit .0)) in
+      let e = rw h at (w .is) in
+      let g : _≡_ {A = ℕ × (Node × (ℕ × List ℕ))} (a′, (m, (k′, b′))) (a, (told n i t a c, (cond (eqb a 0) k 0, b′))) =
+      (λ j. (p .0 j, (p .1 .0 j, (p .1 .1 j, b′)))) in
+      record {
+        is = g ∙ ap (λ (r : ℕ × (Subscriber × (ℕ × List ℕ))). (r .0, (told n i t (r .0) (r .1 .0), (cond (eqb (r .0) 0) (r .1 .1 .0) 0, r .1 .1 .1)))) e
+            ∙ sym (y .done);
+      }
+
+  pub steps-attach : {i t : ℕ} {q : Place} {c : Subscriber} {a k a′ k′ : ℕ} {m : Node} → Tasked n s b (K.Attach i t q)
+      → (a ≡ 0) × ((c ≡ attached (n .profile) t (subscriberImsi s) q) × (k ≡ 0))
+      → (a′ ≡ a) × ((m ≡ told n i t a c) × (k′ ≡ cond (eqb a 0) k 0)) → Steps n s b b a′ m k′
+  unfolding doneBy
+  steps-attach {i} {t} {q} {c} {a} {k} {a′} {k′} {m} x o p =
+      let new = attached (n .profile) t (subscriberImsi s) q in
+      let f : a′ ≡ 0 = p .0 ∙ o .0 in
+      let g : m ≡ enrolled n t (set (n .subscribers) i new) = p .1 .0 ∙ rw (o .0, o .1 .0) in
+      let h : k′ ≡ 0 = p .1 .1 ∙ rw (o .0, o .1 .1) in
+      let y : _≡_ {A = ℕ × (Node × (ℕ × List ℕ))} (a′, (m, (k′, b))) (0, (enrolled n t (set (n .subscribers) i new), (0, b))) = (λ j. (f j, (g j, (h j, b)))) in
       record { is = y ∙ sym (x .done) }

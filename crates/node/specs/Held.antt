@@ -6,6 +6,7 @@ use Prim.Native.Nat.{ℕ, _^_, _<_}
 use lib.ListN.{length}
 use Rattle.profile.specs.declared.Profile.{Profile}
 use Rattle.context.specs.declared.Context.{Context}
+use Rattle.subscriber.specs.Held.{HeldSubscriber}
 use Rattle.history.specs.Lists.{All}
 use Rattle.node.specs.declared.Node.{Node}
 use Rattle.node.specs.Sound.{sound}
@@ -35,6 +36,8 @@ pub record Held (n : Node) : Type 0 where
   pub profile : HeldProfile (n .profile)
   pub size : length (n .contexts) ≡ 16
   pub contexts : All HeldContext (n .contexts)
+  pub places : length (n .subscribers) ≡ 16
+  pub subscribers : All HeldSubscriber (n .subscribers)
 
 -- a sound node that the code can hold
 pub record Whole (n : Node) : Type 0 where

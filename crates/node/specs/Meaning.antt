@@ -1,5 +1,6 @@
 -- What an event is to a context that hears it (01, "What an event does"): what it reports, the change that it is, the limit that is looked at
--- after it, whether it closes the record by itself. One line a kind; all that comes after works on these.
+-- after it, whether it closes the record by itself; and what it is to a subscriber (02, W4). One line a kind; all that comes after works on
+-- these.
 use mathlib.Core.Bool.{Bool, true, false}
 use Prim.Native.Nat.{ℕ}
 use Rattle.container.specs.declared.Qos.{Qos}
@@ -8,7 +9,9 @@ use Rattle.event.specs.declared.Event.{Event}
 use Rattle.event.specs.declared.Event.the-variants as E
 use Rattle.node.specs.declared.Message.{Message}
 use Rattle.node.specs.declared.meaning.Meaning.{Meaning}
-use Rattle.node.specs.declared.meaning.Meaning.the-variants.{Opens, Tells, TellsAll}
+use Rattle.node.specs.declared.meaning.Meaning.the-variants.{Opens, Tells, TellsAll, Attaches, Notifies}
+use Rattle.mcdr.specs.declared.Place.{Place}
+use Rattle.subscriber.specs.declared.Notice.the-variants.{Moved, Managed, Detached}
 
 -- A message, by its columns: the report that it counts; the QoS that it brings; whether it is a tariff change, whether a tick; whether it closes the
 -- record, with which cause, and whether no record opens after it.
@@ -53,8 +56,11 @@ closeWith cause = message false 0 0 false noQos false false true cause false
 abbrev pub releaseWith : ℕ → Message
 releaseWith cause = message false 0 0 false noQos false false true cause true
 
+abbrev pub placeWith : ℕ → ℕ → Place
+placeWith lac rac = record { lac = lac; rac = rac }
+
 -- Who hears an event, and what it is to them: an activate opens a context; traffic, QoS, release and management are told to the one that
--- they name, a tariff and a tick to all.
+-- they name, a tariff and a tick to all. An attach is a subscriber's; the other three kinds are told to the one that they name.
 abbrev pub meaningOf : Event → Meaning
 meaningOf (E.Activate a) = Opens a
 meaningOf (E.Traffic n up down) = Tells n (report up down)
@@ -63,3 +69,7 @@ meaningOf E.Tariff = TellsAll tariffChange
 meaningOf (E.Release n cause) = Tells n (releaseWith cause)
 meaningOf E.Tick = TellsAll tick
 meaningOf (E.Management n) = Tells n (closeWith 20)
+meaningOf (E.Attach k lac rac) = Attaches k (placeWith lac rac)
+meaningOf (E.Location k lac rac) = Notifies k (Moved (placeWith lac rac))
+meaningOf (E.ManageSubscriber k) = Notifies k Managed
+meaningOf (E.Detach k cause) = Notifies k (Detached cause)

@@ -10,6 +10,9 @@ use Rattle.profile.specs.Profile.{profileOk, noProfile}
 use Rattle.context.specs.Context.{noContext}
 use Rattle.context.specs.Sound.{slotsOk}
 use Rattle.context.specs.Slots.{slotOf, distinct}
+use Rattle.keys.specs.Slots as named
+use Rattle.subscriber.specs.Subscriber.{noSubscriber, slotOf as imsiSlot}
+use Rattle.subscriber.specs.Sound.{slotsOk as subscribersOk}
 use Rattle.node.specs.declared.Node.{Node}
 
 -- the last second of 2099
@@ -20,7 +23,8 @@ latest = 3155759999
 abbrev pub mostAccepted : ℕ
 mostAccepted = 10 ^ 15
 
--- "Profile in range; clock and accepted count in range; active names distinct", and what each slot must be
+-- "Profile in range; clock and accepted count in range; active names distinct", and what each slot must be; and of subscribers (02, W4) "IMSIs
+-- distinct", and what each slot must be
 unfoldable pub sound : Node → Bool
 sound n =
     profileOk (n .profile)
@@ -28,10 +32,18 @@ sound n =
     && leb (n .accepted) mostAccepted
     && distinct (map slotOf (n .contexts))
     && slotsOk (n .profile .limits) (n .profile .zone) (n .clock) (n .accepted) (n .contexts)
+    && named.distinct (map imsiSlot (n .subscribers))
+    && subscribersOk (n .profile .zone) (n .clock) (n .accepted) (n .subscribers)
 
--- "Fresh node: clock 0, no contexts, no accepted events."
+-- "Fresh node: clock 0, no contexts, no accepted events", and no subscribers
 abbrev pub freshNode : Profile → Node
-freshNode p = record { profile = p; clock = 0; accepted = 0; contexts = replicate 16 noContext }
+freshNode p = record {
+  profile = p;
+  clock = 0;
+  accepted = 0;
+  contexts = replicate 16 noContext;
+  subscribers = replicate 16 noSubscriber;
+}
 
 -- all zero, which is unsound
 abbrev pub noNode : Node

@@ -1,6 +1,6 @@
 -- One call: the refusal table, and what an accepted event does to the node.
 use mathlib.Core.Path.{_≡_}
-use mathlib.Core.Bool.{Bool, false, not, cond, _||_}
+use mathlib.Core.Bool.{Bool, not, cond, _||_}
 use mathlib.Core.Option.{Option}
 use mathlib.Core.List.{List, [], _∷_, _++_, map}
 use Prim.Native.Nat.{ℕ, _+_}
@@ -15,7 +15,7 @@ use Rattle.profile.specs.declared.Profile.{Profile}
 use Rattle.event.specs.declared.Name.{Name}
 use Rattle.event.specs.declared.Activation.{Activation}
 use Rattle.event.specs.declared.Event.{Event}
-use Rattle.event.specs.Fields.{timeOf, flagsOf, imsiOf, apnOf}
+use Rattle.event.specs.Fields.{timeOf, flagsOf, imsiOf, apnOf, subscriberImsi}
 use Rattle.event.specs.Rows.{Row, row, firstFit, marked, known, measured, fieldsOk}
 use Rattle.event.specs.Event.{eventOf}
 use Rattle.context.specs.declared.Context.{Context}
@@ -24,7 +24,14 @@ use Rattle.context.specs.Slots.{sameName}
 use Rattle.history.specs.Lists.{each}
 use Rattle.history.specs.Slots as S
 use Rattle.history.specs.Log.{Said, activates, tells, tellsAll, nothing}
-use Rattle.history.specs.Table.{Handling, free, active, slotsAfter, writes}
+use Rattle.history.specs.Table.{Handling, slotsAfter, writes, notActive, isActive, allTaken}
+use Rattle.mcdr.specs.declared.Place.{Place}
+use Rattle.mcdr.specs.declared.MmRecord.{MmRecord}
+use Rattle.subscriber.specs.declared.Subscriber.{Subscriber}
+use Rattle.subscriber.specs.declared.Notice.{Notice}
+use Rattle.subscriber.specs.Subscriber.{nameOf as imsiName, taken as isAttached}
+use Rattle.subscriber.specs.Hear.{attached, hear as notices}
+use Rattle.subscriber.specs.Tell.{stood as stayed, octetsOf as mmOctetsOf}
 use Rattle.node.specs.declared.Node.{Node}
 use Rattle.node.specs.declared.Message.{Message}
 use Rattle.node.specs.declared.meaning.Meaning.{Meaning}
@@ -47,13 +54,36 @@ pub record Brought : Type 0 where
 abbrev pub broughtBy : Activation → List ℕ → Brought
 broughtBy a s = record { flags = flagsOf s; imsi = imsiOf s; apn = apnOf s; pdptype = a .pdptype; address = a .address; qos = a .qos }
 
--- what is said to a table of contexts
-abbrev pub saying : Meaning → List ℕ → Said (Unit {0}) Name Brought Message
-saying (W.Opens a) s = activates (a .name) (λ g. broughtBy a s)
-saying (W.Tells n m) s = tells n m
-saying (W.TellsAll m) s = tellsAll m
+-- what an attach brings (02, W4): the IMSI's octets, and the place
+pub record Attached : Type 0 where
+  pub imsi : List ℕ
+  pub place : Place
 
-abbrev pub takes : Event → List ℕ → Said (Unit {0}) Name Brought Message
+-- what is said to the table of contexts, and to that of subscribers: to one of them nothing
+abbrev pub ToContexts : Type 0
+ToContexts = Said (Unit {0}) Name Brought Message
+
+abbrev pub ToSubscribers : Type 0
+ToSubscribers = Said (Unit {0}) ℕ Attached Notice
+
+pub record Words : Type 0 where
+  pub contexts : ToContexts
+  pub subscribers : ToSubscribers
+
+abbrev pub toContexts : ToContexts → Words
+toContexts w = record { contexts = w; subscribers = nothing }
+
+abbrev pub toSubscribers : ToSubscribers → Words
+toSubscribers w = record { contexts = nothing; subscribers = w }
+
+abbrev pub saying : Meaning → List ℕ → Words
+saying (W.Opens a) s = toContexts (activates (a .name) (λ g. broughtBy a s))
+saying (W.Tells n m) s = toContexts (tells n m)
+saying (W.TellsAll m) s = toContexts (tellsAll m)
+saying (W.Attaches k q) s = toSubscribers (activates k (λ g. record { imsi = subscriberImsi s; place = q }))
+saying (W.Notifies k m) s = toSubscribers (tells k m)
+
+abbrev pub takes : Event → List ℕ → Words
 takes e s = saying (meaningOf e) s
 
 -- "opens a record now with empty counters, no containers, change count 0"
@@ -77,10 +107,21 @@ abbrev pub handling : Profile → Handling (Unit {0}) Name Brought Message (Even
 handling p = record {
   same = sameName;
   name = λ c. c .name;
-  says = λ w. takes (w .0) (w .1);
+  says = λ w. takes (w .0) (w .1) .contexts;
   settles = λ g w. g;
   opening = λ t n b. activated p t n b;
   hear = λ g c t h. hear p c t h;
+}
+
+-- and subscribers likewise: "named by IMSI", "the lowest free place is taken"
+abbrev pub subscribing : Profile → Handling (Unit {0}) ℕ Attached Notice (Event × List ℕ) Subscriber MmRecord
+subscribing p = record {
+  same = eqb;
+  name = λ s. imsiName s;
+  says = λ w. takes (w .0) (w .1) .subscribers;
+  settles = λ g w. g;
+  opening = λ t k a. attached p t (a .imsi) (a .place);
+  hear = λ g s t m. notices p s t m;
 }
 
 -- a slot of the table, and what stands in it (`seen`, `stood` of history's specs/Slots.antt)
@@ -96,6 +137,10 @@ stood o = S.stood noContext o
 abbrev pub slots : Node → List (Option Context)
 slots n = map seen (n .contexts)
 
+-- the same of subscribers
+abbrev pub places : Node → List (Option Subscriber)
+places n = map (S.seen isAttached) (n .subscribers)
+
 -- ---- what is written: "each record follows the mark C3 5A"
 
 unfoldable pub markedOctets : Record → List ℕ
@@ -106,50 +151,35 @@ octetsOf rs = each markedOctets rs
 
 -- ---- an event that is accepted
 
-module _ (n : Node) (t : ℕ) (w : Said (Unit {0}) Name Brought Message) where
+module _ (n : Node) (t : ℕ) (w : Words) where
   unfoldable pub nodeAfter : Node
   nodeAfter = record {
     profile = n .profile;
     clock = t;
     accepted = n .accepted + 1;
-    contexts = map stood (slotsAfter (handling (n .profile)) tt t w (slots n));
+    contexts = map stood (slotsAfter (handling (n .profile)) tt t (w .contexts) (slots n));
+    subscribers = map stayed (slotsAfter (subscribing (n .profile)) tt t (w .subscribers) (places n));
   }
 
+  -- the S-CDRs that it closes, and the M-CDRs
   unfoldable pub recordsOf : List Record
-  recordsOf = writes (handling (n .profile)) tt t w (slots n)
+  recordsOf = writes (handling (n .profile)) tt t (w .contexts) (slots n)
+
+  unfoldable pub mmRecordsOf : List MmRecord
+  mmRecordsOf = writes (subscribing (n .profile)) tt t (w .subscribers) (places n)
 
   unfoldable pub output : List ℕ
-  output = octetsOf recordsOf
+  output = octetsOf recordsOf ++ mmOctetsOf mmRecordsOf
 
 -- ---- the refusal table
 
--- of kinds 2, 3, 5, 7: name not active
-unfoldable pub notActive : Profile → Said (Unit {0}) Name Brought Message → List (Option Context) → Bool
-notActive p (activates m b) os = false
-notActive p (tells m h) os = not (active (handling p) m os)
-notActive p (tellsAll h) os = false
-notActive p nothing os = false
-
--- of kind 1: name active
-unfoldable pub isActive : Profile → Said (Unit {0}) Name Brought Message → List (Option Context) → Bool
-isActive p (activates m b) os = active (handling p) m os
-isActive p (tells m h) os = false
-isActive p (tellsAll h) os = false
-isActive p nothing os = false
-
--- of kind 1: all 16 slots taken
-unfoldable pub allTaken : Said (Unit {0}) Name Brought Message → List (Option Context) → Bool
-allTaken (activates m b) os = not (free os)
-allTaken (tells m h) os = false
-allTaken (tellsAll h) os = false
-allTaken nothing os = false
-
 -- what the octets of an event say, as they stand
-abbrev pub saidOf : List ℕ → Said (Unit {0}) Name Brought Message
+abbrev pub saidOf : List ℕ → Words
 saidOf s = takes (eventOf s) s
 
--- 01's "Refusal numbers, tried in this order", all that a call gives, each with 01's words. (12 is a fresh node's, 20 the reader's and 24 the
--- writer's.) Each condition is true or false of any node, octets and buffer.
+-- 01's "Refusal numbers, tried in this order", all that a call gives, each with 01's words; 15 to 17 are those of 02's W4, "16 before 15 before
+-- 17, before 11". (12 is a fresh node's, 14 a list's, 20 the reader's and 24 the writer's.) Each condition is true or false of any node, octets
+-- and buffer.
 unfoldable pub refusals : Node → List ℕ → List ℕ → List Row
 refusals n s b =
     -- "node breaks a rule under 'A sound node'"
@@ -158,7 +188,7 @@ refusals n s b =
     ∷ row 1 (ltb (length s) 7)
     -- "mark"
     ∷ row 2 (not (marked s))
-    -- "kind not 1..7"
+    -- "kind not 1..7", and now 1..11
     ∷ row 3 (not (known s))
     -- "length not the kind's; activate under 36"
     ∷ row 4 (not (measured s))
@@ -169,11 +199,17 @@ refusals n s b =
     -- "1,000,000,000,000,000 events accepted already"
     ∷ row 7 (leb mostAccepted (n .accepted))
     -- "kinds 2, 3, 5, 7: name not active"
-    ∷ row 8 (notActive (n .profile) (saidOf s) (slots n))
+    ∷ row 8 (notActive (handling (n .profile)) (saidOf s .contexts) (slots n))
     -- "kind 1: name active"
-    ∷ row 9 (isActive (n .profile) (saidOf s) (slots n))
+    ∷ row 9 (isActive (handling (n .profile)) (saidOf s .contexts) (slots n))
     -- "kind 1: all 16 slots taken"
-    ∷ row 10 (allTaken (saidOf s) (slots n))
+    ∷ row 10 (allTaken (handling (n .profile)) (saidOf s .contexts) (slots n))
+    -- kinds 9, 10, 11: "not attached"
+    ∷ row 16 (notActive (subscribing (n .profile)) (saidOf s .subscribers) (places n))
+    -- kind 8: "attached already"
+    ∷ row 15 (isActive (subscribing (n .profile)) (saidOf s .subscribers) (places n))
+    -- kind 8: "no free place"
+    ∷ row 17 (allTaken (subscribing (n .profile)) (saidOf s .subscribers) (places n))
     -- "this event's output .. longer than the output buffer"
     ∷ row 11 (ltb (length b) (length (output n (timeOf s) (saidOf s))))
     ∷ []
@@ -181,7 +217,7 @@ refusals n s b =
 -- ---- the whole call: answer, node, written length, buffer
 
 -- with the number of a refusal, or 0 where none fits
-unfoldable pub outcome : ℕ → Node → ℕ → Said (Unit {0}) Name Brought Message → List ℕ → ℕ × (Node × (ℕ × List ℕ))
+unfoldable pub outcome : ℕ → Node → ℕ → Words → List ℕ → ℕ × (Node × (ℕ × List ℕ))
 outcome k n t w b =
     cond (eqb k 0)
     (0, (nodeAfter n t w, (length (output n t w), output n t w ++ drop (length (output n t w)) b)))

@@ -136,6 +136,9 @@ pub fn batch(node: Node, id: u32, ggsn: u32, t: u32, volumes: &[u32], out: &mut 
     };
     let mut names = [none; 16];
     let mut good = true;
+    let nobody = keys::Slot { active: 0, key: 0 };
+    let mut imsis = [nobody; 16];
+    let mut fine = true;
     let mut i: usize = 0;
     while i < 16 {
         let c = node.contexts[i];
@@ -145,9 +148,16 @@ pub fn batch(node: Node, id: u32, ggsn: u32, t: u32, volumes: &[u32], out: &mut 
             active: c.active,
             name,
         };
+        let s = node.subscribers[i];
+        fine = fine & subscriber::sound::slot_ok(p.zone, node.clock, node.accepted, s);
+        let imsi = s.imsi;
+        imsis[i] = keys::Slot {
+            active: s.active,
+            key: subscriber::name::name_of(imsi),
+        };
         i += 1;
     }
-    let sound = sound::keeps_rules(p, node.clock, node.accepted, names, good);
+    let sound = sound::keeps_rules(p, node.clock, node.accepted, names, good, imsis, fine);
     let name = Name { id, ggsn };
     let k = reports_for(
         sound,

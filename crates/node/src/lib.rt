@@ -1,4 +1,4 @@
-// The node: its profile, clock and sixteen contexts as one value; when it is sound; and what an event does to it.
+// The node: its profile, clock, sixteen contexts and sixteen subscribers as one value; when it is sound; and what an event does to it.
 //
 // sound has the rules of a node and a fresh one; step the whole call. Under it: task finds out what a call is to do; meaning says who
 // hears an event and what it is to them, closing what that does to an open record, standing what then stands, emit what is written, table
@@ -20,6 +20,7 @@ mod task;
 use container::Qos;
 use context::Context;
 use profile::Profile;
+use subscriber::Subscriber;
 
 // The whole node. Once it is handed back, nothing of it is kept anywhere else.
 #[repr(C)]
@@ -30,6 +31,7 @@ pub struct Node {
     // events accepted so far
     pub accepted: u64,
     pub contexts: [Context; 16],
+    pub subscribers: [Subscriber; 16],
 }
 
 // What an event is to a context that hears it. What it is not is false, or zero.

@@ -5,14 +5,20 @@ use container::qos_profile as qos;
 use event::Activation;
 use event::Event;
 use event::Name;
+use mcdr::Place;
+use subscriber::Notice;
 ghost use mathlib.Core.Path.{_≡_};
 ghost use Rattle.node.specs.Meaning.{quiet, report, newQos, tariffChange, tick, closeWith, releaseWith, meaningOf};
 
-// An activation opens a context; any other event is told to the context of a name, or to all.
+// An activation opens a context; any other event of kinds 2 to 7 is told to the context of a name, or to all.
 pub enum Meaning {
     Opens(Activation),
     Tells(Name, Message),
     TellsAll(Message),
+    // a subscriber, by the number that its IMSI spells, attaches at a place
+    Attaches(u64, Place),
+    // the subscriber of a name hears this
+    Notifies(u64, Notice),
 }
 
 pub fn meaning_of(e: Event) -> Meaning
@@ -26,6 +32,13 @@ pub fn meaning_of(e: Event) -> Meaning
         Event::Release(name, cause) => Meaning::Tells(name, release_with(cause)),
         Event::Tick => Meaning::TellsAll(tick()),
         Event::Management(name) => Meaning::Tells(name, close_with(20)),
+        Event::Attach(imsi, lac, rac) => Meaning::Attaches(imsi, Place { lac, rac }),
+        Event::Location(imsi, lac, rac) => {
+            let to = Place { lac, rac };
+            Meaning::Notifies(imsi, Notice::Moved(to))
+        }
+        Event::ManageSubscriber(imsi) => Meaning::Notifies(imsi, Notice::Managed),
+        Event::Detach(imsi, cause) => Meaning::Notifies(imsi, Notice::Detached(cause)),
     }
 }
 

@@ -9,15 +9,26 @@ ghost use mathlib.Core.Bool.{_&&_};
 ghost use lib.Dec.{leb};
 ghost use Rattle.profile.specs.Profile.{profileOk};
 ghost use Rattle.context.specs.Slots.{distinct};
+ghost use Rattle.keys.specs.Slots as named;
 ghost use Rattle.node.specs.Sound.{sound, latest, mostAccepted, noNode, Makes};
 
-// Does a node keep every rule, whose slots have these names and are all as they must be?
-pub fn keeps_rules(p: Profile, clock: u32, accepted: u64, names: [Slot; 16], slots: bool) -> bool
-    ensures { λ r. ⌜ r ≡ (profileOk p && leb clock latest && leb accepted mostAccepted && distinct names && slots) ⌝ }
+// Does a node keep every rule, whose contexts have these names and are all as they must be, and whose subscribers have these and are so too?
+pub fn keeps_rules(
+    p: Profile,
+    clock: u32,
+    accepted: u64,
+    names: [Slot; 16],
+    contexts: bool,
+    imsis: [keys::Slot; 16],
+    subscribers: bool,
+) -> bool
+    ensures { λ r. ⌜ r ≡ (profileOk p && leb clock latest && leb accepted mostAccepted && distinct names && contexts
+        && named.distinct imsis && subscribers) ⌝ }
 {
     let a = profile::profile_ok(p);
     let b = slots::all_distinct(names);
-    a & (clock <= 3155759999) & (accepted <= 1000000000000000) & b & slots
+    let c = keys::all_distinct(imsis);
+    a & (clock <= 3155759999) & (accepted <= 1000000000000000) & b & contexts & c & subscribers
 }
 
 // Is a node sound?
@@ -28,8 +39,19 @@ pub fn is_sound(node: Node) -> bool
     let l = p.limits;
     let cs = node.contexts;
     let names = slots::slots_of(cs);
-    let slots = sound::slots_ok(l, p.zone, node.clock, node.accepted, cs);
-    keeps_rules(p, node.clock, node.accepted, names, slots)
+    let contexts = sound::slots_ok(l, p.zone, node.clock, node.accepted, cs);
+    let ss = node.subscribers;
+    let imsis = subscriber::name::slots_of(ss);
+    let subscribers = subscriber::sound::slots_ok(p.zone, node.clock, node.accepted, ss);
+    keeps_rules(
+        p,
+        node.clock,
+        node.accepted,
+        names,
+        contexts,
+        imsis,
+        subscribers,
+    )
 }
 
 // A node that is all zero: no node is made of a bad profile. It is unsound.
@@ -38,12 +60,15 @@ pub fn no_node() -> Node
 {
     let free = context::no_context();
     let contexts = [free; 16];
+    let nobody = subscriber::no_subscriber();
+    let subscribers = [nobody; 16];
     let profile = profile::no_profile();
     Node {
         profile,
         clock: 0,
         accepted: 0,
         contexts,
+        subscribers,
     }
 }
 
@@ -60,11 +85,14 @@ pub fn fresh(p: Profile) -> Made
     if profile::profile_ok(p) {
         let free = context::no_context();
         let contexts = [free; 16];
+        let nobody = subscriber::no_subscriber();
+        let subscribers = [nobody; 16];
         let node = Node {
             profile: p,
             clock: 0,
             accepted: 0,
             contexts,
+            subscribers,
         };
         return Made { answer: 0, node };
     }

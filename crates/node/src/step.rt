@@ -13,19 +13,24 @@ use context::Context;
 use context::slots::Slot;
 use event::Activation;
 use event::Name;
+use mcdr::Place;
 use profile::Profile;
+use subscriber::hear;
+use subscriber::tell;
+use subscriber::tell::Told;
 ghost use mathlib.Core.Path.{_≡_};
 ghost use mathlib.Core.Bool.{cond};
 ghost use Prim.Native.Nat.{_≤_, _<_};
 ghost use lib.Dec.{eqb};
 ghost use lib.ListN.{length};
-ghost use Rattle.event.specs.Fields.{imsiOf, apnOf};
+ghost use Rattle.event.specs.Fields.{imsiOf, apnOf, subscriberImsi};
+ghost use Rattle.subscriber.specs.Hear as subscriber;
 ghost use Rattle.event.specs.Private.Activated.{Activated};
 ghost use Rattle.octets.specs.Filled.{fillTo};
 ghost use Rattle.node.specs.Sound.{mostAccepted};
 ghost use Rattle.node.specs.Step.{Steps, broughtBy, activated};
 ghost use Rattle.node.specs.Private.Premises.{InRange, SoundTable};
-ghost use Rattle.node.specs.Private.Range.{advanced, placed, Serves};
+ghost use Rattle.node.specs.Private.Range.{advanced, placed, told, Serves};
 
 // The answer, the node, and how many octets were written.
 pub struct Stepped {
@@ -162,12 +167,47 @@ fn placed(node: Node, i: usize, t: u32, k: Tried) -> Stepped
     }
 }
 
+// What comes of the slot that an attach fills: nothing is written. The IMSI is octets 7 to 14 of the event.
+fn attached(p: Profile, t: u32, place: Place, event: &[u8]) -> Told
+    requires { ⌜ length (now event) ≡ 18 ⌝ }
+    ensures { λ r. ⌜ (r .answer ≡ 0) × ((r .subscriber ≡ subscriber.attached p t (subscriberImsi (now (event .entry))) place) × (r .written ≡ 0)) ⌝ }
+{
+    let mut imsi = [0u8; 8];
+    bytes::copy(&event[7..15], &mut imsi);
+    let subscriber = hear::opened(p, imsi, t, place, 0);
+    Told {
+        answer: 0,
+        subscriber,
+        written: 0,
+    }
+}
+
+// The node with what came of one subscriber: the same one where that is a refusal.
+fn told(node: Node, i: usize, t: u32, k: Told) -> Stepped
+    requires { ⌜ (i < 16) × (node .accepted < mostAccepted) ⌝ }
+    ensures { λ r. ⌜ (r .answer ≡ k .answer) × ((r .node ≡ told node i t (k .answer) (k .subscriber)) × (r .written ≡ cond (eqb (k .answer) 0) (k .written) 0)) ⌝ }
+{
+    if k.answer != 0 {
+        return refused(node, k.answer);
+    }
+    let subscriber = k.subscriber;
+    let mut n = node;
+    n.clock = t;
+    n.accepted = node.accepted + 1;
+    n.subscribers[i] = subscriber;
+    Stepped {
+        answer: 0,
+        node: n,
+        written: k.written,
+    }
+}
+
 // Takes an event: any octets, any node, any buffer. The answer is 0, or the number of the first refusal that fits; then the node is the
 // same and nothing is written. Accepted, it answers the node after the event, and the records that it closed are written from the
 // start of out, each after its mark.
 //
 // The loop looks at every slot, whether it is as it must be, and takes its name down. (It stands here because a function that takes the
-// node copies its 12,232 octets.)
+// node copies its 15,816 octets.)
 pub fn step(node: Node, event: &[u8], out: &mut [u8]) -> Stepped
     ensures { λ r. ⌜ Steps node (now (event .entry)) (now (out .entry)) (now (out .exit)) (r .answer) (r .node) (r .written) ⌝ }
 {
@@ -179,6 +219,9 @@ pub fn step(node: Node, event: &[u8], out: &mut [u8]) -> Stepped
     };
     let mut names = [none; 16];
     let mut good = true;
+    let nobody = keys::Slot { active: 0, key: 0 };
+    let mut imsis = [nobody; 16];
+    let mut fine = true;
     let mut i: usize = 0;
     while i < 16 {
         let c = node.contexts[i];
@@ -188,10 +231,17 @@ pub fn step(node: Node, event: &[u8], out: &mut [u8]) -> Stepped
             active: c.active,
             name,
         };
+        let s = node.subscribers[i];
+        fine = fine & subscriber::sound::slot_ok(p.zone, node.clock, node.accepted, s);
+        let imsi = s.imsi;
+        imsis[i] = keys::Slot {
+            active: s.active,
+            key: subscriber::name::name_of(imsi),
+        };
         i += 1;
     }
-    let sound = sound::keeps_rules(p, node.clock, node.accepted, names, good);
-    let k = task::task_for(sound, node.clock, node.accepted, names, event);
+    let sound = sound::keeps_rules(p, node.clock, node.accepted, names, good, imsis, fine);
+    let k = task::task_for(sound, node.clock, node.accepted, names, imsis, event);
     match k {
         Task::Refuse(answer) => refused(node, answer),
         Task::One(at, t, m) => {
@@ -200,5 +250,10 @@ pub fn step(node: Node, event: &[u8], out: &mut [u8]) -> Stepped
         }
         Task::All(t, m) => serve(node, t, m, out),
         Task::Open(at, t, a) => placed(node, at, t, opened(p, t, a, event)),
+        Task::Notify(at, t, m) => {
+            let s = node.subscribers[at];
+            told(node, at, t, tell::tell(p, s, t, m, out))
+        }
+        Task::Attach(at, t, place) => told(node, at, t, attached(p, t, place, event)),
     }
 }

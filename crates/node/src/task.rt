@@ -1,4 +1,4 @@
-// What a call is to do, by the names of the slots and the event. Nothing here has the table in hand: a node has 12,232 octets, and each
+// What a call is to do, by the names of the slots and the event. Nothing here has the table in hand: a node has 15,816 octets, and each
 // function that takes it copies it.
 use crate::Message;
 use crate::meaning;
@@ -10,11 +10,15 @@ use event::Activation;
 use event::Decoded;
 use event::Event;
 use event::Name;
+use mcdr::Place;
+use subscriber::Notice;
 ghost use mathlib.Core.Path.{_≡_};
 ghost use Rattle.event.specs.Event.{decoded};
 ghost use Rattle.node.specs.Meaning.{meaningOf};
 ghost use Rattle.node.specs.Private.Premises.{InRange};
-ghost use Rattle.node.specs.Private.Task.{namedTask, openTask, taskOf, timelyTask, taskFor, MeaningInRange, TaskInRange};
+ghost use mathlib.Core.Bool.{true};
+ghost use Rattle.subscriber.specs.Hear.{noticeOk};
+ghost use Rattle.node.specs.Private.Task.{namedTask, openTask, notifyTask, attachTask, taskOf, timelyTask, taskFor, MeaningInRange, TaskInRange};
 
 pub enum Task {
     // the number of a refusal
@@ -25,6 +29,10 @@ pub enum Task {
     All(u32, Message),
     // an activation fills a free slot, at a time
     Open(usize, u32, Activation),
+    // the subscriber in a slot hears something, at a time
+    Notify(usize, u32, Notice),
+    // an attach fills a free slot, at a time, with a place
+    Attach(usize, u32, Place),
 }
 
 // The context of a name hears m.
@@ -54,22 +62,57 @@ fn open(names: [Slot; 16], t: u32, a: Activation) -> Task
     }
 }
 
+// The subscriber of a name hears m.
+fn notify(imsis: [keys::Slot; 16], t: u32, imsi: u64, m: Notice) -> Task
+    requires { ⌜ noticeOk m ≡ true ⌝ }
+    ensures { λ r. ⌜ (r ≡ notifyTask imsis t imsi m) × TaskInRange r ⌝ }
+{
+    let found = keys::find(imsis, imsi);
+    match found {
+        keys::Found::At(i) => Task::Notify(i, t, m),
+        keys::Found::Nothing => Task::Refuse(16),
+    }
+}
+
+// An attach takes the lowest free slot.
+fn attach(imsis: [keys::Slot; 16], t: u32, imsi: u64, place: Place) -> Task
+    ensures { λ r. ⌜ (r ≡ attachTask imsis t imsi place) × TaskInRange r ⌝ }
+{
+    if let keys::Found::At(_) = keys::find(imsis, imsi) {
+        return Task::Refuse(15);
+    }
+    let free = keys::lowest_free(imsis);
+    match free {
+        keys::Found::At(i) => Task::Attach(i, t, place),
+        keys::Found::Nothing => Task::Refuse(17),
+    }
+}
+
 // What an event does that comes in time, by its meaning.
-fn task_of(names: [Slot; 16], t: u32, w: Meaning) -> Task
+fn task_of(names: [Slot; 16], imsis: [keys::Slot; 16], t: u32, w: Meaning) -> Task
     requires { ⌜ MeaningInRange w ⌝ }
-    ensures { λ r. ⌜ (r ≡ taskOf names t w) × TaskInRange r ⌝ }
+    ensures { λ r. ⌜ (r ≡ taskOf names imsis t w) × TaskInRange r ⌝ }
 {
     match w {
         Meaning::Opens(a) => open(names, t, a),
         Meaning::Tells(name, m) => named(names, t, name, m),
         Meaning::TellsAll(m) => Task::All(t, m),
+        Meaning::Attaches(imsi, place) => attach(imsis, t, imsi, place),
+        Meaning::Notifies(imsi, m) => notify(imsis, t, imsi, m),
     }
 }
 
 // The time first, then whether one more event may be accepted.
-fn timely(clock: u32, accepted: u64, names: [Slot; 16], t: u32, e: Event) -> Task
+fn timely(
+    clock: u32,
+    accepted: u64,
+    names: [Slot; 16],
+    imsis: [keys::Slot; 16],
+    t: u32,
+    e: Event,
+) -> Task
     requires { ⌜ MeaningInRange (meaningOf e) ⌝ }
-    ensures { λ r. ⌜ (r ≡ timelyTask clock accepted names t e) × TaskInRange r ⌝ }
+    ensures { λ r. ⌜ (r ≡ timelyTask clock accepted names imsis t e) × TaskInRange r ⌝ }
 {
     if 3155759999 < t {
         return Task::Refuse(6);
@@ -80,12 +123,19 @@ fn timely(clock: u32, accepted: u64, names: [Slot; 16], t: u32, e: Event) -> Tas
     if 1000000000000000 <= accepted {
         return Task::Refuse(7);
     }
-    task_of(names, t, meaning::meaning_of(e))
+    task_of(names, imsis, t, meaning::meaning_of(e))
 }
 
 // The rows of the refusal table before room is looked for: 13, then those of the event's octets, then those of the time and the name.
-pub fn task_for(sound: bool, clock: u32, accepted: u64, names: [Slot; 16], event: &[u8]) -> Task
-    ensures { λ r. ⌜ (r ≡ taskFor sound clock accepted names (decoded (now (event .entry)))) × TaskInRange r ⌝ }
+pub fn task_for(
+    sound: bool,
+    clock: u32,
+    accepted: u64,
+    names: [Slot; 16],
+    imsis: [keys::Slot; 16],
+    event: &[u8],
+) -> Task
+    ensures { λ r. ⌜ (r ≡ taskFor sound clock accepted names imsis (decoded (now (event .entry)))) × TaskInRange r ⌝ }
 {
     if !sound {
         return Task::Refuse(13);
@@ -93,6 +143,6 @@ pub fn task_for(sound: bool, clock: u32, accepted: u64, names: [Slot; 16], event
     let d = event::decode(event);
     match d {
         Decoded::Refused(k) => Task::Refuse(k),
-        Decoded::Said(t, e) => timely(clock, accepted, names, t, e),
+        Decoded::Said(t, e) => timely(clock, accepted, names, imsis, t, e),
     }
 }

@@ -35,7 +35,13 @@ pub record Seat : Type 0 where
 
 -- the node with these, in the slot i
 abbrev pub seated : Node → ℕ → Seat → Node
-seated n i s = record { profile = n .profile; clock = s .clock; accepted = s .accepted; contexts = set (n .contexts) i (s .context) }
+seated n i s = record {
+  profile = n .profile;
+  clock = s .clock;
+  accepted = s .accepted;
+  contexts = set (n .contexts) i (s .context);
+  subscribers = n .subscribers;
+}
 
 -- k pairs on: the clock moves with the first of them
 abbrev pub seatAt : ℕ → ℕ → ℕ → ℕ → Context → Seat

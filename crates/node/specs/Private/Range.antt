@@ -4,13 +4,17 @@ use mathlib.Core.Bool.{cond}
 use mathlib.Core.List.{List, _++_}
 use Prim.Native.Nat.{ℕ, _+_, _≤_}
 use lib.Dec.{leb, eqb}
-use lib.ListN.{length, drop, set}
+use lib.ListN.{length, getD, drop, set}
 use Rattle.ber.specs.Private.Wrote.{Put}
 use Rattle.profile.specs.declared.Profile.{Profile}
 use Rattle.context.specs.declared.Context.{Context}
 use Rattle.context.specs.Context.{noContext}
 use Rattle.history.specs.Slots as S
 use Rattle.history.specs.Slots.{across, along}
+use Rattle.subscriber.specs.declared.Subscriber.{Subscriber}
+use Rattle.subscriber.specs.declared.Notice.{Notice}
+use Rattle.subscriber.specs.Subscriber.{noSubscriber}
+use Rattle.subscriber.specs.Tell.{toldOf}
 use Rattle.node.specs.declared.Node.{Node}
 use Rattle.node.specs.declared.Message.{Message}
 use Rattle.node.specs.Step.{handling, taken, octetsOf}
@@ -43,7 +47,21 @@ pub record Tries (p : Profile) (t : ℕ) (h : Message) (c : Context) (b b′ : L
 
 -- the node at a time, one event on, with this table
 abbrev pub advanced : Node → ℕ → List Context → Node
-advanced n t cs = record { profile = n .profile; clock = t; accepted = n .accepted + 1; contexts = cs }
+advanced n t cs = record { profile = n .profile; clock = t; accepted = n .accepted + 1; contexts = cs; subscribers = n .subscribers }
+
+-- the same with another table of subscribers
+abbrev pub enrolled : Node → ℕ → List Subscriber → Node
+enrolled n t ss = record { profile = n .profile; clock = t; accepted = n .accepted + 1; contexts = n .contexts; subscribers = ss }
+
+-- and with what came of one subscriber
+abbrev pub told : Node → ℕ → ℕ → ℕ → Subscriber → Node
+told n i t answer s = cond (eqb answer 0) (enrolled n t (set (n .subscribers) i s)) n
+
+-- what is answered where the subscriber in a slot hears m: what is answered of it, and the node with it
+unfoldable pub notifiedOf : Node → ℕ → ℕ → Notice → List ℕ → ℕ × (Node × (ℕ × List ℕ))
+notifiedOf n i t m b =
+    let r = toldOf (n .profile) t m (getD (n .subscribers) i noSubscriber) b in
+    (r .0, (told n i t (r .0) (r .1 .0), (cond (eqb (r .0) 0) (r .1 .1 .0) 0, r .1 .1 .1)))
 
 -- the same with what came of one slot, or the node as it was where that is a refusal
 abbrev pub placed : Node → ℕ → ℕ → ℕ → Context → Node

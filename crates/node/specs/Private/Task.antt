@@ -14,17 +14,26 @@ use Rattle.context.specs.declared.slots.Slot.{Slot}
 use Rattle.context.specs.declared.slots.Found.{Found}
 use Rattle.context.specs.declared.slots.Found.the-variants.{At, Nothing}
 use Rattle.context.specs.Slots.{isFree, bears, firstFrom}
+use Rattle.event.specs.Fields.{subscriberImsi}
+use Rattle.mcdr.specs.declared.Place.{Place}
+use Rattle.keys.specs.declared.Slot as N
+use Rattle.keys.specs.declared.Found as G
+use Rattle.keys.specs.declared.Found.the-variants as F
+use Rattle.keys.specs.Slots as named
+use Rattle.subscriber.specs.declared.Notice.{Notice}
+use Rattle.subscriber.specs.Hear as subscriber
+use Rattle.subscriber.specs.Hear.{noticeOk}
 use Rattle.node.specs.declared.Node.{Node}
 use Rattle.node.specs.declared.Message.{Message}
 use Rattle.node.specs.declared.meaning.Meaning.{Meaning}
 use Rattle.node.specs.declared.meaning.Meaning.the-variants as W
 use Rattle.node.specs.Meaning.{meaningOf}
 use Rattle.node.specs.declared.task.Task.{Task}
-use Rattle.node.specs.declared.task.Task.the-variants.{Refuse, One, All, Open}
+use Rattle.node.specs.declared.task.Task.the-variants.{Refuse, One, All, Open, Notify, Attach}
 use Rattle.node.specs.Sound.{latest, mostAccepted}
 use Rattle.node.specs.Step.{broughtBy, activated}
 use Rattle.node.specs.Private.Premises.{InRange}
-use Rattle.node.specs.Private.Range.{advanced, servedOf}
+use Rattle.node.specs.Private.Range.{advanced, servedOf, enrolled, notifiedOf}
 
 -- ---- what is to be done
 
@@ -48,20 +57,43 @@ openAt t a Nothing free = freeAt t a free
 unfoldable pub openTask : List Slot → ℕ → Activation → Task
 openTask names t a = openAt t a (firstFrom (bears (a .name)) 0 names) (firstFrom isFree 0 names)
 
-unfoldable pub taskOf : List Slot → ℕ → Meaning → Task
-taskOf names t (W.Opens a) = openTask names t a
-taskOf names t (W.Tells n m) = namedTask names t n m
-taskOf names t (W.TellsAll m) = All t m
+-- of subscribers: 16, or the slot of the name
+abbrev pub notifyAt : ℕ → Notice → G.Found → Task
+notifyAt t m (F.At i) = Notify i t m
+notifyAt t m F.Nothing = Refuse 16
+
+unfoldable pub notifyTask : List N.Slot → ℕ → ℕ → Notice → Task
+notifyTask imsis t k m = notifyAt t m (named.firstFrom (named.bears k) 0 imsis)
+
+-- 15, then 17, or the lowest free slot
+abbrev pub vacantAt : ℕ → Place → G.Found → Task
+vacantAt t q (F.At i) = Attach i t q
+vacantAt t q F.Nothing = Refuse 17
+
+abbrev pub attachAt : ℕ → Place → G.Found → G.Found → Task
+attachAt t q (F.At i) free = Refuse 15
+attachAt t q F.Nothing free = vacantAt t q free
+
+unfoldable pub attachTask : List N.Slot → ℕ → ℕ → Place → Task
+attachTask imsis t k q = attachAt t q (named.firstFrom (named.bears k) 0 imsis) (named.firstFrom named.isFree 0 imsis)
+
+unfoldable pub taskOf : List Slot → List N.Slot → ℕ → Meaning → Task
+taskOf names imsis t (W.Opens a) = openTask names t a
+taskOf names imsis t (W.Tells n m) = namedTask names t n m
+taskOf names imsis t (W.TellsAll m) = All t m
+taskOf names imsis t (W.Attaches k q) = attachTask imsis t k q
+taskOf names imsis t (W.Notifies k m) = notifyTask imsis t k m
 
 -- 6, then 7
-unfoldable pub timelyTask : ℕ → ℕ → List Slot → ℕ → Event → Task
-timelyTask clock accepted names t e = cond (ltb latest t || ltb t clock) (Refuse 6) (cond (leb mostAccepted accepted) (Refuse 7) (taskOf names t (meaningOf e)))
+unfoldable pub timelyTask : ℕ → ℕ → List Slot → List N.Slot → ℕ → Event → Task
+timelyTask clock accepted names imsis t e =
+    cond (ltb latest t || ltb t clock) (Refuse 6) (cond (leb mostAccepted accepted) (Refuse 7) (taskOf names imsis t (meaningOf e)))
 
 -- 13, then 1 to 5
-unfoldable pub taskFor : Bool → ℕ → ℕ → List Slot → Decoded → Task
-taskFor false clock accepted names d = Refuse 13
-taskFor true clock accepted names (D.Refused k) = Refuse k
-taskFor true clock accepted names (D.Said t e) = timelyTask clock accepted names t e
+unfoldable pub taskFor : Bool → ℕ → ℕ → List Slot → List N.Slot → Decoded → Task
+taskFor false clock accepted names imsis d = Refuse 13
+taskFor true clock accepted names imsis (D.Refused k) = Refuse k
+taskFor true clock accepted names imsis (D.Said t e) = timelyTask clock accepted names imsis t e
 
 -- ---- and what is answered then: 11 is found out while it is done
 
@@ -69,6 +101,9 @@ unfoldable pub doneBy : Node → List ℕ → List ℕ → Task → ℕ × (Node
 doneBy n s b (Refuse k) = (k, (n, (0, b)))
 doneBy n s b (One i t h) = servedOf n i (i + 1) t h b
 doneBy n s b (All t h) = servedOf n 0 16 t h b
+doneBy n s b (Notify i t m) = notifiedOf n i t m b
+doneBy n s b (Attach i t q) =
+    (0, (enrolled n t (set (n .subscribers) i (subscriber.attached (n .profile) t (subscriberImsi s) q)), (0, b)))
 doneBy n s b (Open i t a) = (0, (advanced n t (set (n .contexts) i (activated (n .profile) t (a .name) (broughtBy a s))), (0, b)))
 
 -- ---- what is told is in range
@@ -77,9 +112,13 @@ abbrev pub MeaningInRange : Meaning → Type 0
 MeaningInRange (W.Opens a) = Unit {0}
 MeaningInRange (W.Tells n m) = InRange m
 MeaningInRange (W.TellsAll m) = InRange m
+MeaningInRange (W.Attaches k q) = Unit {0}
+MeaningInRange (W.Notifies k m) = noticeOk m ≡ true
 
 abbrev pub TaskInRange : Task → Type 0
 TaskInRange (Refuse k) = Unit {0}
 TaskInRange (One i t h) = InRange h
 TaskInRange (All t h) = InRange h
 TaskInRange (Open i t a) = Unit {0}
+TaskInRange (Notify i t m) = noticeOk m ≡ true
+TaskInRange (Attach i t q) = Unit {0}

@@ -9,6 +9,9 @@ use Rattle.history.proofs.Scans.{Looking, looking-none, looking-more, looking-e
 use Rattle.context.specs.Slots.{slotOf}
 use Rattle.context.specs.Sound.{slotsOk}
 use Rattle.context.proofs.Scans.{slots-ask}
+use Rattle.subscriber.specs.Subscriber.{slotOf as imsiSlot}
+use Rattle.subscriber.specs.Sound.{slotsOk as subscribersOk}
+use Rattle.subscriber.proofs.Scans.{slots-ask as subscribers-ask}
 use Rattle.node.specs.declared.batch.Reports.{Reports}
 use Rattle.node.specs.Batch.{nameWith}
 use Rattle.node.specs.Held.{Held}
@@ -19,11 +22,12 @@ use Rattle.node.proofs.batch.batch.Statement.{statement}
 use Rattle.node.proofs.batch.batch.Tie as tie
 
 abbrev Inv-loop : tie.InvT-loop
-Inv-loop id ggsn t volumes out node p l names₀ good₀ i₀ names good i =
+Inv-loop id ggsn t volumes out node p l names₀ good₀ imsis₀ fine₀ i₀ names good imsis fine i =
     Looking slotOf (slotsOk l (p .zone) (node .clock) (node .accepted)) (node .contexts) names good i
+    × Looking imsiSlot (subscribersOk (p .zone) (node .clock) (node .accepted)) (node .subscribers) imsis fine i
 
 abbrev μ-loop : tie.MeasureT-loop
-μ-loop id ggsn t volumes out node p l names₀ good₀ i₀ names good i = 16 - i
+μ-loop id ggsn t volumes out node p l names₀ good₀ imsis₀ fine₀ i₀ names good imsis fine i = 16 - i
 
 -- what the types say of the node, of the name and the time, and of the numbers
 held : (c : tie.Start Inv-loop μ-loop) → Held (c .args .t1)
@@ -56,7 +60,8 @@ meant c k e =
     let s = lent c .before in
     means-by (s .args .t1) (nameWith (s .args .id) (s .args .ggsn)) (s .args .t) (s .args .volumes .now) (s .args .out .now) (held s) (time-word s) (id-word s)
     (ggsn-word s) (volume-words (lent c))
-    (looking-end (slots-ask _ _ _ _) (c .before .before .before .loop .inv) (omega (arith, c .before .before .loop-test .left, held s .size)))
+    (looking-end (slots-ask _ _ _ _) (c .before .before .before .loop .inv .0) (omega (arith, c .before .before .loop-test .left, held s .size)))
+    (looking-end (subscribers-ask _ _ _) (c .before .before .before .loop .inv .1) (omega (arith, c .before .before .loop-test .left, held s .places)))
     (c .before .keeps-rules .ensures) (sym e ∙ c .reports-for .ensures)
 
 -- the places where its answer is looked at, and from there the place where it was found out
@@ -70,13 +75,18 @@ abbrev of-tell : tie.After-known-told2 Inv-loop μ-loop → tie.After-reports-fo
 of-tell c = c .before .before .before
 
 loop-holds : tie.Need-loop-holds Inv-loop μ-loop
-loop-holds c = let w = held (c .before .before .before .before) .size in looking-none (omega arith)
+loop-holds c = let h = held (c .before .before .before .before) in (looking-none (omega (arith, h .size)), looking-none (omega (arith, h .places)))
 
 loop-again : tie.Need-loop-again Inv-loop μ-loop
 loop-again c =
-    let w = held (c .before .before .before .before .before .before .before .before .before) .size in
-    looking-more (slots-ask _ _ _ _) (c .before .before .before .before .loop .inv) _ (omega (arith, c .before .before .before .loop-test .taken))
-    (c .before .slot-ok .ensures)
+    let h = held (c .before .before .before .before .before .before .before .before .before .before .before .before .before) in
+    let v = c .before .before .before .before .before .before .before .before .loop .inv in (
+      looking-more (slots-ask _ _ _ _) (v .0) _ (omega (arith, h .size, c .before .before .before .before .before .before .before .loop-test .taken))
+          (c .before .before .before .before .before .slot-ok .ensures),
+      rw (c .name-of .ensures)
+          (looking-more (subscribers-ask _ _ _) (v .1) _ (omega (arith, h .places, c .before .before .before .before .before .before .before .loop-test .taken))
+          (c .before .before .slot-ok2 .ensures)),
+    )
 
 mul-c-2 : tie.Need-mul-c-2 Inv-loop μ-loop
 mul-c-2 c = omega (arith, below (meant (of-tell c) _ (c .before .k2 .given .1)))
@@ -107,6 +117,7 @@ pub batch-spec : {M : Type 1} → statement M
 batch-spec =
     tie.close
     (tie.spec Inv-loop μ-loop loop-holds (λ c. search needs) (λ c. search needs) (λ c κs. search needs) (λ c. search needs) (λ c. search needs)
+    (λ c. search needs) (λ c. search needs) (λ c κs. search needs) (λ c κs. search needs) (λ c. search needs) (λ c. search needs)
     (λ c. search needs) (λ c. search needs) loop-again (λ c κs. search needs) (λ c κs. search needs) (λ c. search needs) (λ c κs. search needs)
     (λ c. search needs) (λ c κs. search needs) (λ c. search needs) mul-c-2 element-copy-out-c-2 tell-requires moved-requires returns returns-2
     (λ c. search needs) returns-3)

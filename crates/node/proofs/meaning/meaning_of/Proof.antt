@@ -24,10 +24,23 @@ returns-6 c = rw (c .before .enum-told2 .given .1, c .tick .ensures)
 returns-7 : tie.Need-returns-7
 returns-7 c = rw (c .before .before .e5 .given .1, c .close-with .ensures)
 
+returns-8 : tie.Need-returns-8
+returns-8 c = rw (c .before .e6 .given .1)
+
+returns-9 : tie.Need-returns-9
+returns-9 c = rw (c .before .e7 .given .1)
+
+returns-10 : tie.Need-returns-10
+returns-10 c = rw (c .before .e8 .given .1)
+
+returns-11 : tie.Need-returns-11
+returns-11 c = rw (c .before .e9 .given .1)
+
 pub meaning-of-spec : {M : Type 1} → statement M
 meaning-of-spec =
     tie.close
     (tie.spec (λ c. search needs) (λ c. search needs) (λ c κs. search needs) (λ c. search needs)
     (λ c κs. search needs) (λ c. search needs) (λ c κs. search needs) (λ c. search needs) (λ c κs. search needs)
-    (λ c. search needs) (λ c κs. search needs) (λ c. search needs) (λ c κs. search needs) returns returns-2 returns-3
-    returns-4 returns-5 returns-6 returns-7)
+    (λ c. search needs) (λ c κs. search needs) (λ c. search needs) (λ c κs. search needs)
+    (λ c. search needs) (λ c. search needs) (λ c. search needs) (λ c. search needs)
+    returns returns-2 returns-3 returns-4 returns-5 returns-6 returns-7 returns-8 returns-9 returns-10 returns-11)

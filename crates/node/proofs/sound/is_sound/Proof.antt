@@ -6,7 +6,14 @@ use Rattle.node.proofs.sound.is_sound.Tie as tie
 
 returns : tie.Need-returns
 unfolding sound
-returns c = rw (c .keeps-rules .ensures, c .before .slots-ok .ensures, c .before .before .slots-of .ensures)
+returns c =
+    rw (
+      c .keeps-rules .ensures,
+      c .before .slots-ok2 .ensures,
+      c .before .before .slots-of2 .ensures,
+      c .before .before .before .before .slots-ok .ensures,
+      c .before .before .before .before .before .slots-of .ensures,
+    )
 
 pub is-sound-spec : {M : Type 1} → statement M
-is-sound-spec = tie.close (tie.spec (λ c. search needs) (λ c. search needs) (λ c. search needs) returns)
+is-sound-spec = tie.close (tie.spec (λ c. search needs) (λ c. search needs) (λ c. search needs) (λ c. search needs) (λ c. search needs) returns)

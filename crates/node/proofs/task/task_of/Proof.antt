@@ -19,8 +19,19 @@ returns-3 : tie.Need-returns-3
 unfolding taskOf
 returns-3 c = (rw (c .before .w3 .given .1), rw (c .before .w3 .given .1) at (c .before .before .before .pre))
 
+returns-4 : tie.Need-returns-4
+unfolding taskOf
+returns-4 c = rw (c .before .before .w4 .given .1) (c .attach .ensures)
+
+notify-requires : tie.Need-notify-requires
+notify-requires c κs = rw (c .before .w5 .given .1) at (c .before .before .before .pre)
+
+returns-5 : tie.Need-returns-5
+unfolding taskOf
+returns-5 c = rw (c .before .before .w5 .given .1) (c .notify .ensures)
+
 pub task-of-spec : {M : Type 1} → statement M
 task-of-spec =
     tie.close
-    (tie.spec (λ c. search needs) (λ c κs. search needs) (λ c. search needs) named-requires (λ c. search needs)
-    returns returns-2 returns-3)
+    (tie.spec (λ c. search needs) (λ c κs. search needs) (λ c. search needs) named-requires (λ c. search needs) (λ c. search needs)
+    (λ c κs. search needs) (λ c. search needs) notify-requires returns returns-2 returns-3 returns-4 returns-5)
