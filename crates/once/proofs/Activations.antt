@@ -16,14 +16,14 @@ use Rattle.history.specs.Lists.{each, All, NotFalling}
 use Rattle.history.specs.History.{History, began}
 use Rattle.history.specs.Records.{Rules, Record, stretches, records, ended, leaves}
 use Rattle.history.specs.Run.{allWritten}
-use Rattle.history.specs.Demand.{InTime, under}
-use Rattle.history.proofs.Lists.{each-one, each-map, map-map, map-id, each-of-map, all-of-map, all-both, notFalling-whole}
+use Rattle.history.specs.Demand.{InTime}
+use Rattle.history.proofs.Lists.{each-map, map-map, map-id, each-of-map, all-of-map, all-both, notFalling-whole}
 use Rattle.history.proofs.Everything.{read-one, count-one}
 use Rattle.node.specs.Sound.{freshNode}
 use Rattle.node.specs.Run.{Call, Given}
 use Rattle.node.specs.Held.{HeldProfile}
-use Rattle.once.specs.Charging.{Force, Heard, same, up, down, rules, container, recordFrom, contextFrom, forms}
-use Rattle.once.specs.Once.{machine, sight, activations}
+use Rattle.once.specs.Charging.{Force, Heard, up, down, rules, container, recordFrom, contextFrom, forms}
+use Rattle.once.specs.Once.{machine, sight, contexts, activations}
 use Rattle.once.specs.Activations.{containersOf, Activation, containersRead, ChargedOnce, PerActivation}
 use Rattle.once.proofs.EachCall.{run-same, log-same}
 use Rattle.once.proofs.Billed.{entry, carried, carries, Lasts, durations}
@@ -85,8 +85,8 @@ pub each-activation-once : (p : Profile) → profileOk p ≡ true → HeldProfil
     → (name : Name) → PerActivation p calls name
 each-activation-once p ok h calls octets name =
     let o = every-octet-once p ok in
-    let d = o .demand calls name in
-    let hs = activations p calls name in
+    let d = o .sessions .demand calls name in
+    let hs = activations (contexts p) p calls name in
     let same-log = log-same (o .recordsBy) calls (freshNode p) in
     let all = allWritten (machine (o .recordsBy)) (freshNode p) calls in
     record {
@@ -95,8 +95,7 @@ each-activation-once p ok h calls octets name =
       one-each = map (activation p name) hs;
       histories = map-map (λ a. a .history) (activation p name) hs ∙ map-id hs;
       closed-under =
-          sym (ap (λ (rs : List scdr.Record). under same (sight .nameOf) name rs) (each-one all))
-          ∙ rw same-log at (d .closed)
+          rw same-log at (d .closed)
           ∙ sym (each-of-map (λ a. a .closed) (activation p name) hs);
       open-under =
           rw (run-same (o .recordsBy) calls (freshNode p), same-log) at (d .open-now)

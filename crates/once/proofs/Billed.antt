@@ -11,6 +11,7 @@ use lib.Dec.{eqb}
 use Rattle.format.proofs.Tests.{by}
 use Rattle.container.specs.declared.Container.{Container}
 use Rattle.scdr.specs.declared.Record as scdr
+use Rattle.cdrs.specs.Cdr.{Cdr}
 use Rattle.scdr.specs.Rules.{lastTime, duration}
 use Rattle.container.proofs.Padded.{take-padded}
 use Rattle.profile.specs.declared.Profile.{Profile}
@@ -65,7 +66,7 @@ module _ (p : Profile) (n : Name) where
   carries s = take-padded (map (container p) (s .stretches)) ∙ sym (each-map (container p) (s .stretches))
 
 module _ (p : Profile) (o : Once p) (cs : List Call) (n : Name) where
-  abbrev X : Machine Node Call (List ℕ) scdr.Record
+  abbrev X : Machine Node Call (List ℕ) Cdr
   X = machine (o .recordsBy)
 
   -- the records billed under the name, and the context stored under it, if there is one
@@ -81,7 +82,7 @@ module _ (p : Profile) (o : Once p) (cs : List Call) (n : Name) where
   pub containers-once : each containersOf billed ++ each used kept ≡ each (λ h. map (container p) (stretches (rules (p .limits)) h)) histories
   containers-once =
       everything.containers-once (rules (p .limits)) (forms p) n (entry p) containersOf used (carried p n) (carries p n)
-      meaning sight X (freshNode p) tt cs (o .demand cs n)
+      meaning sight X (freshNode p) tt cs (o .sessions .demand cs n)
       ∙ go histories
     where
       go : (hs : List (History Force Heard))
@@ -94,14 +95,14 @@ module _ (p : Profile) (o : Once p) (cs : List Call) (n : Name) where
       ≡ reported (rules (p .limits)) meaning n up (log X (freshNode p) cs)
   uplink-once =
       everything.octets-once (rules (p .limits)) (forms p) n (entry p) containersOf used (carried p n) (carries p n)
-      meaning sight X (freshNode p) tt cs (o .demand cs n) up
+      meaning sight X (freshNode p) tt cs (o .sessions .demand cs n) up
       (uncounted up refl refl) (λ c. c .uplink) (λ c. c .current .uplink) (λ x. add-zero _) (λ s. refl)
 
   pub downlink-once : sumOf (λ c. c .downlink) (each containersOf billed ++ each used kept) + sumOf (λ c. c .current .downlink) kept
       ≡ reported (rules (p .limits)) meaning n down (log X (freshNode p) cs)
   downlink-once =
       everything.octets-once (rules (p .limits)) (forms p) n (entry p) containersOf used (carried p n) (carries p n)
-      meaning sight X (freshNode p) tt cs (o .demand cs n) down
+      meaning sight X (freshNode p) tt cs (o .sessions .demand cs n) down
       (uncounted down refl refl) (λ c. c .downlink) (λ c. c .current .downlink) (λ x. add-zero _) (λ s. refl)
 
 -- ---- durations: from a record's opening to the event that closed it

@@ -5,7 +5,7 @@ use mathlib.Core.List.{List, [], _∷_, _++_, map, append-nil}
 use Prim.Native.Nat.{ℕ, zero, suc, _+_, _≤_}
 use native.Mathlib.Omega.{arith}
 use lib.ListN.{length, take, drop, length-append}
-use Rattle.scdr.specs.declared.Record as scdr
+use Rattle.cdrs.specs.Cdr.{Cdr}
 use Rattle.event.specs.Fields.{timeOf}
 use Rattle.history.specs.Log.{Accepted}
 use Rattle.history.specs.Run.{Machine, ifZero, applied, run, allWritten, log}
@@ -24,7 +24,7 @@ use Rattle.once.proofs.Steps.{wroteOne, called, no-zero, octets-one}
 abbrev at : List ℕ → Accepted (List ℕ)
 at s = record { time = timeOf s; event = s }
 
-abbrev pub single : Machine Node One (List ℕ) scdr.Record
+abbrev pub single : Machine Node One (List ℕ) Cdr
 single = record { holds = λ c. at (c .event) ∷ []; applies = λ n c. ifZero (got n c .0); after = λ n c. got n c .1 .0; writes = wroteOne }
 
 run-single : (cs : List One) (n : Node) → run single n cs ≡ after n (map call cs)
@@ -49,7 +49,7 @@ ones n (step s b) = record { event = s; buffer = b } ∷ []
 ones n (batch m t vs b) = pairsDone n m t vs b
 
 -- the records that it writes
-abbrev pub wrote : Node → Call → List scdr.Record
+abbrev pub wrote : Node → Call → List Cdr
 wrote n (step s b) = wroteOne n (record { event = s; buffer = b })
 wrote n (batch m t vs b) = allWritten single n (pairsDone n m t vs b)
 
@@ -98,7 +98,7 @@ module _ (n : Node) where
 -- ---- how many events the node has accepted
 
 -- each call counts those that it applied, and so do calls
-module _ {I : Type 0} (X : Machine Node I (List ℕ) scdr.Record)
+module _ {I : Type 0} (X : Machine Node I (List ℕ) Cdr)
     (one : (n : Node) (i : I) → X .after n i .accepted ≡ n .accepted + length (applied X n i)) where
   count : (is : List I) (n : Node) → run X n is .accepted ≡ n .accepted + length (log X n is)
   count [] n = omega arith

@@ -1,23 +1,22 @@
 -- How the node handles contexts, in the words of the histories; and that this is sound: names are kept, an activation stores and
 -- hearing does what the history says.
-use mathlib.Core.Path.{_≡_, refl, ap}
+use mathlib.Core.Path.{_≡_, refl, ap, _∙_}
 use mathlib.Core.Logic.{_↔_}
 use mathlib.Core.Bool.{Bool, true, false, cond}
 use mathlib.Core.Option.{Option, none, some}
 use mathlib.Core.List.{List, [], _∷_, map}
 use Prim.Native.Nat.{ℕ, _+_}
 use lib.Dec.{eqb}
-use borrow.Author.Tests.{eqb-true, eq-eqb}
 use Rattle.scdr.specs.declared.Record as scdr
 use Rattle.profile.specs.declared.Profile.{Profile}
 use Rattle.event.specs.declared.Name.{Name}
 use Rattle.event.specs.declared.Event.{Event}
 use Rattle.context.specs.declared.Context.{Context}
+use Rattle.context.specs.Context.{noContext}
 use Rattle.context.specs.Slots.{sameName}
-use Rattle.history.specs.Lists.{All}
 use Rattle.history.specs.Log.{Said, activates, tells, tellsAll, nothing}
 use Rattle.history.specs.Table as table
-use Rattle.history.proofs.Tables.{Bears, NextIs, Sound}
+use Rattle.history.proofs.Tables.{Bears, NextIs, Sound, admits}
 use Rattle.node.specs.declared.Message as node
 use Rattle.node.specs.Hear.{going, recordOf, closing, closedBy, afterClosing, hearWith, hear}
 use Rattle.node.specs.Step as step
@@ -25,6 +24,7 @@ use Rattle.node.proofs.Hearing as heards
 use Rattle.once.specs.Charging.{Force, Heard, same, says, meaning, rules, forms}
 use Rattle.once.specs.Once.{sight}
 use Rattle.once.proofs.Hears.{nodes, hears-told}
+use Rattle.once.proofs.Alike as alike
 
 -- ---- the same in the node's words
 
@@ -37,12 +37,6 @@ brings s = record {
   address = s .brought .address;
   qos = s .qos;
 }
-
-abbrev pub said : Said (Unit {0}) Name Force Heard → Said (Unit {0}) Name step.Brought node.Message
-said (activates m s) = activates m (λ g. brings (s g))
-said (tells m e) = tells m (nodes e)
-said (tellsAll e) = tellsAll (nodes e)
-said nothing = nothing
 
 abbrev pub handling : Profile → table.Handling (Unit {0}) Name Force Heard (List ℕ) Context scdr.Record
 handling p = record {
@@ -61,46 +55,35 @@ module _ (p : Profile) where
   abbrev K′ : table.Handling (Unit {0}) Name step.Brought node.Message (Event × List ℕ) Context scdr.Record
   K′ = step.handling p
 
-  -- a slot hears the same
-  listens : (t : ℕ) (c : Context) (b : Bool) (e : Heard)
-      → table.listen K′ tt c t (cond b (some (nodes e)) none) ≡ table.listen K tt c t (cond b (some e) none)
-  listens t c true e = refl
-  listens t c false e = refl
-
-  module _ (t : ℕ) where
-    slot-alike : (w : Said (Unit {0}) Name Force Heard) (o : Option Context) → table.slot K′ tt t (said w) o ≡ table.slot K tt t w o
-    unfolding sameName
-    slot-alike w none = refl
-    slot-alike (activates m s) (some c) = refl
-    slot-alike (tells m e) (some c) = listens t c (same (c .name) m) e
-    slot-alike (tellsAll e) (some c) = refl
-    slot-alike nothing (some c) = refl
-
-    hear-alike : (w : Said (Unit {0}) Name Force Heard) (os : List (Option Context)) → table.slotsHear K′ tt t (said w) os ≡ table.slotsHear K tt t w os
-    hear-alike w [] = refl
-    hear-alike w (o ∷ os) = rw (slot-alike w o, hear-alike w os)
-
-    write-alike : (w : Said (Unit {0}) Name Force Heard) (os : List (Option Context)) → table.slotsWrite K′ tt t (said w) os ≡ table.slotsWrite K tt t w os
-    write-alike w [] = refl
-    write-alike w (o ∷ os) = rw (slot-alike w o, write-alike w os)
-
-    pub after-alike : (w : Said (Unit {0}) Name Force Heard) (os : List (Option Context)) → table.slotsAfter K′ tt t (said w) os ≡ table.slotsAfter K tt t w os
-    after-alike (activates m s) os = refl
-    after-alike (tells m e) os = hear-alike (tells m e) os
-    after-alike (tellsAll e) os = hear-alike (tellsAll e) os
-    after-alike nothing os = refl
-
-    pub writes-alike : (w : Said (Unit {0}) Name Force Heard) (os : List (Option Context)) → table.writes K′ tt t (said w) os ≡ table.writes K tt t w os
-    writes-alike (activates m s) os = refl
-    writes-alike (tells m e) os = write-alike (tells m e) os
-    writes-alike (tellsAll e) os = write-alike (tellsAll e) os
-    writes-alike nothing os = refl
-
-  pub active-alike : (m : Name) (os : List (Option Context)) → table.active K′ m os ≡ table.active K m os
+  -- the node says and hears the same
+  pub same-alike : (m : Name) (c : Context) → sameName m (c .name) ≡ same m (c .name)
   unfolding sameName
-  active-alike m [] = refl
-  active-alike m (none ∷ os) = active-alike m os
-  active-alike m (some c ∷ os) = rw (active-alike m os)
+  same-alike m c = refl
+
+  pub same-too : (c : Context) (m : Name) → sameName (c .name) m ≡ same (c .name) m
+  unfolding sameName
+  same-too c m = refl
+
+  abbrev pub said : Said (Unit {0}) Name Force Heard → step.ToContexts
+  said w = alike.said K K′ nodes same-alike same-too (λ c t e. refl) brings w
+
+  pub after-alike : (t : ℕ) (w : Said (Unit {0}) Name Force Heard) (os : List (Option Context))
+      → table.slotsAfter K′ tt t (said w) os ≡ table.slotsAfter K tt t w os
+  after-alike t w os = alike.after-alike K K′ nodes same-alike same-too (λ c t e. refl) brings t w os (opens w)
+    where
+      opens : (w : Said (Unit {0}) Name Force Heard) → alike.Opens K K′ nodes same-alike same-too (λ c t e. refl) brings t w
+      opens (activates m s) = refl
+      opens (tells m e) = tt
+      opens (tellsAll e) = tt
+      opens nothing = tt
+
+  pub writes-alike : (t : ℕ) (w : Said (Unit {0}) Name Force Heard) (os : List (Option Context))
+      → table.writes K′ tt t (said w) os ≡ table.writes K tt t w os
+  writes-alike = alike.writes-alike K K′ nodes same-alike same-too (λ c t e. refl) brings
+
+  pub admitted : (w : Said (Unit {0}) Name Force Heard) (os : List (Option Context)) → table.notActive K′ (said w) os ≡ false
+      → table.isActive K′ (said w) os ≡ false → table.allTaken K′ (said w) os ≡ false → admits K w os ≡ true
+  admitted = alike.admitted K K′ nodes same-alike same-too (λ c t e. refl) brings
 
   -- ---- what hearing keeps: the name, and that the slot is taken
 
@@ -131,43 +114,20 @@ module _ (p : Profile) where
 
   -- ---- the slots that the node has are those that are taken
 
-  abbrev pub Takens : List (Option Context) → Type 0
-  Takens os = All (Taken 1) os
+  stay : (c : Context) (t : ℕ) (e : Heard) → step.taken c ≡ true → alike.Taken K step.taken (K .hear tt c t e .next)
+  stay c t e a = go (K .hear tt c t e .next) (keeps c t (nodes e) .taken)
+    where
+      go : (o : Option Context) → Taken (c .active) o → alike.Taken K step.taken o
+      go none k = tt
+      go (some d) k = ap (λ (x : ℕ). eqb x 1) k ∙ a
 
-  module _ (t : ℕ) where
-    listen-taken : (c : Context) (o : Option Heard) → c .active ≡ 1 → Taken 1 (table.listen K tt c t o .next)
-    listen-taken c none e = e
-    listen-taken c (some x) e = rw (← e) (keeps c t (nodes x) .taken)
-
-    hear-taken : (w : Said (Unit {0}) Name Force Heard) (os : List (Option Context)) → Takens os → Takens (table.slotsHear K tt t w os)
-    hear-taken w [] z = tt
-    hear-taken w (none ∷ os) z = (tt, hear-taken w os (z .1))
-    hear-taken w (some c ∷ os) z = (listen-taken c (table.hears K (c .name) w) (z .0), hear-taken w os (z .1))
-
-    fill-taken : (c : Context) (os : List (Option Context)) → c .active ≡ 1 → Takens os → Takens (table.fill c os)
-    fill-taken c [] e z = tt
-    fill-taken c (none ∷ os) e z = (e, z .1)
-    fill-taken c (some b ∷ os) e z = (z .0, fill-taken c os e (z .1))
-
-    pub after-taken : (w : Said (Unit {0}) Name Force Heard) (os : List (Option Context)) → Takens os → Takens (table.slotsAfter K tt t w os)
-    unfolding step.activated
-    after-taken (activates m s) os z = fill-taken (step.activated p t m (brings (s tt))) os refl z
-    after-taken (tells m e) os z = hear-taken (tells m e) os z
-    after-taken (tellsAll e) os z = hear-taken (tellsAll e) os z
-    after-taken nothing os z = z
-
-  seen-taken : (c : Context) (b : Bool) → eqb (c .active) 1 ≡ b → Taken 1 (cond b (some c) none)
-  seen-taken c true e = eqb-true (c .active) 1 e
-  seen-taken c false e = tt
-
-  pub slots-taken : (cs : List Context) → Takens (map step.seen cs)
-  slots-taken [] = tt
-  slots-taken (c ∷ cs) = (seen-taken c _ refl, slots-taken cs)
-
-  pub seen-stood : (os : List (Option Context)) → Takens os → map step.seen (map step.stood os) ≡ os
-  seen-stood [] z = refl
-  seen-stood (none ∷ os) z = ap (λ (l : List (Option Context)). none ∷ l) (seen-stood os (z .1))
-  seen-stood (some c ∷ os) z = rw (eq-eqb (c .active) 1 (z .0), seen-stood os (z .1))
+  -- what the node sees of the slots after an event is what stands there
+  pub seen-after : (t : ℕ) (w : Said (Unit {0}) Name Force Heard) (cs : List Context)
+      → map step.seen (map step.stood (table.slotsAfter K tt t w (map step.seen cs))) ≡ table.slotsAfter K tt t w (map step.seen cs)
+  unfolding step.activated
+  seen-after t w cs =
+      alike.seen-stood K step.taken noContext refl (table.slotsAfter K tt t w (map step.seen cs))
+      (alike.after-taken K step.taken stay t (λ m s. refl) w (map step.seen cs) (alike.slots-taken K step.taken cs))
 
   -- ---- the kind is sound
 

@@ -55,7 +55,7 @@ unfolding volumeOf
 volumes p [] = refl
 volumes p (x ∷ xs) = omega (arith, volumes p xs)
 
-numbers : (k : ℕ) (released : Bool) → cond (released && eqb k 0) 0 (k + 1) ≡ orZero (number k released)
+pub numbers : (k : ℕ) (released : Bool) → cond (released && eqb k 0) 0 (k + 1) ≡ orZero (number k released)
 numbers k false = add-one k
 numbers zero true = refl
 numbers (suc k) true = rw (ne-eqb (suc k) 0 (λ e. omega arith), add-one)

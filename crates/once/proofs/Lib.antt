@@ -1,5 +1,9 @@
 pub mod Hears
+pub mod Alike
 pub mod Handles
+pub mod Notes
+pub mod Digits
+pub mod Enrolls
 pub mod Steps
 pub mod Calls
 pub mod Pairs
@@ -7,8 +11,10 @@ pub mod Readable
 pub mod Serving
 pub mod Five
 pub mod Closings
+pub mod Three
 pub mod EachCall
 pub mod Once
 pub mod Billed
 pub mod Activations
+pub mod Attachments
 pub mod Session

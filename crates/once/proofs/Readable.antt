@@ -2,13 +2,15 @@
 use mathlib.Core.Path.{_≡_, refl, sym, ap, _∙_}
 use mathlib.Core.Bool.{true}
 use mathlib.Core.Option.{some}
-use mathlib.Core.List.{List, [], _∷_, _++_}
+use mathlib.Core.List.{List, [], _∷_, _++_, map}
 use Prim.Native.Nat.{ℕ}
 use Rattle.format.proofs.Tests.{and-i, true-T}
 use Rattle.scdr.specs.declared.Record as scdr
 use Rattle.scdr.specs.Rules.{shaped, within}
-use Rattle.scdr.specs.List.{listEnc, recordList}
-use Rattle.scdr.proofs.Listed.{AllRight, list-reads}
+use Rattle.mcdr.specs.declared.MmRecord.{MmRecord}
+use Rattle.cdrs.specs.Cdr.{Cdr, pdp, mm}
+use Rattle.cdrs.specs.List.{listEnc, recordList}
+use Rattle.cdrs.proofs.Listed.{AllRight, list-reads}
 use Rattle.profile.specs.declared.Profile.{Profile}
 use Rattle.profile.specs.Profile.{profileOk}
 use Rattle.event.specs.Fields.{timeOf}
@@ -16,11 +18,12 @@ use Rattle.history.specs.Lists.{All}
 use Rattle.history.specs.Run.{Machine, allWritten}
 use Rattle.node.specs.declared.Node.{Node}
 use Rattle.node.specs.Sound.{freshNode}
-use Rattle.node.specs.Step.{recordsOf, saidOf}
+use Rattle.node.specs.Step.{recordsOf, mmRecordsOf, saidOf}
 use Rattle.node.specs.Run.{Call, step, batch, Given}
 use Rattle.node.specs.Held.{Octets, HeldProfile, Whole}
 use Rattle.node.proofs.ContextKept.{Fine}
-use Rattle.node.proofs.NodeKept.{records-good}
+use Rattle.node.proofs.SubscribersKept.{MmFine}
+use Rattle.node.proofs.NodeKept.{records-good, mm-records-good}
 use Rattle.node.proofs.Demands.{answered}
 use Rattle.node.proofs.StepKept.{step-kept}
 use Rattle.node.proofs.Singles.{One}
@@ -31,23 +34,27 @@ use Rattle.once.proofs.Steps.{wroteOne, called, wrote-some, wrote-none}
 use Rattle.once.proofs.Calls.{single, ones, wrote, wrote-is}
 
 -- marked records are the octets of their list
-marked-list : (rs : List scdr.Record) → marked rs ≡ listEnc rs
+marked-list : (rs : List Cdr) → marked rs ≡ listEnc rs
 unfolding listEnc
 marked-list [] = refl
 marked-list (r ∷ rs) = rw (marked-list rs)
 
-right : (rs : List scdr.Record) → All Fine rs → AllRight rs
+right : (rs : List scdr.Record) → All Fine rs → AllRight (map pdp rs)
 right [] a = tt
 right (r ∷ rs) a = (and-i (shaped r) (within r) (true-T (shaped r) (a .0 .shaped)) (true-T (within r) (a .0 .within)), right rs (a .1))
 
-right-append : (a b : List scdr.Record) → AllRight a → AllRight b → AllRight (a ++ b)
+mm-right : (rs : List MmRecord) → All MmFine rs → AllRight (map mm rs)
+mm-right [] a = tt
+mm-right (r ∷ rs) a = (a .0, mm-right rs (a .1))
+
+right-append : (a b : List Cdr) → AllRight a → AllRight b → AllRight (a ++ b)
 right-append [] b p q = q
 right-append (r ∷ a) b p q = (p .0, right-append a b (p .1) q)
 
 -- ---- the records of calls on a sound node
 
 -- those of each call, and so of all
-module _ {I : Type 0} (X : Machine Node I (List ℕ) scdr.Record) (Good : I → Type 0)
+module _ {I : Type 0} (X : Machine Node I (List ℕ) Cdr) (Good : I → Type 0)
     (kept : (n : Node) (i : I) → Whole n → Good i → Whole (X .after n i))
     (one-right : (n : Node) (i : I) → Whole n → Good i → AllRight (X .writes n i)) where
   all-right : (is : List I) (n : Node) → Whole n → All Good is → AllRight (allWritten X n is)
@@ -59,8 +66,13 @@ module _ {I : Type 0} (X : Machine Node I (List ℕ) scdr.Record) (Good : I → 
 one-right : (n : Node) (c : One) → Whole n → Octets (c .event) → AllRight (wroteOne n c)
 one-right n c w o =
     called n c
-    (λ z. rw (wrote-some n c z) (right (recordsOf n (timeOf (c .event)) (saidOf (c .event)))
-    (records-good n (c .event) (c .buffer) (w .held) o (sym (answered n (c .event) (c .buffer)) ∙ z .answers))))
+    (λ z.
+    let e = sym (answered n (c .event) (c .buffer)) ∙ z .answers in
+    let rs = recordsOf n (timeOf (c .event)) (saidOf (c .event)) in
+    let qs = mmRecordsOf n (timeOf (c .event)) (saidOf (c .event)) in
+    rw (wrote-some n c z)
+    (right-append (map pdp rs) (map mm qs) (right rs (records-good n (c .event) (c .buffer) (w .held) o e))
+    (mm-right qs (mm-records-good n (c .event) (c .buffer) (w .held) o e))))
     (λ z. rw (wrote-none n c z) tt)
 
 ones-octets : (n : Node) (c : Call) → Given c → All (λ o. Octets (o .event)) (ones n c)

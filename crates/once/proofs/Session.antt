@@ -40,6 +40,13 @@ use Rattle.context.specs.Sound.{closedOk, contextOk, zeroOk, slotOk, slotsOk}
 use Rattle.context.specs.Slots as slots
 use Rattle.context.specs.Slots.{sameName, isFree, bears}
 use Rattle.history.specs.Slots.{noneBears, distinct}
+use Rattle.history.specs.Table.{notActive, isActive, allTaken}
+use Rattle.cdrs.specs.Cdr.{pdp}
+use Rattle.keys.specs.Slots as keys
+use Rattle.mcdr.specs.Change.{samePlace}
+use Rattle.mcdr.specs.Changes.{noChanges, isBlank as isUnused, blanks as allUnused}
+use Rattle.subscriber.specs.Sound.{zeroOk as nobodyOk, slotOk as placeOk, slotsOk as placesOk}
+use Rattle.subscriber.specs.Tell.{octetsOf as mmOctetsOf}
 use Rattle.history.specs.History.{History, start, _▸_∶_}
 use Rattle.history.specs.Records.{Rules, records}
 use Rattle.history.specs.Log.{Accepted, histories}
@@ -50,7 +57,7 @@ use Rattle.node.specs.Sound.{freshNode, sound}
 use Rattle.node.specs.Batch.{pairsOf, andThen, oneByOne, listRefusals, batchBy, batchOf}
 use Rattle.node.specs.Run.{Call, afterOne, after}
 use Rattle.once.specs.Charging.{Force, Heard, says, meaning, inForceBy, rules, recordFrom}
-use Rattle.once.specs.Once.{answer, marked, machine, outputs, nodeThen, activations}
+use Rattle.once.specs.Once.{answer, marked, machine, outputs, nodeThen, contexts, activations}
 use Rattle.once.proofs.Calls.{wrote}
 
 abbrev R : Rules Force Heard
@@ -77,9 +84,10 @@ unfolding activate sample only spelt octetsFrom numberIn fillTo noContainers
 short-records = refl
 
 -- the 113 octets that 01 prints
-pub short-octets : marked (map (recordFrom session name) (records R (start 0 (inForceBy activate) ▸ 5 ∶ Heard.traffic 400 599 ▸ 6 ∶ Heard.release 0)))
+pub short-octets : marked (map (λ r. pdp (recordFrom session name r))
+    (records R (start 0 (inForceBy activate) ▸ 5 ∶ Heard.traffic 400 599 ▸ 6 ∶ Heard.release 0)))
     ≡ 0xC3 ∷ 0x5A ∷ printed ++ []
-short-octets = ap marked short-records ∙ ap (λ (x : List ℕ). 0xC3 ∷ 0x5A ∷ x ++ []) sample-octets
+short-octets = ap (λ (rs : List scdr.Record). marked (map pdp rs)) short-records ∙ ap (λ (x : List ℕ). 0xC3 ∷ 0x5A ∷ x ++ []) sample-octets
 
 -- ---- instead at 6 the report that meets the limit; a tariff, a tick too early, a tick, the release
 
@@ -145,8 +153,8 @@ pub record SessionRun : Type 0 where
   -- Both reports are applied, are in the history, and close one record;
   pub answered : answer (nodeThen session (call activate ∷ [])) (reports 116) ≡ 0
   pub both : log (machine wrote) (freshNode session) (listed 116) ≡ at 0 activate ∷ at 6 (trafficEvent name 6 400 599) ∷ at 6 (trafficEvent name 6 0 1) ∷ []
-  pub heard : activations session (listed 116) name ≡ both-reports ∷ []
-  pub closed : outputs (freshNode session) (listed 116) ≡ marked (map (recordFrom session name) (records R both-reports))
+  pub heard : activations (contexts session) session (listed 116) name ≡ both-reports ∷ []
+  pub closed : outputs (freshNode session) (listed 116) ≡ marked (map (λ r. pdp (recordFrom session name r)) (records R both-reports))
   -- and with an octet less the second is refused for lack of room, and the first stays.
   pub no-room : answer (nodeThen session (call activate ∷ [])) (reports 115) ≡ 11
   pub first : log (machine wrote) (freshNode session) (listed 115) ≡ at 0 activate ∷ at 6 (trafficEvent name 6 400 599) ∷ []
@@ -154,7 +162,9 @@ pub record SessionRun : Type 0 where
 
 pub session-run : SessionRun
 unfolding activate traffic released printed says spelt octetsFrom numberIn fillTo noContainers
-    step.stepOf step.outcome step.refusals step.notActive step.isActive step.allTaken step.output step.recordsOf step.octetsOf step.markedOctets
+    step.stepOf step.outcome step.refusals notActive isActive allTaken step.mmRecordsOf mmOctetsOf
+    noChanges samePlace isUnused allUnused nobodyOk placeOk placesOk keys.isActive
+    step.output step.recordsOf step.octetsOf step.markedOctets
     step.nodeAfter step.activated batchOf batchBy listRefusals pairsOf oneByOne andThen trafficEvent afterOne after
     firstFit rows.marked known measured kinds kindIn wholeOf rows.fieldsOk activateOk eventOf
     imsiOk halves leading allF qosOk allOf apnChar release fields.release nodeChar
@@ -171,7 +181,7 @@ session-run = record {
   answered = refl;
   both = refl;
   heard = refl;
-  closed = eqs-eq (outputs (freshNode session) (listed 116)) (marked (map (recordFrom session name) (records R both-reports))) tt;
+  closed = eqs-eq (outputs (freshNode session) (listed 116)) (marked (map (λ r. pdp (recordFrom session name r)) (records R both-reports))) tt;
   no-room = refl;
   first = refl;
   silent = refl;

@@ -1,57 +1,69 @@
 -- What a call of one event does, by its answer: accepted, the table does what the histories say of its event; refused, nothing.
 use mathlib.Core.Path.{_≡_, refl, sym, ap, _∙_}
 use mathlib.Core.Bool.{true, false, cond}
-use mathlib.Core.Option.{Option}
-use mathlib.Core.List.{List, []}
+use mathlib.Core.List.{List, [], _∷_, _++_, map}
 use Prim.Native.Nat.{ℕ, zero, suc}
 use lib.Dec.{eqb}
 use lib.ListN.{length, take, drop}
 use lib.Seq.{take-at}
-use borrow.Author.Tests.{eqb-true, eqb-false, not-false}
+use borrow.Author.Tests.{eqb-true, eqb-false}
 use Rattle.format.proofs.Tests.{by}
 use Rattle.scdr.specs.declared.Record as scdr
 use Rattle.profile.specs.declared.Profile.{Profile}
-use Rattle.event.specs.declared.Name.{Name}
-use Rattle.event.specs.Fields.{kindOf, timeOf}
+use Rattle.event.specs.Fields.{kindOf, timeOf, subscriberImsi}
 use Rattle.event.specs.Rows.{known}
 use Rattle.event.specs.Kinds.{kinds}
 use Rattle.event.specs.Event.{eventOf}
 use Rattle.event.proofs.Table.{Every, row-has, row-number}
-use Rattle.context.specs.declared.Context.{Context}
-use Rattle.history.specs.Log.{Said, activates, tells, tellsAll, nothing}
-use Rattle.history.specs.Table as table
+use Rattle.mcdr.specs.declared.MmRecord.{MmRecord}
+use Rattle.cdrs.specs.Cdr.{Cdr, pdp, mm, cdrEnc}
+use Rattle.subscriber.specs.Tell.{octetsOf as mmOctetsOf, markedOctets as mmMarked}
 use Rattle.history.specs.Run.{ifZero}
-use Rattle.history.proofs.Tables.{admits}
+use Rattle.history.proofs.Lists.{each-append, each-of-map}
 use Rattle.node.specs.declared.Node.{Node}
 use Rattle.node.specs.Step as step
 use Rattle.node.proofs.Demands.{answered, accepted}
 use Rattle.node.proofs.NodeKept.{Accepts, accepts}
 use Rattle.node.proofs.Singles.{One, got, octetsOne, step-refused}
-use Rattle.once.specs.Charging.{Force, Heard, says}
+use Rattle.once.specs.Charging.{says}
+use Rattle.once.specs.Attaching as attaching
 use Rattle.once.specs.Once.{marked}
-use Rattle.once.proofs.Handles.{said, handling, active-alike}
+use Rattle.once.proofs.Handles.{said}
+use Rattle.once.proofs.Enrolls.{noted}
 
 -- ---- what an event says
 
--- The octets of a known kind say to the node what they mean.
-pub says-alike : (s : List ℕ) → known s ≡ true → step.saidOf s ≡ said (says s)
-unfolding says eventOf kinds Every
-says-alike s z = row-has (λ k. k .number ≡ kindOf s → step.takes (k .says s) s ≡ said (says s)) s alike z (row-number s z)
+-- The octets of a known kind say to the node what they mean: to contexts, and to subscribers.
+abbrev pub meant : Profile → List ℕ → step.Words
+meant p s = record { contexts = said p (says s); subscribers = noted p (subscriberImsi s) (attaching.says s) }
+
+pub says-alike : (p : Profile) (s : List ℕ) → known s ≡ true → step.saidOf s ≡ meant p s
+unfolding says attaching.says eventOf kinds Every
+says-alike p s z = row-has (λ k. k .number ≡ kindOf s → step.takes (k .says s) s ≡ meant p s) s alike z (row-number s z)
   where
-    alike : Every (λ k. k .number ≡ kindOf s → step.takes (k .says s) s ≡ said (says s)) kinds
-    alike =
-        ((λ e. rw (← e)), ((λ e. rw (← e)), ((λ e. rw (← e)), ((λ e. rw (← e)), ((λ e. rw (← e)), ((λ e. rw (← e)), ((λ e. rw (← e)), tt)))))))
-
--- ---- what it does to the table
-
--- the table takes the event
-pub admitted : (p : Profile) (w : Said (Unit {0}) Name Force Heard) (os : List (Option Context)) → step.notActive p (said w) os ≡ false
-    → step.isActive p (said w) os ≡ false → step.allTaken (said w) os ≡ false → admits (handling p) w os ≡ true
-unfolding step.notActive step.isActive step.allTaken
-admitted p (activates m s) os a i r = rw (← active-alike p m os, i, not-false (table.free os) r)
-admitted p (tells m e) os a i r = sym (active-alike p m os) ∙ not-false (table.active (step.handling p) m os) a
-admitted p (tellsAll e) os a i r = refl
-admitted p nothing os a i r = refl
+    alike : Every (λ k. k .number ≡ kindOf s → step.takes (k .says s) s ≡ meant p s) kinds
+    alike = (
+      (λ e. rw (← e)),
+      (
+        (λ e. rw (← e)),
+        (
+          (λ e. rw (← e)),
+          (
+            (λ e. rw (← e)),
+            (
+              (λ e. rw (← e)),
+              (
+                (λ e. rw (← e)),
+                (
+                  (λ e. rw (← e)),
+                  ((λ e. rw (← e)), ((λ e. rw (← e)), ((λ e. rw (← e)), ((λ e. rw (← e)), tt)))),
+                ),
+              ),
+            ),
+          ),
+        ),
+      ),
+    )
 
 -- ---- a call of one event
 
@@ -61,8 +73,11 @@ no-zero zero xs e = absurd (eqb-false 0 0 e refl)
 no-zero (suc k) xs e = refl
 
 -- the records that it writes
-abbrev pub wroteOne : Node → One → List scdr.Record
-wroteOne n c = cond (eqb (got n c .0) 0) (step.recordsOf n (timeOf (c .event)) (step.saidOf (c .event))) []
+abbrev pub cdrsOf : Node → ℕ → step.Words → List Cdr
+cdrsOf n t w = map pdp (step.recordsOf n t w) ++ map mm (step.mmRecordsOf n t w)
+
+abbrev pub wroteOne : Node → One → List Cdr
+wroteOne n c = cond (eqb (got n c .0) 0) (cdrsOf n (timeOf (c .event)) (step.saidOf (c .event))) []
 
 module _ (n : Node) (c : One) where
   abbrev s : List ℕ
@@ -108,7 +123,7 @@ module _ (n : Node) (c : One) where
   pub called : {X : Type 0} → (Takes → X) → (Leaves → X) → X
   called f g = by (eqb (got n c .0) 0) (λ e. f (takes e)) (λ e. g (leaves e))
 
-  pub wrote-some : Takes → wroteOne n c ≡ step.recordsOf n t (step.saidOf s)
+  pub wrote-some : Takes → wroteOne n c ≡ cdrsOf n t (step.saidOf s)
   wrote-some z = rw (z .answers)
 
   pub wrote-none : Leaves → wroteOne n c ≡ []
@@ -116,15 +131,24 @@ module _ (n : Node) (c : One) where
 
   -- its octets are its records
 
-  marked-is : (rs : List scdr.Record) → step.octetsOf rs ≡ marked rs
+  marked-pdp : (rs : List scdr.Record) → step.octetsOf rs ≡ marked (map pdp rs)
   unfolding step.octetsOf step.markedOctets
-  marked-is rs = refl
+  marked-pdp rs = sym (each-of-map (λ r. 0xC3 ∷ 0x5A ∷ cdrEnc r) pdp rs)
+
+  marked-mm : (rs : List MmRecord) → mmOctetsOf rs ≡ marked (map mm rs)
+  unfolding mmOctetsOf mmMarked
+  marked-mm rs = sym (each-of-map (λ r. 0xC3 ∷ 0x5A ∷ cdrEnc r) mm rs)
+
+  marked-is : (w : step.Words) → step.output n t w ≡ marked (cdrsOf n t w)
+  unfolding step.output
+  marked-is w =
+      rw (marked-pdp (step.recordsOf n t w), marked-mm (step.mmRecordsOf n t w))
+      (sym (each-append (λ r. 0xC3 ∷ 0x5A ∷ cdrEnc r) (map pdp (step.recordsOf n t w)) (map mm (step.mmRecordsOf n t w))))
 
   pub octets-one : octetsOne n c ≡ marked (wroteOne n c)
-  unfolding step.output
   octets-one =
       called
-      (λ z. z .octets ∙ marked-is (step.recordsOf n t (step.saidOf s)) ∙ ap marked (sym (wrote-some z)))
+      (λ z. z .octets ∙ marked-is (step.saidOf s) ∙ ap marked (sym (wrote-some z)))
       (λ z. z .octets ∙ ap marked (sym (wrote-none z)))
 
   -- it changes no profile

@@ -9,7 +9,8 @@ use lib.ListN.{take}
 use Rattle.container.specs.declared.Container.{Container}
 use Rattle.scdr.specs.declared.Record as scdr
 use Rattle.scdr.specs.Rules.{duration}
-use Rattle.scdr.specs.List.{recordList}
+use Rattle.cdrs.specs.Cdr.{Cdr}
+use Rattle.cdrs.specs.List.{recordList}
 use Rattle.profile.specs.declared.Profile.{Profile}
 use Rattle.event.specs.declared.Name.{Name}
 use Rattle.context.specs.declared.Context.{Context}
@@ -21,7 +22,7 @@ use Rattle.history.specs.Demand.{under, held}
 use Rattle.node.specs.Sound.{freshNode}
 use Rattle.node.specs.Run.{Call}
 use Rattle.once.specs.Charging.{Force, Heard, same, up, down, rules, container, recordFrom, contextFrom}
-use Rattle.once.specs.Once.{sight, outputs, nodeThen, activations}
+use Rattle.once.specs.Once.{sessions, sight, outputs, nodeThen, contexts, activations}
 
 -- the containers of an S-CDR: as many of its places as it counts
 abbrev pub containersOf : scdr.Record → List Container
@@ -55,13 +56,13 @@ pub record ChargedOnce (p : Profile) (name : Name) (a : Activation) : Type 0 whe
 -- Any calls, of one event and of lists of reports, from a fresh node with this profile, and a name.
 pub record PerActivation (p : Profile) (calls : List Call) (name : Name) : Type 0 where
   -- All the octets that the calls wrote, read mark by mark, are these records.
-  pub output : List scdr.Record
+  pub output : List Cdr
   pub read : recordList (outputs (freshNode p) calls) ≡ some output
   -- There is one of these for each activation of the name, first to last.
   pub one-each : List Activation
-  pub histories : map (λ a. a .history) one-each ≡ activations p calls name
-  -- The records under the name are theirs, one run for each, in order; and so is what is stored under it.
-  pub closed-under : under same (sight .nameOf) name output ≡ each (λ a. a .closed) one-each
+  pub histories : map (λ a. a .history) one-each ≡ activations (contexts p) p calls name
+  -- The S-CDRs under the name are theirs, one run for each, in order; and so is what is stored under it.
+  pub closed-under : under same (sight .nameOf) name (each sessions output) ≡ each (λ a. a .closed) one-each
   pub open-under : under same (sight .name) name (held (sight .slots (nodeThen p calls))) ≡ each (λ a. a .still-open) one-each
   -- Each of them is charged once.
   pub charged : All (ChargedOnce p name) one-each

@@ -1,3 +1,5 @@
 pub mod Charging
+pub mod Attaching
 pub mod Once
 pub mod Activations
+pub mod Attachments

@@ -1,5 +1,6 @@
 -- Every octet once (demand 3), of the node: the statement. It is about what the node answers to calls, of one event and of a list of reports
--- (02, W2), the octets that they write included, and about nothing else of the node.
+-- (02, W2), the octets that they write included, and about nothing else of the node. It holds of both kinds of subject: PDP contexts, and
+-- subscribers (02, W4), whose location changes stand in the place of containers.
 use mathlib.Core.Path.{_≡_}
 use mathlib.Core.Logic.{_↔_}
 use mathlib.Core.Option.{some}
@@ -7,8 +8,11 @@ use mathlib.Core.List.{List, [], _∷_, _++_, map}
 use Prim.Native.Nat.{ℕ, _^_, _≤_, _<_}
 use lib.ListN.{length, take, drop}
 use Rattle.scdr.specs.declared.Record as scdr
-use Rattle.scdr.specs.Layout as layout
-use Rattle.scdr.specs.List.{recordList}
+use Rattle.mcdr.specs.declared.Place.{Place}
+use Rattle.mcdr.specs.declared.MmRecord.{MmRecord}
+use Rattle.cdrs.specs.Cdr.{Cdr, pdp, mm, cdrEnc}
+use Rattle.cdrs.specs.List.{recordList}
+use Rattle.ber.specs.Int.{spelt}
 use Rattle.profile.specs.declared.Profile.{Profile}
 use Rattle.event.specs.declared.Name.{Name}
 use Rattle.event.specs.Fields.{timeOf}
@@ -17,17 +21,21 @@ use Rattle.context.specs.declared.Context.{Context}
 use Rattle.history.specs.Lists.{each, All}
 use Rattle.history.specs.Run.{Machine, ifZero, allWritten, log}
 use Rattle.history.specs.History.{History}
-use Rattle.history.specs.Records.{sinceOpening}
-use Rattle.history.specs.Log.{tells, heard, histories}
-use Rattle.history.specs.Demand.{ClosesNow, Unchanged, Sight, under, Demand3}
+use Rattle.history.specs.Records.{Rules, sinceOpening}
+use Rattle.history.specs.Log.{Meaning, tells, heard, histories}
+use Rattle.history.specs.Demand.{ClosesNow, Unchanged, Forms, Sight, under, Demand3}
 use Rattle.history.specs.Calls.{openOne, closesIn, OneCall}
 use Rattle.node.specs.declared.Node.{Node}
 use Rattle.node.specs.Sound.{freshNode, freshOf}
-use Rattle.node.specs.Step.{stepOf, slots}
+use Rattle.node.specs.Step.{stepOf, slots, places}
+use Rattle.subscriber.specs.declared.Subscriber.{Subscriber}
+use Rattle.subscriber.specs.Subscriber.{nameOf}
 use Rattle.node.specs.Batch.{reportsOf, batchOf}
 use Rattle.node.specs.Run.{Call, step, batch, afterOne, after, Given}
 use Rattle.node.specs.Held.{HeldProfile}
-use Rattle.once.specs.Charging.{Force, Heard, says, same, meaning, Closes, which, rules, recordFrom, forms}
+use Rattle.once.specs.Charging.{Force, Heard, says, meaning, Closes, which, rules, forms}
+use Rattle.once.specs.Attaching.{Noted}
+use Rattle.once.specs.Attaching as attaching
 
 -- ---- calls
 
@@ -58,8 +66,8 @@ module _ (n : Node) where
   octetsNow c = take (lengthNow c) (bufferNow c)
 
 -- "In output each record follows the mark C3 5A."
-abbrev pub marked : List scdr.Record → List ℕ
-marked rs = each (λ r. 0xC3 ∷ 0x5A ∷ layout.scdr .enc r) rs
+abbrev pub marked : List Cdr → List ℕ
+marked rs = each (λ r. 0xC3 ∷ 0x5A ∷ cdrEnc r) rs
 
 -- ---- the node as history's specs/Run.antt and specs/Demand.antt see it
 
@@ -74,7 +82,7 @@ appliesOf n (step s b) = ifZero (stepOf n s b .0)
 appliesOf n (batch m t vs b) = batchOf n m t vs b .applied
 
 -- Each event has the time that its octets say. `recordsBy` says which records a call writes.
-abbrev pub machine : (Node → Call → List scdr.Record) → Machine Node Call (List ℕ) scdr.Record
+abbrev pub machine : (Node → Call → List Cdr) → Machine Node Call (List ℕ) Cdr
 machine recordsBy = record {
   holds = λ c. map (λ s. record { time = timeOf s; event = s }) (eventsOf c);
   applies = appliesOf;
@@ -82,28 +90,73 @@ machine recordsBy = record {
   writes = recordsBy;
 }
 
--- The slots of a node, and the names of contexts and of records.
-abbrev pub sight : Sight Name Context scdr.Record Node scdr.Record
+-- The slots of a node, which of its records are S-CDRs, and the names of contexts and of S-CDRs.
+abbrev pub sessions : Cdr → List scdr.Record
+sessions (pdp r) = r ∷ []
+sessions (mm r) = []
+
+abbrev pub sight : Sight Name Context scdr.Record Node Cdr
 sight = record {
   slots = slots;
   name = λ c. c .name;
-  kindred = λ r. r ∷ [];
+  kindred = sessions;
   nameOf = λ r. record { id = r .charging; ggsn = r .ggsn };
 }
+
+-- The same of subscribers and of M-CDRs.
+abbrev pub mobility : Cdr → List MmRecord
+mobility (pdp r) = []
+mobility (mm r) = r ∷ []
+
+abbrev pub mmSight : Sight ℕ Subscriber MmRecord Node Cdr
+mmSight = record { slots = places; name = λ s. nameOf s; kindred = mobility; nameOf = λ r. spelt 0 (r .imsi) }
 
 -- all octets that calls write, one call after another, each on the node that the last one handed back
 abbrev pub outputs : Node → List Call → List ℕ
 outputs n [] = []
 outputs n (c ∷ cs) = octetsNow n c ++ outputs (nodeNow n c) cs
 
--- The node after calls from a fresh one, and the activations of a name: its histories in the accepted events, first to last. What
--- the calls write is no part of either.
-module _ (p : Profile) (calls : List Call) where
-  abbrev pub nodeThen : Node
-  nodeThen = after (freshNode p) calls
+-- the node after calls from a fresh one
+abbrev pub nodeThen : Profile → List Call → Node
+nodeThen p calls = after (freshNode p) calls
 
-  abbrev pub activations : Name → List (History Force Heard)
-  activations name = histories (rules (p .limits)) meaning name tt (log (machine (λ n c. [])) (freshNode p) calls)
+-- ---- the two kinds of subject
+
+-- What a kind is, for the statement: its rules, what events mean for it, what it is written and stored as, where the node has it, the cause of
+-- a record, and its closing conditions one by one.
+pub record Kind (N S E C B : Type 0) : Type 1 where
+  pub rules : Rules S E
+  pub meaning : Meaning (Unit {0}) N S E (List ℕ)
+  pub forms : Forms N S E C B
+  pub sight : Sight N C B Node Cdr
+  pub causeOf : B → ℕ
+  pub Closes : History S E → ℕ → E → ℕ → Type 0
+
+-- PDP contexts, and their S-CDRs
+abbrev pub contexts : Profile → Kind Name Force Heard Context scdr.Record
+contexts p = record {
+  rules = rules (p .limits);
+  meaning = meaning;
+  forms = forms p;
+  sight = sight;
+  causeOf = λ r. r .cause;
+  Closes = Closes (p .limits);
+}
+
+-- subscribers, and their M-CDRs
+abbrev pub subscribers : Profile → Kind ℕ Place Noted Subscriber MmRecord
+subscribers p = record {
+  rules = attaching.rules;
+  meaning = attaching.meaning;
+  forms = attaching.forms p;
+  sight = mmSight;
+  causeOf = λ r. r .cause;
+  Closes = attaching.Closes;
+}
+
+-- The activations of a name of a kind: its histories in the accepted events, first to last. What the calls write is no part of them.
+abbrev pub activations : {N S E C B : Type 0} → Kind N S E C B → Profile → List Call → N → List (History S E)
+activations K p calls name = histories (K .rules) (K .meaning) name tt (log (machine (λ n c. [])) (freshNode p) calls)
 
 -- ---- a pair of a list
 
@@ -115,41 +168,55 @@ pub record PairSays (m : Name) (t up down : ℕ) : Type 0 where
 -- ---- a call of one event
 
 -- These are one record, and it has this cause.
-pub record OneFor (rs : List scdr.Record) (cause : ℕ) : Type 0 where
-  pub sole : scdr.Record
+pub record OneFor {B : Type 0} (causeOf : B → ℕ) (rs : List B) (cause : ℕ) : Type 0 where
+  pub sole : B
   pub alone : rs ≡ sole ∷ []
-  pub for : sole .cause ≡ cause
+  pub for : causeOf sole ≡ cause
 
--- A call with the event s after any calls from a fresh node with this profile.
-module _ (p : Profile) (recordsBy : Node → Call → List scdr.Record) (calls : List Call) (s b : List ℕ) where
+-- A call with the event s after any calls from a fresh node with this profile, and a kind.
+module _ {N S E C B : Type 0} (K : Kind N S E C B) (p : Profile) (recordsBy : Node → Call → List Cdr) (calls : List Call) (s b : List ℕ) where
   -- what is answered to it
   abbrev pub answerThen : ℕ
   answerThen = answer (nodeThen p calls) (step s b)
 
-  -- the records that it writes under a name
-  abbrev pub recordsUnder : Name → List scdr.Record
-  recordsUnder name = under same (sight .nameOf) name (recordsBy (nodeThen p calls) (step s b))
+  -- the records of the kind that it writes under a name
+  abbrev pub recordsUnder : N → List B
+  recordsUnder name = under (K .meaning .same) (K .sight .nameOf) name (each (K .sight .kindred) (recordsBy (nodeThen p calls) (step s b)))
 
   -- It closes the open record of a name, with this cause: it is accepted, a history of the name is open, this hears the event, and
-  -- one of the five closing conditions holds there, read over the open record's past alone.
-  pub record ClosesUnder (name : Name) (cause : ℕ) : Type 0 where
+  -- one of the closing conditions holds there, read over the open record's past alone.
+  pub record ClosesUnder (name : N) (cause : ℕ) : Type 0 where
     pub accepted : answerThen ≡ 0
-    pub history : History Force Heard
-    pub is-open : openOne (rules (p .limits)) (activations p calls name) ≡ some history
-    pub event : Heard
-    pub hears : heard (rules (p .limits)) meaning name (says s) ≡ some event
-    pub condition : Closes (p .limits) (sinceOpening (rules (p .limits)) history) (timeOf s) event cause
+    pub history : History S E
+    pub is-open : openOne (K .rules) (activations K p calls name) ≡ some history
+    pub event : E
+    pub hears : heard (K .rules) (K .meaning) name (K .meaning .says s) ≡ some event
+    pub condition : K .Closes (sinceOpening (K .rules) history) (timeOf s) event cause
 
   pub record EachCall : Type 0 where
     -- Refused, it writes nothing.
     pub refused : (answerThen ≡ 0 → ⊥) → octetsNow (nodeThen p calls) (step s b) ≡ []
     -- Accepted, it writes under every name exactly the records that its event closes in the name's open history: nothing where none
     -- is open, and nothing where the name does not hear the event.
-    pub accepted : answerThen ≡ 0 → (name : Name) → recordsUnder name
-        ≡ map (recordFrom p name) (closesIn (rules (p .limits)) (openOne (rules (p .limits)) (activations p calls name)) (timeOf s)
-        (heard (rules (p .limits)) meaning name (says s)))
+    pub accepted : answerThen ≡ 0 → (name : N) → recordsUnder name
+        ≡ map (K .forms .asWritten name) (closesIn (K .rules) (openOne (K .rules) (activations K p calls name)) (timeOf s)
+        (heard (K .rules) (K .meaning) name (K .meaning .says s)))
     -- It writes a record with a cause, and no other under the name, exactly when a closing condition holds there with that cause.
-    pub exactly : (name : Name) (cause : ℕ) → OneFor (recordsUnder name) cause ↔ ClosesUnder name cause
+    pub exactly : (name : N) (cause : ℕ) → OneFor (K .causeOf) (recordsUnder name) cause ↔ ClosesUnder name cause
+
+-- What must hold of a kind, where `recordsBy` says which records a call writes.
+pub record Charged {N S E C B : Type 0} (K : Kind N S E C B) (p : Profile) (recordsBy : Node → Call → List Cdr) : Type 0 where
+  -- Under every name these records, and what is stored, are exactly what its histories make and leave.
+  pub demand : (calls : List Call) (name : N) → Demand3 (K .rules) (K .meaning) (K .forms) (K .sight) (machine recordsBy) (freshNode p) tt calls name
+  -- Each call writes what its events close, and nothing else: said of a call of one event, and of any call as the theory says it of calls that
+  -- may apply any number of events.
+  pub each-call : (calls : List Call) (s b : List ℕ) → EachCall K p recordsBy calls s b
+  pub one-call : (calls : List Call) (c : Call) (name : N)
+      → OneCall (K .rules) (K .meaning) (K .forms) (K .sight) (machine recordsBy) (freshNode p) tt calls c name
+  -- In every history a record closes exactly when one of the closing conditions holds, read over the open record's past alone.
+  pub conditions : (h : History S E) (t : ℕ) (e : E) (cause : ℕ) → ClosesNow (K .rules) h t e cause ↔ K .Closes (sinceOpening (K .rules) h) t e cause
+  -- No event meets two of them with two causes.
+  pub one-cause : (r : History S E) (t : ℕ) (e : E) (j k : ℕ) → K .Closes r t e j → K .Closes r t e k → j ≡ k
 
 -- ---- the statement
 
@@ -159,7 +226,7 @@ pub record Once (p : Profile) : Type 0 where
   pub made : _≡_ {A = ℕ × Node} (freshOf p) (0, freshNode p)
   -- One function says which records a call writes, whichever node it meets: what a call writes is these with their marks, in order,
   -- from the buffer's start, and nothing else. The written length is that of these octets, they fit, and later octets are as before.
-  pub recordsBy : Node → Call → List scdr.Record
+  pub recordsBy : Node → Call → List Cdr
   pub octets : (n : Node) (c : Call) → octetsNow n c ≡ marked (recordsBy n c)
   pub lengths : (n : Node) (c : Call) → lengthNow n c ≡ length (marked (recordsBy n c))
   pub fit : (n : Node) (c : Call) → lengthNow n c ≤ length (bufferOf c)
@@ -169,25 +236,19 @@ pub record Once (p : Profile) : Type 0 where
   -- Read mark by mark they are these records and nothing else, where events are octets and the profile is one that the code can hold.
   pub reads : HeldProfile p → (calls : List Call) → All Given calls
       → recordList (outputs (freshNode p) calls) ≡ some (allWritten (machine recordsBy) (freshNode p) calls)
-  -- Under every name these records, and the context that is stored, are exactly what its histories make and leave.
-  pub demand : (calls : List Call) (name : Name)
-      → Demand3 (rules (p .limits)) meaning (forms p) sight (machine recordsBy) (freshNode p) tt calls name
+  -- Both kinds are charged by them: PDP contexts in S-CDRs, subscribers in M-CDRs.
+  pub sessions : Charged (contexts p) p recordsBy
+  pub mobility : Charged (subscribers p) p recordsBy
   -- A pair of a list is in them with its numbers, which are of 32 bits.
   pub pair : (m : Name) (t up down : ℕ) → t < 2 ^ 32 → m .id < 2 ^ 32 → m .ggsn < 2 ^ 32 → up < 2 ^ 32 → down < 2 ^ 32 → PairSays m t up down
   -- Each accepted event, and each applied pair of a list, is one of those that the node counts: 02, "Demand 3 counts each applied pair as one
   -- event".
   pub counted : (calls : List Call) → nodeThen p calls .accepted ≡ length (log (machine recordsBy) (freshNode p) calls)
-  -- Each call writes what its events close, and nothing else: said of a call of one event, and of any call as the theory says it of calls that
-  -- may apply any number of events.
-  pub each-call : (calls : List Call) (s b : List ℕ) → EachCall p recordsBy calls s b
-  pub one-call : (calls : List Call) (c : Call) (name : Name)
-      → OneCall (rules (p .limits)) meaning (forms p) sight (machine recordsBy) (freshNode p) tt calls c name
-  -- In every history a record closes exactly when one of the five closing conditions holds, read over the open record's past alone.
-  pub five : (h : History Force Heard) (t : ℕ) (e : Heard) (cause : ℕ)
-      → ClosesNow (rules (p .limits)) h t e cause ↔ Closes (p .limits) (sinceOpening (rules (p .limits)) h) t e cause
   -- "No event meets two of them for one context": it is the same one of the five, with the same cause.
   pub one-condition : (r : History Force Heard) (t : ℕ) (e : Heard) (j k : ℕ) (a : Closes (p .limits) r t e j) (b : Closes (p .limits) r t e k)
       → which a ≡ which b
-  pub one-cause : (r : History Force Heard) (t : ℕ) (e : Heard) (j k : ℕ) → Closes (p .limits) r t e j → Closes (p .limits) r t e k → j ≡ k
+  -- Nor does one meet two of the three for one subscriber.
+  pub mm-one-condition : (r : History Place Noted) (t : ℕ) (e : Noted) (j k : ℕ) (a : attaching.Closes r t e j) (b : attaching.Closes r t e k)
+      → attaching.which a ≡ attaching.which b
   -- What an activation brings stands in every part of its history.
   pub brought : (h : History Force Heard) → Unchanged (rules (p .limits)) (λ s. s .brought) h
