@@ -9,9 +9,9 @@ pub fn say_refused(answer: u8, number: u64, offset: u64) {
         b"charge: refused %k at event %l (octet %m): %K\
 %;event under 7 octets: it is cut short; get the whole file\
 %;mark: an event begins with C3 5E; here none begins, so look at the event before it, its n (octet 35) if it is an activate\
-%;kind not 1..7: octet 2 of the event is none of the seven kinds\
+%;kind not 1..11: octet 2 of the event is none of the eleven kinds\
 %;length not the kind's: the event is cut short or too long; get the whole file\
-%;a field out of range: look at its flags, IMSI, QoS, n and access point name, or its cause\
+%;a field out of range: look at its flags, IMSI, QoS, n and access point name, or its cause (0, 4 or 18 in a release, 0 or 4 in a detach)\
 %;time above the end of 2099 or below the clock: put the events in the order of their times\
 %;1,000,000,000,000,000 events accepted already: begin with a fresh node\
 %;name not active: this charging ID and GGSN were not activated, or are released\
@@ -19,7 +19,11 @@ pub fn say_refused(answer: u8, number: u64, offset: u64) {
 %;all 16 slots taken: release a context before another is activated\
 %;output longer than the buffer: lend a longer one\
 %;\
-%;the node breaks a rule of a sound node: do not go on with it, begin with a fresh one%.\n",
+%;the node breaks a rule of a sound node: do not go on with it, begin with a fresh one\
+%;\
+%;attached already: detach this IMSI before it is attached again\
+%;not attached: this IMSI was not attached, or is detached; look for its attach before this event\
+%;no free place: 16 subscribers are attached; detach one before another is attached%.\n",
         &four(answer as u64, number, offset, 0),
         b"",
     );

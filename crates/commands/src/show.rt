@@ -1,6 +1,6 @@
 // A record list for people and for scripts.
 //
-//     show RECORDS          each record with 12.15's field names, its containers as a table
+//     show RECORDS          each record with 12.15's field names, its containers or location changes as a table
 //     show --json RECORDS   a JSON object a line, with the same names
 //
 // It stops at the first record that the reader refuses, and says on standard error which it is and where. What stands before it has
@@ -9,8 +9,10 @@
 use entries::Entry;
 use libc::STDERR_FILENO;
 use libc::STDOUT_FILENO;
+use mcdr::MmRecord;
 use out::JSON;
 use out::TEXT;
+use scdr::Record;
 use std::num::wrapping_add_u64;
 use std::num::wrapping_sub_u64;
 use template::four;
@@ -113,9 +115,33 @@ fn show_one(style: u8, s: State, here: &[u8], text: &mut [u8; 4096]) -> State {
         return turned(s, turn);
     }
     let end = end_of(e);
-    let p = s.place;
+    if z.mm {
+        let cdr = z.mmcdr;
+        return show_mm(style, s, end, cdr, text);
+    }
     let cdr = z.cdr;
+    show_cdr(style, s, end, cdr, text)
+}
+
+// An S-CDR, whose entry takes so many octets of the file.
+fn show_cdr(style: u8, s: State, end: usize, cdr: Record, text: &mut [u8; 4096]) -> State {
+    let p = s.place;
     let waiting = shown::put_record(
+        text,
+        s.waiting,
+        style,
+        cdr,
+        wrapping_add_u64(s.records, 1),
+        p.offset,
+        wrapping_sub_u64(end as u64, 2),
+    );
+    past_record(s, end, waiting)
+}
+
+// An M-CDR, in the same way.
+fn show_mm(style: u8, s: State, end: usize, cdr: MmRecord, text: &mut [u8; 4096]) -> State {
+    let p = s.place;
+    let waiting = shown::mm::put_record(
         text,
         s.waiting,
         style,

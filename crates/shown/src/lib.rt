@@ -1,8 +1,12 @@
-// A record in its forms: a line a field for people, with 12.15's name for it and the containers as a table; a JSON object on one line for
-// scripts, with the same names; and the plain form that tests compare, every field at its place. Fields that are absent are left out of the
-// first two.
+// A record in its forms: a line a field for people, with 12.15's name for it and the containers or location changes as a table; a JSON object
+// on one line for scripts, with the same names; and the plain form that tests compare, every field at its place. Fields that are absent are
+// left out of the first two.
+//
+// An S-CDR is put by put_record below (parts has its forms, rows its containers), an M-CDR by mm::put_record (moves has its location changes).
 //
 // It only puts characters on their way to standard output, and no contract can say what is written: each function is proved safe and ending.
+pub mod mm;
+mod moves;
 mod numbers;
 mod parts;
 mod rows;
@@ -12,7 +16,7 @@ use out::JSON;
 use out::PLAIN;
 use scdr::Record;
 
-// Puts a whole record behind the characters that wait, and answers how many wait then: which it is, how many octets of the file lie before
+// Puts a whole S-CDR behind the characters that wait, and answers how many wait then: which it is, how many octets of the file lie before
 // its mark, how many it has without the mark. (The plain form says none of the three.)
 pub fn put_record(
     text: &mut [u8; 4096],
@@ -62,7 +66,8 @@ fn put_back(
 ) -> usize {
     let time = octets_of(opening);
     let a = parts::put_opening(text, waiting, style, v, &time);
-    parts::put_id(text, a, style, v, octets::front(&id, shown(style, n)))
+    let b = parts::put_cause(text, a, style, v);
+    parts::put_id(text, b, style, v, octets::front(&id, shown(style, n)))
 }
 
 // The nine octets of a time.
@@ -79,7 +84,7 @@ fn shown(style: u8, n: usize) -> usize {
     n
 }
 
-// How many containers are put before the opening time, or at the end: JSON has them all before it, the other styles at the end.
+// How many containers or changes are put before the opening time, or at the end: JSON has them all before it, the other styles at the end.
 fn rows_at(style: u8, end: bool, count: usize) -> usize {
     if end == (style == JSON) {
         return 0;

@@ -1,4 +1,4 @@
-// The parts of a record that have one word each, in the three forms.
+// The parts of an S-CDR that have one word each, in the three forms; and the part that M-CDRs have too.
 use template::put_styled;
 
 // What stands before the access point name, with the IMSI.
@@ -51,7 +51,7 @@ pub fn put_name(
     )
 }
 
-// From the opening time to the number.
+// The opening time, and what stands between it and the cause.
 pub fn put_opening(
     text: &mut [u8; 4096],
     waiting: usize,
@@ -66,15 +66,28 @@ pub fn put_opening(
         b"  recordOpeningTime     20%0-%1-%2 %3:%4:%5 %6%7:%8
   duration              %d s
 %H%;  sgsnChange            true
-%.  causeForRecClosing    %k (%Knormal release%;%;%;%;abnormal release%;%;%;%;%;%;%;%;%;%;%;%;volume limit%;time limit%;SGSN change%;\
-maximum number of changes in charging conditions%;management intervention%.)
-  recordSequenceNumber  %N%q%;-%.
-",
-        b"],\"recordOpeningTime\":\"20%0-%1-%2T%3:%4:%5%6%7:%8\",\"duration\":%d%H%;,\"sgsnChange\":true%.\
-,\"causeForRecClosing\":%k%N,\"recordSequenceNumber\":%q%.",
-        b"%f%t%h%k%q%b",
+%.",
+        b"],\"recordOpeningTime\":\"20%0-%1-%2T%3:%4:%5%6%7:%8\",\"duration\":%d%H%;,\"sgsnChange\":true%.",
+        b"%f%t%h",
         v,
         time,
+    )
+}
+
+// The cause and the number, of records of both kinds.
+pub fn put_cause(text: &mut [u8; 4096], waiting: usize, style: u8, v: &[u64; 27]) -> usize {
+    put_styled(
+        text,
+        waiting,
+        style,
+        b"  causeForRecClosing    %k (%Vnormal release%;%;%;%;abnormal release%;%;%;%;%;%;%;%;%;%;%;%;volume limit%;time limit%;SGSN change%;\
+maximum number of changes in charging conditions%;management intervention%;maximum number of location changes%.)
+  recordSequenceNumber  %N%q%;-%.
+",
+        b",\"causeForRecClosing\":%k%N,\"recordSequenceNumber\":%q%.",
+        b"%k%q%b",
+        v,
+        b"",
     )
 }
 

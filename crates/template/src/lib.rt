@@ -6,7 +6,8 @@
 //     %A to %Z   begins a choice by the number of that letter. What follows stands where it is 0,
 //     %;         what follows this where it is 1 more, and
 //     %.         ends the choice. There is no choice within a choice
-//     %0 to %8   the word is a time of nine octets, as it stands in a record: one of them, of YY MM DD hh mm ss S hh mm
+//     %0 to %8   one octet of the word in digits of sixteen: of a place, or of a time of nine octets as it stands in a record, YY MM DD hh
+//                mm ss S hh mm, of which %6, the sign, is put as the character that it is
 //
 // No contract can say what is written: each function that puts something is proved safe and ending.
 //
@@ -204,7 +205,7 @@ fn number_of(numbers: &[u64], letter: u8) -> u64 {
     0
 }
 
-// A value: an octet of a time, the word, or else a number.
+// A value: an octet of the word, the word, or else a number.
 fn put_value(
     text: &mut [u8; 4096],
     waiting: usize,

@@ -1,11 +1,12 @@
 // The commands for tests and measures, each in a module of its own. bin/program runs them.
 //
 //     testing calls PROFILE CALLS            the node's calls, a line a call (calls.rt)
-//     testing records write|read|both        the record's writer and reader (records.rt)
+//     testing records write|read|both        the writer and reader of S-CDRs; of M-CDRs with -mm behind the word (records.rt)
 //     testing dates                          time stamps written, and read back (dates.rt)
 //     testing pace PROFILE EVENTS RECORDS    how long the step, the writer and the reader take (pace.rt)
 //     testing tick PROFILE EVENTS            how long the last event takes (tick.rt)
-//     testing all PROFILE CALLS..            files of calls, then what `records both` makes of standard input, then 01's bench table (table.rt)
+//     testing all PROFILE BLOCKS CALLS..     files of calls, then what `records both` makes of standard input and `records both-mm` of the
+//                                            file BLOCKS, then 01's bench table (table.rt)
 //
 // No contract can say what is read or written: each function is proved safe and ending.
 mod calls;
@@ -16,16 +17,18 @@ mod table;
 mod tick;
 
 use libc::STDERR_FILENO;
+use libc::STDIN_FILENO;
 
 // Each file of calls from a fresh node.
 fn all() {
     let count = os::arg_count();
-    let mut i: usize = 3;
+    let mut i: usize = 4;
     while i < count {
         calls::run_file(i);
         i += 1;
     }
-    records::all(records::BOTH);
+    records::all(STDIN_FILENO, false, records::BOTH);
+    records::both_mm(3);
     table::write_rows();
 }
 

@@ -2,9 +2,9 @@
 //
 //     pace PROFILE EVENTS RECORDS
 //
-// The events are run from a fresh node, the first 64 records written, and all of them read, again and again. Standard output has a line for
-// each of the three: its name, how many calls there were, a sum over what they answered, and the microseconds that they took. Each file
-// is held whole, so it has 65,536 octets at most.
+// The events are run from a fresh node, the first 64 records written, and all of them read, again and again: the list has S-CDRs alone.
+// Standard output has a line for each of the three: its name, how many calls there were, a sum over what they answered, and the microseconds
+// that they took. Each file is held whole, so it has 65,536 octets at most.
 use entries::Entry;
 use event::framing;
 use libc::STDERR_FILENO;

@@ -1,7 +1,10 @@
-// From a block to a record: every field at its place.
+// From a block to a record of either kind: every field at its place.
 use calendar::Stamp;
 use container::Container;
 use container::Qos;
+use mcdr::Change;
+use mcdr::MmRecord;
+use mcdr::Place;
 use octets::octet;
 use scdr::Record;
 use std::num::wrapping_add_usize;
@@ -30,6 +33,11 @@ pub fn two(b: &[u8], at: usize) -> usize
     (number(b, at, 2) % 65536) as usize
 }
 
+// The same as a number of 16 bits.
+fn short(b: &[u8], at: usize) -> u16 {
+    (two(b, at) % 65536) as u16
+}
+
 pub fn four(b: &[u8], at: usize) -> u32 {
     (number(b, at, 4) % 4294967296) as u32
 }
@@ -37,7 +45,7 @@ pub fn four(b: &[u8], at: usize) -> u32 {
 pub fn stamp_at(b: &[u8], at: usize) -> Stamp {
     Stamp {
         seconds: four(b, at),
-        zone: (two(b, wrapping_add_usize(at, 4)) % 65536) as u16,
+        zone: short(b, wrapping_add_usize(at, 4)),
     }
 }
 
@@ -82,6 +90,7 @@ pub fn flags_ok(b: &[u8]) -> bool {
     (octet(b, 0) < 2) & (octet(b, 97) < 2)
 }
 
+// The S-CDR of a block.
 pub fn record_of(b: &[u8]) -> Record {
     let mut imsi = [0u8; 8];
     fill(b, 1, &mut imsi);
@@ -99,7 +108,7 @@ pub fn record_of(b: &[u8]) -> Record {
         ggsn: four(b, 17),
         apn,
         apnlen: octet(b, 21) as usize,
-        pdptype: (two(b, 85) % 65536) as u16,
+        pdptype: short(b, 85),
         address: four(b, 87),
         containers,
         count: octet(b, 128) as usize,
@@ -109,5 +118,54 @@ pub fn record_of(b: &[u8]) -> Record {
         number: number(b, 99, 8),
         nodeid,
         nodelen: octet(b, 107) as usize,
+    }
+}
+
+// The place at a place of a block.
+fn place_at(b: &[u8], at: usize) -> Place {
+    Place {
+        lac: short(b, at),
+        rac: octet(b, wrapping_add_usize(at, 2)),
+    }
+}
+
+// The location change whose 9 octets b is.
+fn change_of(b: &[u8]) -> Change {
+    let place = place_at(b, 0);
+    let time = stamp_at(b, 3);
+    Change { place, time }
+}
+
+fn changes_of(b: &[u8]) -> [Change; 15] {
+    let mut v = [mcdr::changes::no_change(); 15];
+    let mut i: usize = 0;
+    while i < 15 {
+        v[i] = change_of(octets::part(b, 56 + 9 * i, 65 + 9 * i));
+        i += 1;
+    }
+    v
+}
+
+// The M-CDR of a block.
+pub fn mm_record_of(b: &[u8]) -> MmRecord {
+    let mut imsi = [0u8; 8];
+    fill(b, 0, &mut imsi);
+    let mut nodeid = [0u8; 20];
+    fill(b, 35, &mut nodeid);
+    let place = place_at(b, 12);
+    let changes = changes_of(b);
+    let opening = stamp_at(b, 15);
+    MmRecord {
+        imsi,
+        sgsn: four(b, 8),
+        place,
+        changes,
+        count: octet(b, 55) as usize,
+        opening,
+        duration: four(b, 21),
+        cause: octet(b, 25),
+        number: number(b, 26, 8),
+        nodeid,
+        nodelen: octet(b, 34) as usize,
     }
 }

@@ -4,10 +4,10 @@ use Rattle.testing.proofs.records.all.Statement.{statement}
 use Rattle.testing.proofs.records.all.Tie as tie
 
 abbrev Inv-loop : tie.InvT-loop
-Inv-loop task turns₀ turns = Unit {0}
+Inv-loop fd mm task turns₀ turns = Unit {0}
 
 abbrev μ-loop : tie.MeasureT-loop
-μ-loop task turns₀ turns = turns
+μ-loop fd mm task turns₀ turns = turns
 
 pub all-spec : {M : Type 1} → statement M
 all-spec =
