@@ -11,7 +11,9 @@
 
 #define CHARGING_CONTEXTS 16
 #define CHARGING_CONTAINERS 15
-/* what an event writes at most: sixteen records of 1,024 octets, each after its mark */
+#define CHARGING_SUBSCRIBERS 16
+#define CHARGING_CHANGES 15
+/* what an event writes at most: sixteen S-CDRs of 1,024 octets, each after its mark; one of a subscriber writes one M-CDR, of 388 at most */
 #define CHARGING_MOST_OUTPUT (16 * (2 + 1024))
 
 struct charging_name { uint32_t id, ggsn; };
@@ -44,6 +46,18 @@ struct charging_context {
     struct charging_open_record current;
     uint64_t closed;
 };
+/* where a subscriber is: location area code and routing area code */
+struct charging_place { uint16_t lac; uint8_t rac; };
+struct charging_change { struct charging_place place; struct charging_stamp time; };
+struct charging_subscriber {
+    uint8_t active; /* 1, or 0 where the place is free */
+    uint8_t imsi[8];
+    struct charging_place place; /* at the opening of its open record */
+    struct charging_stamp opening;
+    struct charging_change changes[CHARGING_CHANGES];
+    size_t count; /* how many of them are used: 14 at most in a sound node */
+    uint64_t closed; /* records of this attachment that are closed */
+};
 struct charging_limits { uint64_t volume; uint32_t seconds; uint8_t changes; };
 struct charging_profile {
     uint32_t sgsn;
@@ -57,17 +71,21 @@ struct charging_node {
     uint32_t clock;
     uint64_t accepted;
     struct charging_context contexts[CHARGING_CONTEXTS];
+    struct charging_subscriber subscribers[CHARGING_SUBSCRIBERS];
 };
 
 _Static_assert(sizeof(struct charging_container) == 40, "a container has 40 octets");
 _Static_assert(sizeof(struct charging_context) == 760, "a context has 760 octets");
-_Static_assert(sizeof(struct charging_node) == 12232, "a node has 12,232 octets");
+_Static_assert(sizeof(struct charging_change) == 12, "a location change has 12 octets");
+_Static_assert(sizeof(struct charging_subscriber) == 224, "a subscriber has 224 octets");
+_Static_assert(sizeof(struct charging_node) == 15816, "a node has 15,816 octets");
 
 /* 0, or 12: then line is the line of the text that does not read, or 0 where a value is out of range, and the node is all zero. */
 struct charging_start { uint8_t answer, line; };
 struct charging_start charging_fresh(struct charging_node *node, const uint8_t *text, size_t text_len);
 
-/* 0 and how many octets were written from out's start, or the number of a refusal and 0: then the node and out are as they were. */
+/* 0 and how many octets were written from out's start, or the number of a refusal and 0: then the node and out are as they were. Events about
+ * subscribers (kinds 8 to 11) have numbers of their own: 15 attached already, 16 not attached, 17 no free place. */
 struct charging_answer { uint8_t answer; size_t written; };
 struct charging_answer charging_step(struct charging_node *node, const uint8_t *event, size_t event_len, uint8_t *out, size_t out_len);
 

@@ -12,7 +12,13 @@ _Noreturn void exit(int);
 void *memcpy(void *, const void *, size_t);
 void *memset(void *, int, size_t);
 
-enum { FIELDS = 47 + 12 + CHARGING_CONTEXTS * (139 + CHARGING_CONTAINERS * 28), GUARD = 16, MOST = 65535 };
+enum {
+    CONTEXT = 139 + CHARGING_CONTAINERS * 28,
+    SUBSCRIBER = 34 + CHARGING_CHANGES * 9,
+    FIELDS = 47 + 12 + CHARGING_CONTEXTS * CONTEXT + CHARGING_SUBSCRIBERS * SUBSCRIBER,
+    GUARD = 16,
+    MOST = 65535
+};
 
 static struct charging_node node;
 static uint8_t before[FIELDS], after[FIELDS], event[MOST], area[GUARD + MOST + GUARD], was[GUARD + MOST + GUARD];
@@ -83,6 +89,24 @@ static void context(struct charging_context *c) {
     FIELD(c->closed);
 }
 
+static void place(struct charging_place *p) {
+    FIELD(p->lac);
+    FIELD(p->rac);
+}
+
+static void subscriber(struct charging_subscriber *s) {
+    FIELD(s->active);
+    FIELD(s->imsi);
+    place(&s->place);
+    stamp(&s->opening);
+    for (int i = 0; i < CHARGING_CHANGES; i++) {
+        place(&s->changes[i].place);
+        stamp(&s->changes[i].time);
+    }
+    FIELD(s->count);
+    FIELD(s->closed);
+}
+
 static void fields(uint8_t *octets, int fill) {
     at = octets;
     filling = fill;
@@ -96,6 +120,7 @@ static void fields(uint8_t *octets, int fill) {
     FIELD(node.clock);
     FIELD(node.accepted);
     for (int i = 0; i < CHARGING_CONTEXTS; i++) context(&node.contexts[i]);
+    for (int i = 0; i < CHARGING_SUBSCRIBERS; i++) subscriber(&node.subscribers[i]);
     if (at != octets + FIELDS) exit(3);
 }
 

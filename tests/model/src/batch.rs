@@ -1,9 +1,9 @@
 //! One call with a minute of reports: document 02, W2. Words in quotes are
 //! that request's.
 
+use crate::cdr::Cdr;
 use crate::event::{octets, Name, What};
 use crate::node::Node;
-use crate::record::Record;
 use crate::step::step_of_sound;
 
 /// "a lent list of 32-bit numbers, uplink and downlink by turns, for one
@@ -60,7 +60,7 @@ pub struct Batched {
     pub applied: usize,
     pub node: Node,
     pub output: Vec<u8>,
-    pub records: Vec<Record>,
+    pub records: Vec<Cdr>,
 }
 
 /// "One call does what the same traffic events do one by one"

@@ -1,4 +1,7 @@
-//! "Events (integers big-endian)": layout and the ranges of the fields.
+//! "Events (integers big-endian)": layout and the ranges of the fields. The
+//! kinds from 8 on are request W4's: "new events take the next free kinds".
+
+use crate::subscriber::{Imsi, Place};
 
 pub const MARK: [u8; 2] = [0xC3, 0x5E];
 /// "the mark C3 5E, a kind, and a 4-octet time: 7 octets"
@@ -11,6 +14,10 @@ pub const TARIFF: u8 = 4;
 pub const RELEASE: u8 = 5;
 pub const TICK: u8 = 6;
 pub const MANAGEMENT: u8 = 7;
+pub const ATTACH: u8 = 8;
+pub const LOCATION: u8 = 9;
+pub const SUBSCRIBER_MANAGEMENT: u8 = 10;
+pub const DETACH: u8 = 11;
 
 /// Reliability, delay, precedence, peak, mean.
 pub type Qos = [u8; 5];
@@ -31,12 +38,16 @@ pub enum What {
     Release(Name, u8),
     Tick,
     Management(Name),
+    Attach(Imsi, Place),
+    Location(Imsi, Place),
+    SubscriberManagement(Imsi),
+    Detach(Imsi, u8),
 }
 
 #[derive(Clone, Debug, PartialEq, Eq)]
 pub struct Start {
     pub flags: u8,
-    pub imsi: [u8; 8],
+    pub imsi: Imsi,
     pub pdp_type: [u8; 2],
     pub address: [u8; 4],
     pub qos: Qos,
@@ -63,9 +74,29 @@ pub fn name(event: &[u8]) -> Name {
     Name { charging_id: number(event, 7), ggsn: four(event, 11) }
 }
 
-/// Kinds 1, 2, 3, 5 and 7.
+/// The kinds of an event: refusal 3 as W4 reads it.
+pub fn is_kind(kind: u8) -> bool {
+    (1..=11).contains(&kind)
+}
+
+/// Kinds 1, 2, 3, 5 and 7 name a context.
 pub fn has_name(kind: u8) -> bool {
-    !matches!(kind, TARIFF | TICK)
+    matches!(kind, ACTIVATE | TRAFFIC | QOS | RELEASE | MANAGEMENT)
+}
+
+/// Kinds 8 to 11 name a subscriber: "subscribers named by IMSI".
+pub fn of_subscriber(kind: u8) -> bool {
+    (ATTACH..=DETACH).contains(&kind)
+}
+
+/// The IMSI of an event that names a subscriber.
+pub fn subscriber(event: &[u8]) -> Imsi {
+    event[7..15].try_into().unwrap()
+}
+
+/// LAC and RAC, which may be any.
+fn place(event: &[u8]) -> Place {
+    Place { lac: u16::from_be_bytes([event[15], event[16]]), rac: event[17] }
 }
 
 /// The column "Whole length"; nothing for an activate that ends before its n.
@@ -78,6 +109,9 @@ pub fn whole_length(event: &[u8]) -> Option<usize> {
         TARIFF | TICK => Some(7),
         RELEASE => Some(16),
         MANAGEMENT => Some(15),
+        ATTACH | LOCATION => Some(18),
+        SUBSCRIBER_MANAGEMENT => Some(15),
+        DETACH => Some(16),
         _ => None,
     }
 }
@@ -120,8 +154,13 @@ pub fn cause_in_range(cause: u8) -> bool {
     matches!(cause, 0 | 4 | 18)
 }
 
+/// W4: "detach with 0 or 4"
+pub fn detach_cause_in_range(cause: u8) -> bool {
+    matches!(cause, 0 | 4)
+}
+
 /// All fields but the time, which has a row of its own. "PDP type any"; names,
-/// addresses and volumes may be anything.
+/// addresses, volumes and places may be anything.
 pub fn fields_in_range(event: &[u8]) -> bool {
     match what(event) {
         What::Activate(_, start) => {
@@ -133,10 +172,15 @@ pub fn fields_in_range(event: &[u8]) -> bool {
         What::Qos(_, qos) => qos_in_range(&qos),
         What::Release(_, cause) => cause_in_range(cause),
         What::Traffic(..) | What::Tariff | What::Tick | What::Management(_) => true,
+        What::Attach(imsi, _) => imsi_in_range(&imsi),
+        What::Location(imsi, _) => imsi_in_range(&imsi),
+        What::SubscriberManagement(imsi) => imsi_in_range(&imsi),
+        What::Detach(imsi, cause) => imsi_in_range(&imsi) && detach_cause_in_range(cause),
     }
 }
 
-/// "An event is one of these seven": of an event of the right length.
+/// "An event is one of these seven", or of W4's four: of an event of the right
+/// length.
 pub fn what(event: &[u8]) -> What {
     match kind(event) {
         ACTIVATE => What::Activate(
@@ -156,14 +200,16 @@ pub fn what(event: &[u8]) -> What {
         RELEASE => What::Release(name(event), event[15]),
         TICK => What::Tick,
         MANAGEMENT => What::Management(name(event)),
+        ATTACH => What::Attach(subscriber(event), place(event)),
+        LOCATION => What::Location(subscriber(event), place(event)),
+        SUBSCRIBER_MANAGEMENT => What::SubscriberManagement(subscriber(event)),
+        DETACH => What::Detach(subscriber(event), event[15]),
         other => panic!("kind {other} after row 3"),
     }
 }
 
-/// The octets of an event, whatever its fields.
-pub fn octets(time: u32, what: &What) -> Vec<u8> {
-    let mut event = MARK.to_vec();
-    let kind = match what {
+fn kind_of(what: &What) -> u8 {
+    match what {
         What::Activate(..) => ACTIVATE,
         What::Traffic(..) => TRAFFIC,
         What::Qos(..) => QOS,
@@ -171,35 +217,61 @@ pub fn octets(time: u32, what: &What) -> Vec<u8> {
         What::Release(..) => RELEASE,
         What::Tick => TICK,
         What::Management(_) => MANAGEMENT,
-    };
-    event.push(kind);
-    event.extend_from_slice(&time.to_be_bytes());
-    if let What::Activate(name, _)
-    | What::Traffic(name, ..)
-    | What::Qos(name, _)
-    | What::Release(name, _)
-    | What::Management(name) = what
-    {
-        event.extend_from_slice(&name.charging_id.to_be_bytes());
-        event.extend_from_slice(&name.ggsn);
+        What::Attach(..) => ATTACH,
+        What::Location(..) => LOCATION,
+        What::SubscriberManagement(_) => SUBSCRIBER_MANAGEMENT,
+        What::Detach(..) => DETACH,
     }
+}
+
+/// The name of a context or of a subscriber, where the event has one.
+fn put_name(event: &mut Vec<u8>, what: &What) {
     match what {
-        What::Activate(_, start) => {
-            event.push(start.flags);
-            event.extend_from_slice(&start.imsi);
-            event.extend_from_slice(&start.pdp_type);
-            event.extend_from_slice(&start.address);
-            event.extend_from_slice(&start.qos);
-            event.push(start.apn.len() as u8);
-            event.extend_from_slice(&start.apn);
+        What::Activate(name, _)
+        | What::Traffic(name, ..)
+        | What::Qos(name, _)
+        | What::Release(name, _)
+        | What::Management(name) => {
+            event.extend_from_slice(&name.charging_id.to_be_bytes());
+            event.extend_from_slice(&name.ggsn);
         }
+        What::Attach(imsi, _)
+        | What::Location(imsi, _)
+        | What::SubscriberManagement(imsi)
+        | What::Detach(imsi, _) => event.extend_from_slice(imsi),
+        What::Tariff | What::Tick => {}
+    }
+}
+
+fn put_start(event: &mut Vec<u8>, start: &Start) {
+    event.push(start.flags);
+    event.extend_from_slice(&start.imsi);
+    event.extend_from_slice(&start.pdp_type);
+    event.extend_from_slice(&start.address);
+    event.extend_from_slice(&start.qos);
+    event.push(start.apn.len() as u8);
+    event.extend_from_slice(&start.apn);
+}
+
+/// The octets of an event, whatever its fields.
+pub fn octets(time: u32, what: &What) -> Vec<u8> {
+    let mut event = MARK.to_vec();
+    event.push(kind_of(what));
+    event.extend_from_slice(&time.to_be_bytes());
+    put_name(&mut event, what);
+    match what {
+        What::Activate(_, start) => put_start(&mut event, start),
         What::Traffic(_, uplink, downlink) => {
             event.extend_from_slice(&uplink.to_be_bytes());
             event.extend_from_slice(&downlink.to_be_bytes());
         }
         What::Qos(_, qos) => event.extend_from_slice(qos),
-        What::Release(_, cause) => event.push(*cause),
-        What::Tariff | What::Tick | What::Management(_) => {}
+        What::Release(_, cause) | What::Detach(_, cause) => event.push(*cause),
+        What::Attach(_, place) | What::Location(_, place) => {
+            event.extend_from_slice(&place.lac.to_be_bytes());
+            event.push(place.rac);
+        }
+        What::Tariff | What::Tick | What::Management(_) | What::SubscriberManagement(_) => {}
     }
     event
 }

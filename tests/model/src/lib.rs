@@ -4,10 +4,13 @@
 
 pub mod batch;
 pub mod calls;
+pub mod cdr;
 pub mod clock;
 pub mod event;
+pub mod mcdr;
 pub mod node;
 pub mod profile;
 pub mod random;
 pub mod record;
 pub mod step;
+pub mod subscriber;

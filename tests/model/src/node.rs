@@ -1,8 +1,10 @@
-//! The node: profile, clock, accepted events and 16 slots.
+//! The node: profile, clock, accepted events, 16 slots and, by W4, 16 places for
+//! subscribers.
 
 use crate::clock::LAST_SECOND;
 use crate::event::{self, Name, Qos, Start};
 use crate::profile::Profile;
+use crate::subscriber::{Subscriber, SUBSCRIBERS};
 
 /// "keeps up to 16 active contexts"
 pub const SLOTS: usize = 16;
@@ -47,12 +49,14 @@ pub struct Node {
     pub clock: u32,
     pub accepted: u64,
     pub slots: Vec<Option<Context>>,
+    pub subscribers: Vec<Option<Subscriber>>,
 }
 
 impl Node {
-    /// "Fresh node: clock 0, no contexts, no accepted events."
+    /// "Fresh node: clock 0, no contexts, no accepted events"; no subscribers.
     pub fn fresh(profile: Profile) -> Node {
-        Node { profile, clock: 0, accepted: 0, slots: vec![None; SLOTS] }
+        let subscribers = vec![None; SUBSCRIBERS];
+        Node { profile, clock: 0, accepted: 0, slots: vec![None; SLOTS], subscribers }
     }
 
     pub fn find(&self, name: Name) -> Option<usize> {
@@ -83,6 +87,7 @@ impl Node {
             // "active names distinct"
             && names.iter().enumerate().all(|(at, name)| !names[..at].contains(name))
             && self.slots.iter().flatten().all(|context| self.context_sound(context))
+            && self.subscribers_sound()
     }
 
     fn context_sound(&self, context: &Context) -> bool {

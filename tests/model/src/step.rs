@@ -1,15 +1,18 @@
 //! One call: the refusal table, and what an accepted event does.
 
+use crate::cdr::Cdr;
 use crate::clock::LAST_SECOND;
 use crate::event::{self, Name, Qos, Start, What};
+use crate::mcdr::Mcdr;
 use crate::node::*;
-use crate::record::{self, Record};
+use crate::record::Record;
+use crate::subscriber;
 
 /// "In output each record follows the mark C3 5A"
 pub const RECORD_MARK: [u8; 2] = [0xC3, 0x5A];
 
 /// "(16) after a traffic event, .. (17) at a tick, .. (19) the record's QoS
-/// and tariff changes .. (20) management"
+/// and tariff changes .. (20) management"; 19 and 20 close M-CDRs too
 pub const VOLUME: u8 = 16;
 pub const TIME: u8 = 17;
 pub const CHANGES: u8 = 19;
@@ -17,10 +20,11 @@ pub const INTERVENTION: u8 = 20;
 
 // ---- "Refusal numbers, tried in this order" ----
 
-type Row = (u8, fn(&Node, &[u8], usize) -> bool);
+pub type Row = (u8, fn(&Node, &[u8], usize) -> bool);
 
-/// Each row may rely on the rows before it.
-pub const TABLE: [Row; 12] = [
+/// Each row may rely on the rows before it. W4: "15 attached already, 16 not
+/// attached, 17 no free place, where 9, 8 and 10 stand for contexts".
+pub const TABLE: [Row; 15] = [
     (13, node_unsound),
     (1, under_seven),
     (2, wrong_mark),
@@ -32,6 +36,9 @@ pub const TABLE: [Row; 12] = [
     (8, name_not_active),
     (9, name_active),
     (10, all_slots_taken),
+    (16, not_attached),
+    (15, attached_already),
+    (17, no_free_place),
     (11, output_too_long),
 ];
 
@@ -50,9 +57,9 @@ pub fn wrong_mark(_: &Node, event: &[u8], _: usize) -> bool {
     event[..2] != event::MARK
 }
 
-/// 3 "kind not 1..7"
+/// 3 "kind not 1..7"; with the kinds of W4 "refusals 3 and 4 read so": 1..11
 pub fn wrong_kind(_: &Node, event: &[u8], _: usize) -> bool {
-    !(1..=7).contains(&event::kind(event))
+    !event::is_kind(event::kind(event))
 }
 
 /// 4 "length not the kind's; activate under 36"
@@ -91,6 +98,21 @@ pub fn all_slots_taken(node: &Node, event: &[u8], _: usize) -> bool {
     event::kind(event) == 1 && node.lowest_free().is_none()
 }
 
+/// 16 "not attached": kinds 9, 10 and 11
+pub fn not_attached(node: &Node, event: &[u8], _: usize) -> bool {
+    matches!(event::kind(event), 9..=11) && node.find_subscriber(event::subscriber(event)).is_none()
+}
+
+/// 15 "attached already": kind 8
+pub fn attached_already(node: &Node, event: &[u8], _: usize) -> bool {
+    event::kind(event) == 8 && node.find_subscriber(event::subscriber(event)).is_some()
+}
+
+/// 17 "no free place": kind 8
+pub fn no_free_place(node: &Node, event: &[u8], _: usize) -> bool {
+    event::kind(event) == 8 && node.lowest_free_place().is_none()
+}
+
 /// 11 "this event's output .. longer than the output buffer"
 pub fn output_too_long(node: &Node, event: &[u8], room: usize) -> bool {
     let (_, records) = accept(node, event);
@@ -110,7 +132,7 @@ pub struct Step {
     pub answer: u8,
     pub node: Node,
     pub output: Vec<u8>,
-    pub records: Vec<Record>,
+    pub records: Vec<Cdr>,
 }
 
 /// "After 1..11, 13 and 24 any node, clock included, is as given, nothing is
@@ -135,11 +157,11 @@ fn step_past(passed: usize, node: &Node, event: &[u8], room: usize) -> Step {
 
 /// "In output each record follows the mark C3 5A, and each is written into the
 /// part of the buffer that begins where the last ended."
-pub fn output(records: &[Record]) -> Vec<u8> {
+pub fn output(records: &[Cdr]) -> Vec<u8> {
     let mut octets = Vec::new();
     for record in records {
         octets.extend(RECORD_MARK);
-        octets.extend(record::octets(record));
+        octets.extend(record.octets());
     }
     octets
 }
@@ -147,36 +169,61 @@ pub fn output(records: &[Record]) -> Vec<u8> {
 // ---- "What an event does" ----
 
 /// The node after an event that no row before 11 refuses, and its records.
-pub fn accept(node: &Node, event: &[u8]) -> (Node, Vec<Record>) {
+pub fn accept(node: &Node, event: &[u8]) -> (Node, Vec<Cdr>) {
     let mut node = node.clone();
     let now = event::time(event);
     node.clock = now;
     node.accepted += 1;
-    let records = match event::what(event) {
+    let what = event::what(event);
+    let records = if event::of_subscriber(event::kind(event)) {
+        of_subscriber(&mut node, what, now).into_iter().map(Cdr::M).collect()
+    } else {
+        of_contexts(&mut node, what, now).into_iter().map(Cdr::S).collect()
+    };
+    (node, records)
+}
+
+/// The events of 01. They do nothing to subscribers.
+fn of_contexts(node: &mut Node, what: What, now: u32) -> Vec<Record> {
+    match what {
         What::Activate(name, start) => {
-            activate(&mut node, name, *start, now);
+            activate(node, name, *start, now);
             Vec::new()
         }
         What::Traffic(name, uplink, downlink) => {
             let slot = node.find(name).unwrap();
-            traffic(&mut node, slot, uplink, downlink, now)
+            traffic(node, slot, uplink, downlink, now)
         }
         What::Qos(name, qos) => {
             let slot = node.find(name).unwrap();
-            qos_change(&mut node, slot, qos, now)
+            qos_change(node, slot, qos, now)
         }
-        What::Tariff => tariff(&mut node, now),
+        What::Tariff => tariff(node, now),
         What::Release(name, cause) => {
             let slot = node.find(name).unwrap();
-            vec![release(&mut node, slot, cause, now)]
+            vec![release(node, slot, cause, now)]
         }
-        What::Tick => tick(&mut node, now),
+        What::Tick => tick(node, now),
         What::Management(name) => {
             let slot = node.find(name).unwrap();
-            vec![close_and_open(&mut node, slot, INTERVENTION, now)]
+            vec![close_and_open(node, slot, INTERVENTION, now)]
         }
-    };
-    (node, records)
+        other => panic!("an event of a subscriber: {other:?}"),
+    }
+}
+
+/// The events of W4. They do nothing to contexts.
+fn of_subscriber(node: &mut Node, what: What, now: u32) -> Option<Mcdr> {
+    match what {
+        What::Attach(imsi, place) => {
+            subscriber::attach(node, imsi, place, now);
+            None
+        }
+        What::Location(imsi, place) => subscriber::location_change(node, imsi, place, now),
+        What::SubscriberManagement(imsi) => Some(subscriber::manage(node, imsi, now)),
+        What::Detach(imsi, cause) => Some(subscriber::detach(node, imsi, cause, now)),
+        other => panic!("no event of a subscriber: {other:?}"),
+    }
 }
 
 /// "Activation takes the lowest free slot, opens a record now with empty

@@ -72,7 +72,8 @@ fn closing_in_the_middle() {
     let done = batch(&node, &reports(6, &[0, 0, 0, 1, 7, 8]), output.len());
     assert_eq!((done.answer, done.applied), (0, 3));
     assert_eq!(done.output, output);
-    assert_eq!((done.records[0].cause, done.records[0].number), (16, Some(1)));
+    let record = done.records[0].s().unwrap();
+    assert_eq!((record.cause, record.number), (16, Some(1)));
     let (mut after, _) = said(&closed, 6, What::Traffic(NAME, 7, 8));
     after.accepted += 1; // the pair of nothing
     assert_eq!(done.node, after);

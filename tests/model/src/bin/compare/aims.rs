@@ -2,7 +2,9 @@
 //! call: a table of aims, none of which may stay at zero.
 
 use crate::batches::Batches;
+use crate::subscribers::Subscribers;
 use charging_model::batch::{Batch, Batched};
+use charging_model::cdr::Cdr;
 use charging_model::clock::{self, LAST_SECOND};
 use charging_model::event::{self, Name, What};
 use charging_model::node::{Node, SLOTS};
@@ -11,7 +13,7 @@ use charging_model::step::{self, Step};
 use std::collections::{BTreeMap, BTreeSet};
 
 /// The refusals that a call of a run can get.
-pub const REFUSALS: [u8; 10] = [1, 2, 3, 4, 5, 6, 8, 9, 10, 11];
+pub const REFUSALS: [u8; 13] = [1, 2, 3, 4, 5, 6, 8, 9, 10, 11, 15, 16, 17];
 pub const CAUSES: [u8; 7] = [0, 4, 16, 17, 18, 19, 20];
 
 /// Answers with a later row of the table that would have applied as well.
@@ -139,7 +141,7 @@ const NAMES: &[&str] = &[
     "mean 18",
     "mean 19",
     "kind 0",
-    "kind 8",
+    "kind 12",
     "kind 255",
     "the event refused for room comes again and fits",
 ];
@@ -151,6 +153,7 @@ pub struct Aims {
     pub pairs: BTreeMap<(u8, u8), u64>,
     pub lengths: BTreeSet<usize>,
     batches: Batches,
+    subscribers: Subscribers,
     released: BTreeSet<Name>,
     refused_for_room: Vec<u8>,
 }
@@ -164,6 +167,7 @@ impl Default for Aims {
             pairs: PAIRS.iter().map(|n| (*n, 0)).collect(),
             lengths: BTreeSet::new(),
             batches: Batches::default(),
+            subscribers: Subscribers::default(),
             released: BTreeSet::new(),
             refused_for_room: Vec::new(),
         }
@@ -176,6 +180,7 @@ impl Aims {
         self.released.clear();
         self.refused_for_room.clear();
         self.batches.no_batch();
+        self.subscribers.new_run();
     }
 
     fn met(&mut self, name: &'static str, when: bool) {
@@ -198,6 +203,7 @@ impl Aims {
             (0..=300).filter(|l| !self.lengths.contains(l)).map(|l| format!("event of length {l}")),
         );
         missed.extend(self.batches.missed());
+        missed.extend(self.subscribers.missed());
         missed
     }
 
@@ -221,13 +227,14 @@ impl Aims {
             text += &format!("  {:>9}  {name}\n", self.aims[name]);
         }
         text += &format!("  {:>9}  different lengths of an event\n", self.lengths.len());
-        text + &self.batches.table()
+        text + &self.batches.table() + &self.subscribers.table()
     }
 
     /// A batch, with the node before it and what the model makes of it.
     pub fn count_batch(&mut self, node: &Node, batch: &Batch, room: usize, done: &Batched) {
         self.batches.count(node, batch, room, done);
-        for record in &done.records {
+        self.subscribers.calls += 1;
+        for record in done.records.iter().filter_map(Cdr::s) {
             self.count_record(node, record);
         }
     }
@@ -237,9 +244,10 @@ impl Aims {
         self.batches.no_batch();
         *self.answers.entry(done.answer).or_default() += 1;
         self.lengths.insert(event.len());
+        self.subscribers.count(node, event, room, done);
         self.count_pairs(node, event, room, done.answer);
         self.count_octets(node, event, done.answer);
-        for record in &done.records {
+        for record in done.records.iter().filter_map(Cdr::s) {
             self.count_record(node, record);
         }
         if matches!(done.answer, 0 | 11) {
@@ -254,50 +262,14 @@ impl Aims {
     }
 
     fn count_pairs(&mut self, node: &Node, event: &[u8], room: usize, answer: u8) {
-        if answer == 0 || answer > 9 {
-            return;
-        }
-        let rows = |from: u8| step::TABLE.iter().filter(move |row| row.0 > from && row.0 != 13);
-        if event.len() < event::HEAD {
-            let mark = event.len() >= 2 && event[..2] != event::MARK;
-            let kind = event.len() >= 3 && !(1..=7).contains(&event[2]);
-            for (row, applies) in [(2, mark), (3, kind)] {
-                *self.pairs.entry((1, row)).or_default() += u64::from(applies);
-            }
-            return;
-        }
-        // Rows that look into fields need the kind and the length, and the
-        // last one a name that fits.
-        let mut readable = (1..=7).contains(&event::kind(event));
-        for (row, applies) in rows(answer) {
-            if *row >= 5 && *row != 6 {
-                readable = readable && event::whole_length(event) == Some(event.len());
-            }
-            let time_right = !step::time_out_of_range(node, event, room);
-            let doable = || {
-                !step::name_not_active(node, event, room)
-                    && !step::name_active(node, event, room)
-                    && !step::all_slots_taken(node, event, room)
-            };
-            let can = match row {
-                2 | 3 | 6 | 7 => true,
-                4 => (1..=7).contains(&event::kind(event)),
-                11 if !readable => false,
-                // A wrong time can't be carried out; the output is as long now.
-                11 => {
-                    doable() && {
-                        let mut other = event.to_vec();
-                        if !time_right {
-                            other[3..7].copy_from_slice(&node.clock.to_be_bytes());
-                        }
-                        !step::accept(node, &other).1.is_empty() && room < 64
+        let of_subscriber = event.len() > 2 && event::of_subscriber(event::kind(event));
+        for row in later_rows(node, event, room, answer) {
+            match of_subscriber {
+                true => self.subscribers.pair(answer, row),
+                false => {
+                    if let Some(count) = self.pairs.get_mut(&(answer, row)) {
+                        *count += 1;
                     }
-                }
-                _ => readable,
-            };
-            if can && (*row == 11 || applies(node, event, room)) {
-                if let Some(count) = self.pairs.get_mut(&(answer, *row)) {
-                    *count += 1;
                 }
             }
         }
@@ -309,7 +281,7 @@ impl Aims {
         }
         let kind = event::kind(event);
         self.met("kind 0", kind == 0);
-        self.met("kind 8", kind == 8);
+        self.met("kind 12", kind == 12);
         self.met("kind 255", kind == 255);
         let n = (kind == event::ACTIVATE).then(|| event.get(35).copied()).flatten();
         self.met("activate of 35 octets", kind == event::ACTIVATE && event.len() == 35);
@@ -430,10 +402,11 @@ impl Aims {
             What::Release(name, _) => {
                 self.released.insert(name);
             }
-            What::Management(_) => {}
+            _ => {}
         }
         self.met("16 records in one output", closed == SLOTS);
-        let full = closed == SLOTS && done.records.iter().all(|r| r.containers.len() == 15);
+        let fifteen = |r: &Cdr| r.s().is_some_and(|r| r.containers.len() == 15);
+        let full = closed == SLOTS && done.records.iter().all(fifteen);
         self.met("16 records of 15 containers in one output", full);
     }
 
@@ -493,4 +466,50 @@ impl Aims {
         let later = flags & 2 != 0 && record.number.is_some_and(|n| n > 1);
         self.met("later record of an arrival by SGSN change", later);
     }
+}
+
+/// The later rows of the table that would have applied to a refused event as
+/// well.
+fn later_rows(node: &Node, event: &[u8], room: usize, answer: u8) -> Vec<u8> {
+    if answer == 0 || answer == 11 {
+        return Vec::new();
+    }
+    if event.len() < event::HEAD {
+        let mark = event.len() >= 2 && event[..2] != event::MARK;
+        let kind = event.len() >= 3 && !event::is_kind(event[2]);
+        return [(2, mark), (3, kind)].iter().filter(|row| row.1).map(|row| row.0).collect();
+    }
+    let at = step::TABLE.iter().position(|row| row.0 == answer).unwrap();
+    let rows = step::TABLE[at + 1..].iter();
+    rows.filter(|row| applies_too(node, event, room, row)).map(|row| row.0).collect()
+}
+
+/// Rows that look into fields need the kind and the length, and the last one a
+/// name that fits.
+fn applies_too(node: &Node, event: &[u8], room: usize, row: &step::Row) -> bool {
+    let (number, applies) = *row;
+    let known = event::is_kind(event::kind(event));
+    let readable = known && event::whole_length(event) == Some(event.len());
+    match number {
+        2 | 3 | 6 | 7 => applies(node, event, room),
+        4 => known && applies(node, event, room),
+        11 => readable && no_room(node, event, room),
+        _ => readable && applies(node, event, room),
+    }
+}
+
+/// Would the event, at a time that is right, write a record into so little
+/// room, less than any record has? A wrong time can't be carried out; the
+/// output is about as long now.
+fn no_room(node: &Node, event: &[u8], room: usize) -> bool {
+    let named = [8, 9, 10, 16, 15, 17];
+    let rows = step::TABLE.iter().filter(|row| named.contains(&row.0));
+    if rows.into_iter().any(|row| row.1(node, event, room)) {
+        return false;
+    }
+    let mut other = event.to_vec();
+    if step::time_out_of_range(node, event, room) {
+        other[3..7].copy_from_slice(&node.clock.to_be_bytes());
+    }
+    !step::accept(node, &other).1.is_empty() && room < 44
 }

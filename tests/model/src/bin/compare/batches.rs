@@ -1,6 +1,7 @@
 //! What the batches among the calls have to meet.
 
 use charging_model::batch::{odd_length, Batch, Batched};
+use charging_model::cdr::Cdr;
 use charging_model::clock::LAST_SECOND;
 use charging_model::node::Node;
 use charging_model::record::Record;
@@ -251,18 +252,19 @@ impl Batches {
         self.met("several closings", at.len() > 1);
         self.met("a closing at every one of several pairs", pairs > 1 && at.len() == pairs);
         self.met("more than ten closings", at.len() > 10);
-        let in_turn = done.records.windows(2).all(|two| two[0].number < two[1].number);
+        let records: Vec<&Record> = done.records.iter().filter_map(Cdr::s).collect();
+        let in_turn = records.windows(2).all(|two| two[0].number < two[1].number);
         let numbers = at.len() > 1 && in_turn;
         self.met("records in one batch that carry one number after another", numbers);
         let volume = |r: &Record| r.containers.iter().map(|c| c.uplink + c.downlink).sum::<u64>();
-        let exact = done.records.iter().any(|r| volume(r) == node.profile.volume_limit);
+        let exact = records.iter().any(|r| volume(r) == node.profile.volume_limit);
         self.met("volume limit met exactly by a pair that is not the first", exact && !first);
-        let differ = |record: &Record| {
+        let differ = |record: &&Record| {
             let last = record.containers.last().unwrap();
             last.uplink != last.downlink
         };
-        self.met("uplink and downlink differ in a record", done.records.iter().any(differ));
-        let earlier = done.records[0].containers.len() > 1;
+        self.met("uplink and downlink differ in a record", records.iter().any(differ));
+        let earlier = records[0].containers.len() > 1;
         self.met("containers of earlier events in a record", earlier);
     }
 

@@ -3,6 +3,7 @@
 
 mod aims;
 mod batches;
+mod subscribers;
 
 use crate::aims::Aims;
 use charging_model::batch::batch;
@@ -52,12 +53,28 @@ fn event_in_words(octets: &[u8]) -> String {
     if octets.len() < event::HEAD {
         return "under 7 octets".into();
     }
-    let kinds = ["?", "activate", "traffic", "QoS", "tariff", "release", "tick", "management"];
+    let kinds = [
+        "?",
+        "activate",
+        "traffic",
+        "QoS",
+        "tariff",
+        "release",
+        "tick",
+        "management",
+        "attach",
+        "location change",
+        "management of a subscriber",
+        "detach",
+    ];
     let kind = event::kind(octets);
     let mut words = format!("{} ({kind})", kinds.get(usize::from(kind)).unwrap_or(&"?"));
     words += &time_in_words(event::time(octets));
     if event::has_name(kind) && octets.len() >= 15 {
         words += &name_in_words(event::name(octets));
+    }
+    if event::of_subscriber(kind) && octets.len() >= 15 {
+        words += &format!(", IMSI {}", hex(&event::subscriber(octets)));
     }
     words
 }
@@ -157,9 +174,10 @@ fn compare(runs: &Path, expected: &Path, found: &Path) -> Result<bool, String> {
                     println!("run {name}, call {} of {}: the outputs differ", at + 1, made.len());
                     println!("{}", call_in_words(call));
                     println!(
-                        "  node     clock {}, {} contexts, {} events accepted",
+                        "  node     clock {}, {} contexts, {} subscribers, {} events accepted",
                         node.clock,
                         node.active(),
+                        node.attached(),
                         node.accepted
                     );
                     println!("  model    {}", shown(Some(one), first));

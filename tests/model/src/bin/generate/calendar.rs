@@ -21,11 +21,17 @@ impl Run {
         }
     }
 
-    /// Contexts that stay open for many years, then the end of 2099.
+    /// Contexts and subscribers that stay for many years, then the end of 2099.
     pub fn long_duration(&mut self) {
         self.activate_now();
         self.activate_now();
+        self.attach_now();
+        self.attach_now();
         self.say_at(2_600_000_000, What::Tariff);
+        for imsi in self.attached_imsis() {
+            self.go(imsi);
+            self.say_at(2_600_000_000, What::Detach(imsi, 4));
+        }
         for name in self.active_names() {
             self.say_at(2_600_000_000, What::Management(name));
         }

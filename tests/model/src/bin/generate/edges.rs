@@ -8,12 +8,12 @@ impl Run {
     /// Events of every length 0..300, with fitting and other contents.
     pub fn lengths(&mut self) {
         for length in 0..=300usize {
-            let kind = self.random.between(0, 8) as u8;
+            let kind = self.random.between(0, 12) as u8;
             let mut event: Vec<u8> = match self.random.below(4) {
                 0 => (0..300).map(|_| self.random.octet()).collect(),
                 1 => vec![self.random.octet(); 300],
                 _ => {
-                    let shaped = kind.clamp(1, 7);
+                    let shaped = kind.clamp(1, 11);
                     let mut event = self.shape(shaped, false);
                     event.resize(300, b'x');
                     event
@@ -127,10 +127,12 @@ impl Run {
 
     /// Kinds and marks, each with a fitting rest.
     pub fn heads(&mut self) {
-        for kind in [0, 8, 9, 128, 254, 255] {
-            let mut event = self.shape(event::TICK, false);
-            event[2] = kind;
-            self.call(&event, ROOM);
+        for kind in [0, 12, 13, 128, 254, 255] {
+            for rest in [event::TICK, event::ATTACH, event::DETACH] {
+                let mut event = self.shape(rest, false);
+                event[2] = kind;
+                self.call(&event, ROOM);
+            }
         }
         for mark in [[0xC3, 0x5A], [0x5E, 0xC3], [0xC3, 0x5F], [0xC2, 0x5E], [0, 0]] {
             let mut event = self.shape(event::TARIFF, false);

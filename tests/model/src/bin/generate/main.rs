@@ -1,13 +1,17 @@
 //! generate SEED COUNT DIR: writes DIR/000.profile, DIR/000.calls and so on,
-//! altogether COUNT events, and a batch after every few. The model runs beside
+//! altogether COUNT events of contexts and of subscribers, and a batch after
+//! every few. The model runs beside
 //! it, so that the generator can aim at limits, rooms and names.
 //! generate numbers DIR: writes DIR/numbers.profile and DIR/numbers.calls, in
 //! which one activation closes 32,776 records.
 
+mod attached;
 mod batches;
 mod calendar;
 mod edges;
 mod events;
+mod journeys;
+mod movements;
 mod names;
 mod numbers;
 mod parts;

@@ -36,13 +36,17 @@ impl Run {
             0 => self.random.pick(&[6, 7, 14, 15]),
             _ => self.random.between(6, 15) as usize,
         };
+        let imsi = match self.attached_imsi() {
+            Some(imsi) if self.random.percent(20) => imsi,
+            _ => self.imsi(digits),
+        };
         let length = match self.random.below(4) {
             0 => self.random.pick(&[1, 2, 62, 63]),
             _ => self.random.between(1, 63) as usize,
         };
         Start {
             flags: self.random.below(4) as u8,
-            imsi: self.imsi(digits),
+            imsi,
             pdp_type: [self.random.octet(), self.random.octet()],
             address: [self.random.octet(), self.random.octet(), 0, self.random.octet()],
             qos: self.qos(),

@@ -7,6 +7,9 @@ use charging_model::event::{self, octets, What, QOS_HIGHEST};
 impl Run {
     /// A valid event of a kind, for a name that is there or not.
     pub fn shape(&mut self, kind: u8, wrong_name: bool) -> Vec<u8> {
+        if event::of_subscriber(kind) {
+            return self.shape_of_subscriber(kind, wrong_name);
+        }
         let active = self.active_name();
         let name = match (kind == event::ACTIVATE) != wrong_name {
             false if active.is_some() => active.unwrap(),
@@ -29,8 +32,63 @@ impl Run {
         octets(time, &what)
     }
 
+    /// The same of the kinds 8 to 11.
+    fn shape_of_subscriber(&mut self, kind: u8, wrong_name: bool) -> Vec<u8> {
+        let attached = self.attached_imsi();
+        let imsi = match (kind == event::ATTACH) != wrong_name {
+            false if attached.is_some() => attached.unwrap(),
+            _ => self.free_imsi(),
+        };
+        let what = match kind {
+            event::ATTACH => What::Attach(imsi, self.any_place()),
+            event::LOCATION => What::Location(imsi, self.next_place(imsi)),
+            event::SUBSCRIBER_MANAGEMENT => What::SubscriberManagement(imsi),
+            _ => What::Detach(imsi, self.random.pick(&[0, 4])),
+        };
+        octets(self.time(), &what)
+    }
+
+    /// One half of an IMSI is no digit.
+    fn spoil_half(&mut self, imsi: &mut [u8]) {
+        let half = self.random.below(16);
+        let value = self.random.between(10, 15) as u8;
+        let octet = &mut imsi[half as usize / 2];
+        *octet = if half % 2 == 0 { *octet & 0xF0 | value } else { *octet & 15 | value << 4 };
+    }
+
+    /// An IMSI that is none, of each sort; seldom it is one all the same.
+    pub fn spoil_imsi(&mut self, imsi: &mut [u8]) {
+        match self.random.below(4) {
+            0 | 1 => {
+                let digits = self.random.pick(&[0, 1, 5, 16]);
+                imsi.copy_from_slice(&self.imsi(digits));
+            }
+            2 => self.spoil_half(imsi),
+            _ => {
+                // a digit after an F
+                let digits = self.random.between(6, 14) as usize;
+                imsi.copy_from_slice(&self.imsi(digits));
+                imsi[7] = imsi[7] & 0x0F | 0x10;
+            }
+        }
+    }
+
+    fn spoil_subscriber(&mut self, event: &mut [u8]) {
+        if event::kind(event) == event::DETACH && self.random.percent(60) {
+            event[15] = match self.random.below(3) {
+                0 => self.random.octet(),
+                _ => self.random.pick(&[1, 2, 3, 5, 16, 17, 18, 19, 20, 128, 255]),
+            };
+        } else {
+            self.spoil_imsi(&mut event[7..15]);
+        }
+    }
+
     pub fn spoil_field(&mut self, event: &mut [u8]) {
         let kind = event::kind(event);
+        if event::of_subscriber(kind) {
+            return self.spoil_subscriber(event);
+        }
         let qos_at = if kind == event::ACTIVATE { 30 } else { 15 };
         match kind {
             event::ACTIVATE if self.random.percent(70) => match self.random.below(4) {
@@ -39,16 +97,7 @@ impl Run {
                     let digits = self.random.pick(&[0, 1, 5, 16]);
                     event[16..24].copy_from_slice(&self.imsi(digits));
                 }
-                2 => {
-                    let half = self.random.below(16);
-                    let value = self.random.between(10, 15) as u8;
-                    let octet = &mut event[16 + half as usize / 2];
-                    *octet = if half % 2 == 0 {
-                        *octet & 0xF0 | value
-                    } else {
-                        *octet & 15 | value << 4
-                    };
-                }
+                2 => self.spoil_half(&mut event[16..24]),
                 _ => {
                     let at = self.random.between(36, event.len() as u64 - 1) as usize;
                     event[at] = self.random.octet();
@@ -86,6 +135,16 @@ impl Run {
     /// same.
     pub fn bad(&mut self) {
         let kind = self.random.between(1, 7) as u8;
+        self.bad_of(kind);
+    }
+
+    /// The same of a subscriber.
+    pub fn bad_of_subscriber(&mut self) {
+        let kind = self.random.between(event::ATTACH.into(), event::DETACH.into()) as u8;
+        self.bad_of(kind);
+    }
+
+    fn bad_of(&mut self, kind: u8) {
         let wrong_name = self.random.percent(35);
         let mut event = self.shape(kind, wrong_name);
         let mut room = if self.random.percent(50) { ROOM } else { 0 };
@@ -112,7 +171,7 @@ impl Run {
             event[35] = self.random.pick(&[0, 1, 63, 64, 128, 255]);
         }
         if event.len() > 2 && self.random.percent(10) {
-            event[2] = self.random.pick(&[0, 8, 9, 128, 255, 1, 2, 5]);
+            event[2] = self.random.pick(&[0, 8, 9, 10, 11, 12, 128, 255, 1, 2, 5]);
         }
         if !event.is_empty() && self.random.percent(15) {
             match self.random.below(4) {

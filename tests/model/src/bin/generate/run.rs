@@ -7,6 +7,7 @@ use charging_model::clock::LAST_SECOND;
 use charging_model::event::{self, octets, Name, What};
 use charging_model::node::Node;
 use charging_model::random::Random;
+use charging_model::subscriber::Imsi;
 use charging_model::{calls, step};
 use std::path::Path;
 
@@ -38,8 +39,9 @@ pub struct Run {
     pub count: usize,
     pub most: usize,
     pub batches: usize,
-    /// Names released in this run.
+    /// Names released in this run, and IMSIs detached.
     pub released: Vec<Name>,
+    pub detached: Vec<Imsi>,
 }
 
 impl Run {
@@ -61,6 +63,7 @@ impl Run {
             most,
             batches: 0,
             released: Vec::new(),
+            detached: Vec::new(),
         }
     }
 
@@ -75,10 +78,13 @@ impl Run {
         assert!(event.len() <= 300 && room <= ROOM);
         self.count += 1;
         calls::append(&mut self.calls, room, event);
-        let before = self.node.active();
+        let before = (self.node.active(), self.node.attached());
         let done = step::step(&self.node, event, room);
-        if done.answer == 0 && done.node.active() < before {
+        if done.answer == 0 && done.node.active() < before.0 {
             self.released.push(event::name(event));
+        }
+        if done.answer == 0 && done.node.attached() < before.1 {
+            self.detached.push(event::subscriber(event));
         }
         self.node = done.node;
         done.answer

@@ -1,5 +1,6 @@
 //! Ways to break each rule of "A sound node", each part of a rule by itself.
 
+use crate::break_subscribers as subscribers;
 use crate::limits::{any_active, set_zone};
 use crate::runs::{apn_character, imsi, node_id_character};
 use crate::sound::{record_volume, Range, RANGES};
@@ -109,16 +110,50 @@ breakers! {
     "QoS between containers" "other after 1, running" other_running;
     "volumes" "whole" volumes;
     "volumes" "whole" volumes_wrap;
+    "attached" "whole" subscribers::attached;
+    "free place" "imsi" subscribers::free_imsi;
+    "free place" "opening's lac" |n, r| done(subscribers::free(n, r)?.place.lac = some16(r));
+    "free place" "opening's rac" |n, r| done(subscribers::free(n, r)?.place.rac = some(r) as u8);
+    "free place" "opening's seconds"
+        |n, r| done(subscribers::free(n, r)?.opening.seconds = some32(r));
+    "free place" "opening's zone" |n, r| done(subscribers::free(n, r)?.opening.zone = some16(r));
+    "free place" "lac" |n, r| done(subscribers::free_change(n, r)?.place.lac = some16(r));
+    "free place" "rac" |n, r| done(subscribers::free_change(n, r)?.place.rac = some(r) as u8);
+    "free place" "seconds" |n, r| done(subscribers::free_change(n, r)?.time.seconds = some32(r));
+    "free place" "zone" |n, r| done(subscribers::free_change(n, r)?.time.zone = some16(r));
+    "free place" "count" |n, r| done(subscribers::free(n, r)?.count = some64(r));
+    "free place" "closed" |n, r| done(subscribers::free(n, r)?.closed = some64(r));
+    "free place" "imsi" |n, r| done(subscribers::taken(n, r)?.active = 0);
+    "unused change" "lac" |n, r| done(subscribers::unused(n, r)?.place.lac = some16(r));
+    "unused change" "rac" |n, r| done(subscribers::unused(n, r)?.place.rac = some(r) as u8);
+    "unused change" "seconds" |n, r| done(subscribers::unused(n, r)?.time.seconds = some32(r));
+    "unused change" "zone" |n, r| done(subscribers::unused(n, r)?.time.zone = some16(r));
+    "IMSIs" "whole" subscribers::imsis;
+    "subscriber's IMSI" "digits" subscribers::imsi_digits;
+    "subscriber's IMSI" "later halves" subscribers::imsi_later;
+    "subscriber's offset" "opening"
+        |n, r| done(other_zone(&mut subscribers::taken(n, r)?.opening.zone, r));
+    "subscriber's offset" "change"
+        |n, r| done(other_zone(&mut subscribers::change(n, r)?.time.zone, r));
+    "subscriber's closed records" "whole" subscribers::closed;
+    "location changes" "whole" subscribers::fifteenth;
+    "location changes" "whole" subscribers::count_high;
+    "places" "opening, change" subscribers::same_as_opening;
+    "places" "change, change" subscribers::same_as_before;
+    "subscriber's times" "opening, change" subscribers::opening_late;
+    "subscriber's times" "change, change" subscribers::change_late;
+    "subscriber's times" "change, clock" subscribers::clock_early;
+    "subscriber's times" "opening, clock" subscribers::opening_beyond;
 }
 
 // ---- values ----
 
-fn done(_: ()) -> Option<()> {
+pub fn done(_: ()) -> Option<()> {
     Some(())
 }
 
 /// A value above a number, if there is one; the next as often as others.
-fn above_of(random: &mut Random, high: u64, most: u64) -> u64 {
+pub fn above_of(random: &mut Random, high: u64, most: u64) -> u64 {
     match random.below(6) {
         _ if high >= most => most,
         0..=2 => high + 1,
@@ -143,7 +178,7 @@ fn bits(random: &mut Random, width: u64) -> u64 {
     }
 }
 
-fn some(random: &mut Random) -> u64 {
+pub fn some(random: &mut Random) -> u64 {
     bits(random, 8)
 }
 
@@ -155,12 +190,12 @@ fn some32(random: &mut Random) -> u32 {
     bits(random, 32) as u32
 }
 
-fn some64(random: &mut Random) -> u64 {
+pub fn some64(random: &mut Random) -> u64 {
     bits(random, 64)
 }
 
 /// A place, the first and the last more often than others.
-fn edge(random: &mut Random, from: usize, to: usize) -> usize {
+pub fn edge(random: &mut Random, from: usize, to: usize) -> usize {
     match random.below(4) {
         0 => from,
         1 => to - 1,
@@ -298,21 +333,28 @@ fn names(node: &mut Stored, random: &mut Random) -> Option<()> {
 // ---- the fields of a context ----
 
 fn imsi_digits(node: &mut Stored, random: &mut Random) -> Option<()> {
+    done(used(node, random)?.imsi = imsi_of_wrong_length(random))
+}
+
+fn imsi_later(node: &mut Stored, random: &mut Random) -> Option<()> {
+    done(used(node, random)?.imsi = imsi_with_later_half(random))
+}
+
+pub fn imsi_of_wrong_length(random: &mut Random) -> [u8; 8] {
     let digits = random.pick(&[5, 5, 16, 16, 0, 1, 4]);
-    done(used(node, random)?.imsi = imsi(random, digits))
+    imsi(random, digits)
 }
 
 /// A half after the digits is not F.
-fn imsi_later(node: &mut Stored, random: &mut Random) -> Option<()> {
+pub fn imsi_with_later_half(random: &mut Random) -> [u8; 8] {
     let digits = random.pick(&[6, 8, 14, 15]);
     let half = edge(random, digits, 16);
     let fewest = if half == digits { 10 } else { 0 };
     let wrong = random.between(fewest, 14) as u8;
-    let context = used(node, random)?;
-    context.imsi = imsi(random, digits);
-    let octet = &mut context.imsi[half / 2];
+    let mut imsi = imsi(random, digits);
+    let octet = &mut imsi[half / 2];
     *octet = if half % 2 == 0 { *octet & 0xF0 | wrong } else { *octet & 15 | wrong << 4 };
-    Some(())
+    imsi
 }
 
 fn apn_length(node: &mut Stored, random: &mut Random) -> Option<()> {
@@ -431,7 +473,7 @@ fn condition(node: &mut Stored, random: &mut Random) -> Option<()> {
 }
 
 /// A time after another one.
-fn later(random: &mut Random, than: u32) -> u32 {
+pub fn later(random: &mut Random, than: u32) -> u32 {
     above_of(random, than.min(u32::MAX - 1).into(), u32::MAX.into()) as u32
 }
 

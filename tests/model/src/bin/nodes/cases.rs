@@ -93,6 +93,17 @@ pub fn put_case(file: &mut Vec<u8>, case: &Case) {
     file.push(case.fill);
 }
 
+/// The result that the C program would write of this outcome.
+pub fn put_result(file: &mut Vec<u8>, case: &Case, outcome: &Outcome) {
+    file.push(outcome.answer);
+    if matches!(case.lent, Lent::Batch(_)) {
+        file.extend(outcome.applied.to_le_bytes());
+    }
+    file.extend(outcome.written.to_le_bytes());
+    put_difference(file, &case.node.octets(), &outcome.node);
+    put_difference(file, &area(case.room, case.fill), &outcome.area);
+}
+
 /// A file that is read from its start.
 pub struct File<'a>(pub &'a [u8]);
 

@@ -4,8 +4,9 @@ use crate::batches::pair_refused;
 use crate::cases::{Case, Lent};
 use crate::limits::LIMITS;
 use crate::sound::{broken, RULES};
-use crate::stored::{Stored, APN, NODE_ID, PLACES};
+use crate::stored::{Stored, APN, CHANGES, NODE_ID, PLACES};
 use charging_model::batch::{Batch, Batched};
+use charging_model::cdr::Cdr;
 use charging_model::node::MOST_ACCEPTED;
 use std::collections::hash_map::DefaultHasher;
 use std::collections::{BTreeMap, BTreeSet, HashSet};
@@ -34,6 +35,9 @@ pub struct Counts {
     limits: BTreeMap<&'static str, Twice>,
     answers: BTreeMap<u8, usize>,
     causes: BTreeMap<u8, usize>,
+    /// The same of M-CDRs, and by how many changes they list.
+    m_causes: BTreeMap<u8, usize>,
+    m_changes: BTreeMap<usize, usize>,
     /// Octets and places that were not zero and had to be.
     octets: BTreeMap<(&'static str, usize), usize>,
     batches: Batches,
@@ -66,8 +70,9 @@ const BATCH_MET: [&str; 13] = [
     "the last event that may be accepted",
 ];
 
-const ANSWERS: [u8; 13] = [0, 1, 2, 3, 4, 5, 6, 7, 8, 9, 10, 11, 13];
+const ANSWERS: [u8; 16] = [0, 1, 2, 3, 4, 5, 6, 7, 8, 9, 10, 11, 13, 15, 16, 17];
 const CAUSES: [u8; 7] = [0, 4, 16, 17, 18, 19, 20];
+const M_CAUSES: [u8; 4] = [0, 4, 19, 20];
 
 fn count<K: Ord>(counts: &mut BTreeMap<K, Twice>, key: K, most: bool) {
     let count = counts.entry(key).or_default();
@@ -106,13 +111,23 @@ impl Counts {
         }
         if let Some(done) = done {
             for record in &done.records {
-                *self.causes.entry(record.cause).or_default() += 1;
+                self.add_record(record);
             }
             for limit in LIMITS.iter().filter(|limit| (limit.at)(node)) {
                 count(&mut self.limits, limit.name, (limit.over)(node, done));
             }
         }
         self.add_octets(node);
+    }
+
+    fn add_record(&mut self, record: &Cdr) {
+        match record {
+            Cdr::S(record) => *self.causes.entry(record.cause).or_default() += 1,
+            Cdr::M(record) => {
+                *self.m_causes.entry(record.cause).or_default() += 1;
+                *self.m_changes.entry(record.changes.len()).or_default() += 1;
+            }
+        }
     }
 
     fn add_octets(&mut self, node: &Stored) {
@@ -139,6 +154,18 @@ impl Counts {
             }
             for at in (0..5).filter(|at| free && context.qos[*at] != 0) {
                 add("free slot's QoS octet", at);
+            }
+        }
+        for subscriber in &node.subscribers {
+            let free = subscriber.active == 0;
+            let from = if free { 0 } else { subscriber.used().len() };
+            let name = if free { "free place's change" } else { "unused change" };
+            let zero = Default::default();
+            for at in (from..CHANGES).filter(|at| subscriber.changes[*at] != zero) {
+                add(name, at);
+            }
+            for at in (0..8).filter(|at| free && subscriber.imsi[*at] != 0) {
+                add("free place's IMSI octet", at);
             }
         }
     }
@@ -173,6 +200,14 @@ impl Counts {
         for cause in CAUSES {
             line(format!("records with cause {cause}"), of(&self.causes, cause), TIMES);
         }
+        for cause in M_CAUSES {
+            let met = of(&self.m_causes, cause);
+            line(format!("M-CDRs with cause {cause}"), met, TIMES / 2);
+        }
+        for changes in [0, 1, 14, 15] {
+            let met = of(&self.m_changes, changes);
+            line(format!("M-CDRs with {changes} changes"), met, TIMES / 2);
+        }
         for (name, from, to) in [
             ("node ID's unused octet", 0, NODE_ID),
             ("APN's unused octet", 1, APN),
@@ -181,6 +216,9 @@ impl Counts {
             ("free slot's place", 0, PLACES),
             ("free slot's IMSI octet", 0, 8),
             ("free slot's QoS octet", 0, 5),
+            ("free place's IMSI octet", 0, 8),
+            ("free place's change", 0, CHANGES),
+            ("unused change", 0, CHANGES),
         ] {
             let least = (from..to).map(|at| of(&self.octets, (name, at))).min().unwrap();
             line(format!("or more: {name} not zero, each of {from}..{}", to - 1), least, 1);
@@ -226,7 +264,8 @@ impl Batches {
         met("11 in the middle", answer == 11 && done.applied > 0);
         met("11 with records kept", answer == 11 && !done.records.is_empty());
         met("several records", done.records.len() > 1);
-        met("a record of several containers", done.records.iter().any(|r| r.containers.len() > 1));
+        let several = |r: &Cdr| r.s().is_some_and(|r| r.containers.len() > 1);
+        met("a record of several containers", done.records.iter().any(several));
         let last = !full && done.node.accepted == MOST_ACCEPTED;
         met("the last event that may be accepted", last);
         for limit in LIMITS.iter().filter(|limit| (limit.at)(node)) {

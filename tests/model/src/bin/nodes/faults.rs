@@ -104,6 +104,11 @@ pub fn all() -> Vec<(Fault, String, String)> {
         "names-of-neighbours".into(),
         "a name is compared with the one before it alone".into(),
     ));
+    all.push((
+        Fault::Other("IMSIs", imsis_of_neighbours),
+        "imsis-of-neighbours".into(),
+        "an IMSI is compared with the one before it alone".into(),
+    ));
     for (name, what, change) in OUTCOMES {
         all.push((Fault::Changed(*change), name.to_string(), what.to_string()));
     }
@@ -116,4 +121,9 @@ pub fn all() -> Vec<(Fault, String, String)> {
 fn names_of_neighbours(node: &Stored, found: &mut Found) {
     let names: Vec<_> = node.active().map(Context::name).collect();
     found.unless("whole", names.windows(2).all(|pair| pair[0] != pair[1]));
+}
+
+fn imsis_of_neighbours(node: &Stored, found: &mut Found) {
+    let imsis: Vec<_> = node.attached().map(|s| s.imsi).collect();
+    found.unless("whole", imsis.windows(2).all(|pair| pair[0] != pair[1]));
 }

@@ -2,13 +2,15 @@
 
 use crate::runs;
 use crate::sound::record_volume;
-use crate::stored::{Context, Stored};
+use crate::stored::{Change, Context, Stamp, Stored, Subscriber};
 use charging_model::batch::Batched;
+use charging_model::cdr::Cdr;
 use charging_model::clock::LAST_SECOND;
 use charging_model::event::{octets, Name, What};
 use charging_model::node::MOST_ACCEPTED;
 use charging_model::random::Random;
 use charging_model::step::{step, CHANGES, VOLUME};
+use charging_model::subscriber::Place;
 
 /// A limit: its name; brings a node to it and says an event, or nothing where
 /// the node can't be brought there; whether a node is at it; and whether a call
@@ -29,7 +31,7 @@ macro_rules! limits {
 
 limits! {
     "closed = accepted - 1" closed, |n| some(n, |c| closed_at(n, c)),
-        |n, s| s.records.iter().any(|r| r.number == Some(n.accepted));
+        |n, s| s.records.iter().filter_map(Cdr::s).any(|r| r.number == Some(n.accepted));
     "changes = limit - 1" changes, |n| some(n, |c| changes_at(n, c)), |_, s| cause(s, CHANGES);
     "volume = limit - 1" volume, |n| some(n, |c| volume_at(n, c)), |_, s| cause(s, VOLUME);
     "accepted = 10^15" |n, r| accepted(n, r, MOST_ACCEPTED),
@@ -40,16 +42,39 @@ limits! {
     "change limit 1" |n, r| change_limit(n, r, 1),
         |n| n.profile.changes == 1, |_, s| cause(s, CHANGES);
     "change limit 15" fifteen, |n| n.profile.changes == 15,
-        |_, s| s.records.iter().any(|r| r.containers.len() == 15);
+        |_, s| s.records.iter().filter_map(Cdr::s).any(|r| r.containers.len() == 15);
     "volume limit 1" volume_limit, |n| n.profile.volume == 1, |_, s| cause(s, VOLUME);
     "offset -720" |n, r| zone(n, r, 0), |n| n.profile.zone == 0, |_, s| !s.records.is_empty();
     "offset 840" |n, r| zone(n, r, 1560),
         |n| n.profile.zone == 1560, |_, s| !s.records.is_empty();
     "all slots taken" full, |n| n.slots(0).is_empty(), |_, s| s.answer == 10;
+    "14 location changes" |n, r| one_more_change(n, r, 14),
+        |n| n.attached().any(|s| s.count == 14), |_, s| s.records.iter().any(by_changes);
+    "14 location changes, closed before the next" closed_before,
+        |n| n.attached().any(|s| s.count == 14), |_, s| s.records.iter().any(of_fourteen);
+    "13 location changes" |n, r| one_more_change(n, r, 13),
+        |n| n.attached().any(|s| s.count == 13), |_, s| s.answer == 0 && has_fourteen(s);
+    "a subscriber's closed = accepted - 1" closed_of_subscriber,
+        |n| n.attached().any(|s| s.closed + 1 == n.accepted),
+        |n, s| s.records.iter().filter_map(Cdr::m).any(|r| r.number == Some(n.accepted));
+    "all places taken" full_of_subscribers,
+        |n| n.places(0).is_empty(), |_, s| s.answer == 17;
+}
+
+fn by_changes(record: &Cdr) -> bool {
+    record.m().is_some_and(|record| record.cause == CHANGES)
+}
+
+fn of_fourteen(record: &Cdr) -> bool {
+    record.m().is_some_and(|record| record.changes.len() == 14)
+}
+
+fn has_fourteen(done: &Batched) -> bool {
+    done.node.subscribers.iter().flatten().any(|s| s.changes.len() == 14)
 }
 
 fn cause(done: &Batched, cause: u8) -> bool {
-    done.records.iter().any(|record| record.cause == cause)
+    done.records.iter().filter_map(Cdr::s).any(|record| record.cause == cause)
 }
 
 fn some(node: &Stored, at: impl Fn(&Context) -> bool) -> bool {
@@ -78,16 +103,22 @@ fn say(node: &Stored, random: &mut Random, what: What) -> Option<Vec<u8>> {
     Some(octets(runs::time(random, &node.view()), &what))
 }
 
+/// Many events were accepted, and no context or subscriber closed too much.
+fn many_accepted(node: &mut Stored, random: &mut Random) {
+    let closed = node.active().map(|c| c.closed).chain(node.attached().map(|s| s.closed));
+    let least = closed.max().unwrap_or_default() + 1;
+    let many = match random.percent(50) {
+        true => random.pick(&[128, 32_767, 32_768, 40_000, 65_535, 65_536, 1 << 31, 1 << 47]),
+        false => MOST_ACCEPTED - random.below(3),
+    };
+    node.accepted = many.max(least);
+}
+
 /// The next record has the number that was the accepted count.
 fn closed(node: &mut Stored, random: &mut Random) -> Option<Vec<u8>> {
     let slot = any_active(node, random)?;
     if random.percent(60) {
-        let least = node.active().map(|c| c.closed + 1).max()?;
-        let many = match random.percent(50) {
-            true => random.pick(&[128, 32_767, 32_768, 40_000, 65_535, 65_536, 1 << 31, 1 << 47]),
-            false => MOST_ACCEPTED - random.below(3),
-        };
-        node.accepted = many.max(least);
+        many_accepted(node, random);
     }
     let context = &mut node.contexts[slot];
     context.closed = node.accepted - 1;
@@ -229,6 +260,86 @@ fn volume_limit(node: &mut Stored, random: &mut Random) -> Option<Vec<u8>> {
     say(node, random, What::Traffic(node.contexts[slot].name(), up, down))
 }
 
+// ---- subscribers ----
+
+/// A subscriber, if there is one.
+fn any_attached(node: &Stored, random: &mut Random) -> Option<usize> {
+    let taken = node.places(1);
+    (!taken.is_empty()).then(|| random.pick(&taken))
+}
+
+/// Changes are stored up to so many; the subscriber that has them.
+fn store_changes(node: &mut Stored, random: &mut Random, count: u64) -> Option<Subscriber> {
+    let at = any_attached(node, random)?;
+    let now = Stamp { seconds: node.clock, zone: node.profile.zone };
+    let subscriber = &mut node.subscribers[at];
+    if subscriber.count > count {
+        return None;
+    }
+    while subscriber.count < count {
+        let place = runs::another_place(random, subscriber.place_in_force());
+        subscriber.changes[subscriber.count as usize] = Change { place, time: now };
+        subscriber.count += 1;
+    }
+    Some(*subscriber)
+}
+
+/// One change more, seldom to the same place: the fifteenth closes the record,
+/// cause 19, and the fourteenth does not.
+fn one_more_change(node: &mut Stored, random: &mut Random, count: u64) -> Option<Vec<u8>> {
+    let subscriber = store_changes(node, random, count)?;
+    let mut place = subscriber.place_in_force();
+    if random.percent(95) {
+        place = runs::another_place(random, place);
+    }
+    let place = Place { lac: place.lac, rac: place.rac };
+    say(node, random, What::Location(subscriber.imsi, place))
+}
+
+/// Management or a detach with fourteen changes.
+fn closed_before(node: &mut Stored, random: &mut Random) -> Option<Vec<u8>> {
+    let imsi = store_changes(node, random, 14)?.imsi;
+    let what = match random.percent(50) {
+        true => What::SubscriberManagement(imsi),
+        false => What::Detach(imsi, random.pick(&[0, 4])),
+    };
+    say(node, random, what)
+}
+
+/// The next M-CDR has the number that was the accepted count.
+fn closed_of_subscriber(node: &mut Stored, random: &mut Random) -> Option<Vec<u8>> {
+    let at = any_attached(node, random)?;
+    if random.percent(60) {
+        many_accepted(node, random);
+    }
+    let subscriber = &mut node.subscribers[at];
+    subscriber.closed = node.accepted - 1;
+    let imsi = subscriber.imsi;
+    let what = match random.below(4) {
+        0 => What::Tick,
+        1 => What::Detach(imsi, random.pick(&[0, 4])),
+        _ => What::SubscriberManagement(imsi),
+    };
+    say(node, random, what)
+}
+
+/// No more can be attached: neither another subscriber, nor one that is
+/// attached.
+fn full_of_subscribers(node: &mut Stored, random: &mut Random) -> Option<Vec<u8>> {
+    if !node.places(0).is_empty() {
+        return None;
+    }
+    let imsi = match any_attached(node, random) {
+        Some(at) if random.percent(20) => node.subscribers[at].imsi,
+        _ => runs::subscriber_name(random),
+    };
+    let what = match random.below(6) {
+        0 => What::Detach(imsi, 0),
+        _ => What::Attach(imsi, runs::place(random)),
+    };
+    say(node, random, what)
+}
+
 /// Every stored time has the profile's offset.
 pub fn set_zone(node: &mut Stored, zone: u16) {
     node.profile.zone = zone;
@@ -237,6 +348,13 @@ pub fn set_zone(node: &mut Stored, zone: u16) {
         let used = context.used().len();
         for container in &mut context.containers[..used] {
             container.time.zone = zone;
+        }
+    }
+    for subscriber in node.subscribers.iter_mut().filter(|s| s.active == 1) {
+        subscriber.opening.zone = zone;
+        let used = subscriber.used().len();
+        for change in &mut subscriber.changes[..used] {
+            change.time.zone = zone;
         }
     }
 }

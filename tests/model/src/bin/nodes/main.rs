@@ -6,8 +6,11 @@
 //! nodes compare CASES RESULTS: what the library did against the rules.
 //! nodes faults CASES RESULTS EVERY: the same with faults planted, each Nth.
 //! nodes shows CASES RESULTS: the first case that differs, of a faulty model.
+//! nodes play CASES RESULTS: writes the results of a library that keeps the
+//! rules, to try the rest without one.
 
 mod batches;
+mod break_subscribers;
 mod breaks;
 mod cases;
 mod counts;
@@ -17,11 +20,12 @@ mod limits;
 mod outcomes;
 mod runs;
 mod sound;
+mod sound_subscribers;
 mod stored;
 mod unseen;
 
 use crate::breaks::{Breaker, BREAKERS};
-use crate::cases::{put_case, Case, File, Lent, Outcome, GUARD};
+use crate::cases::{put_case, put_result, Case, File, Lent, Outcome, GUARD};
 use crate::counts::Counts;
 use crate::expected::{done, expected};
 use crate::limits::LIMITS;
@@ -202,7 +206,7 @@ impl Maker {
 fn make(seed: u64, rounds: usize) -> Vec<u8> {
     let mut maker = Maker { random: Random::new(seed), pool: Vec::new(), file: Vec::new() };
     // so many that there is one of each sort
-    for _ in 0..20 {
+    for _ in 0..40 {
         maker.reached();
     }
     for round in 0..rounds {
@@ -266,10 +270,12 @@ fn in_words(case: &Case) -> String {
         }
     };
     format!(
-        "  node   clock {}, {} events accepted, {} contexts; breaks: {}\n  {lent}\n  room   {}",
+        "  node   clock {}, {} events accepted, {} contexts, {} subscribers; breaks: {}\n  \
+         {lent}\n  room   {}",
         case.node.clock,
         case.node.accepted,
         case.node.active().count(),
+        case.node.attached().count(),
         if rules.is_empty() { "nothing".into() } else { rules.join(", ") },
         case.room
     )
@@ -389,6 +395,17 @@ fn plant(cases: &[u8], results: &[u8], every: usize) -> bool {
     failed == 0
 }
 
+/// The results of a library that keeps the rules.
+fn play(cases: &[u8]) -> Vec<u8> {
+    let mut cases = File(cases);
+    let mut results = Vec::new();
+    while !cases.is_empty() {
+        let case = cases.case().expect("a file of cases");
+        put_result(&mut results, &case, &expected(&case));
+    }
+    results
+}
+
 fn main() -> ExitCode {
     let args: Vec<String> = std::env::args().skip(1).collect();
     let args: Vec<&str> = args.iter().map(String::as_str).collect();
@@ -399,6 +416,7 @@ fn main() -> ExitCode {
             let made = make(number(seed), number(rounds) as usize);
             std::fs::write(cases, made).is_ok()
         }
+        ["play", cases, results] => std::fs::write(results, play(&read(cases))).is_ok(),
         ["compare", cases, results] => compare(&read(cases), &read(results)),
         ["faults", cases, results, every] => {
             plant(&read(cases), &read(results), number(every).max(1) as usize)
@@ -411,7 +429,7 @@ fn main() -> ExitCode {
         _ => {
             eprintln!("usage: nodes make SEED ROUNDS CASES");
             eprintln!(
-                "       nodes compare CASES RESULTS, or faults CASES RESULTS EVERY, or shows .."
+                "       nodes compare CASES RESULTS, or faults CASES RESULTS EVERY, shows, play .."
             );
             false
         }

@@ -3,6 +3,7 @@
 use crate::cases::{Case, Lent, Outcome, GUARD};
 use crate::expected::{of_sound, refused};
 use crate::faults::Change;
+use crate::sound::is_sound;
 use crate::stored::Stored;
 use charging_model::batch::Batch;
 use charging_model::clock::LAST_SECOND;
@@ -72,6 +73,71 @@ pub const OUTCOMES: &[(&str, &str, Change)] = &[
             o.answer = [8, 9, 10].into_iter().find(|number| row(case, *number)).unwrap_or(7);
         }
     }),
+    ("late-7-of-subscribers", "7 is answered after 15, 16 and 17", |o, case| {
+        if o.answer == 7 {
+            o.answer = [16, 15, 17].into_iter().find(|number| row(case, *number)).unwrap_or(7);
+        }
+    }),
+    (
+        "contexts-alone-unsound",
+        "13 for a subscriber is not answered to a context's event",
+        |o, case| {
+            let mut other = case.node.clone();
+            other.subscribers = Stored::zero().subscribers;
+            let kind = event(case).get(2).copied().unwrap_or_default();
+            if o.answer == 13 && is_sound(&other) && !event::of_subscriber(kind) {
+                o.answer = of_sound(case).answer;
+            }
+        },
+    ),
+    (
+        "subscribers-alone-unsound",
+        "13 for a context is not answered to a subscriber's event",
+        |o, case| {
+            let mut other = case.node.clone();
+            other.contexts = Stored::zero().contexts;
+            let kind = event(case).get(2).copied().unwrap_or_default();
+            if o.answer == 13 && is_sound(&other) && event::of_subscriber(kind) {
+                o.answer = of_sound(case).answer;
+            }
+        },
+    ),
+    ("attached-clock", "15, 16 and 17 move the clock", |o, case| {
+        if matches!(o.answer, 15..=17) {
+            o.node = with(case, |node| node.clock = event::time(event(case)));
+        }
+    }),
+    ("attached-counted", "15, 16 and 17 count as accepted events", |o, case| {
+        if matches!(o.answer, 15..=17) {
+            o.node = with(case, |node| node.accepted += 1);
+        }
+    }),
+    ("fifteenth-kept", "after 19 the fifteenth change stays where it was stored", |o, case| {
+        if o.answer == 0 && case.node.attached().any(|s| s.count == 14) && o.written > 300 {
+            after(o, |node| {
+                for s in node.subscribers.iter_mut().filter(|s| s.count == 0) {
+                    s.changes[14].place = s.place;
+                }
+            });
+        }
+    }),
+    ("highest-place", "attaching takes the highest free place", |o, case| {
+        if o.answer == 0 && event::kind(event(case)) == event::ATTACH {
+            let free = case.node.places(0);
+            after(o, |node| node.subscribers.swap(free[0], free[free.len() - 1]));
+        }
+    }),
+    ("detached-kept", "a place that comes free keeps its IMSI", |o, case| {
+        if o.answer == 0 && event::kind(event(case)) == event::DETACH {
+            after(o, |node| {
+                for (now, before) in node.subscribers.iter_mut().zip(&case.node.subscribers) {
+                    if now.active == 0 && before.active == 1 {
+                        now.imsi = before.imsi;
+                    }
+                }
+            });
+        }
+    }),
     ("hasty-7", "7 is answered before 6", |o, case| {
         if o.answer == 6 && case.node.accepted == MOST_ACCEPTED {
             o.answer = 7;
@@ -104,6 +170,18 @@ pub const OF_BATCHES: &[(&str, &str, Change)] = &[
     ("batch-unsound-clock", "13 moves the clock", |o, case| {
         if o.answer == 13 {
             o.node = with(case, |node| node.clock = batch(case).time);
+        }
+    }),
+    ("batch-subscribers-unseen", "13 for a subscriber is not answered to a batch", |o, case| {
+        let mut other = case.node.clone();
+        other.subscribers = Stored::zero().subscribers;
+        if o.answer == 13 && is_sound(&other) {
+            o.answer = of_sound(case).answer;
+        }
+    }),
+    ("batch-subscribers-cleared", "a batch frees the first place of a subscriber", |o, _| {
+        if o.applied > 0 {
+            after(o, |node| node.subscribers[0] = Default::default());
         }
     }),
     ("batch-odd-clock", "14 moves the clock", |o, case| {

@@ -1,12 +1,14 @@
 //! Sound nodes that are reached by events from a fresh node, and events for
 //! them.
 
+use crate::stored;
 use charging_model::clock::LAST_SECOND;
 use charging_model::event::{self, octets, Name, Qos, Start, What, QOS_HIGHEST};
 use charging_model::node::{Context, Node};
 use charging_model::profile::Profile;
 use charging_model::random::Random;
 use charging_model::step::{step, step_of_sound};
+use charging_model::subscriber::{Imsi, Place, Subscriber};
 
 /// Room for any output: sixteen records of 1,024 octets with their marks.
 pub const ROOM: usize = 16 * (2 + 1024);
@@ -142,6 +144,102 @@ pub fn active(random: &mut Random, node: &Node) -> Option<Context> {
     (!active.is_empty()).then(|| active[random.below(active.len() as u64) as usize].clone())
 }
 
+// ---- subscribers ----
+
+const LACS: [u16; 4] = [0, 1, 0x0100, 0xFFFF];
+const RACS: [u8; 3] = [0, 1, 0xFF];
+
+/// So few that names are met again, and some begin others.
+pub fn subscriber_name(random: &mut Random) -> Imsi {
+    let digits = random.pick(&[6, 6, 7, 8, 14, 15, 15]);
+    let mut imsi = imsi(random, digits);
+    // no half but the last ones differ in most
+    if random.percent(70) {
+        imsi[0] = 0x21;
+        imsi[1] = 0x43;
+    }
+    imsi
+}
+
+pub fn place(random: &mut Random) -> Place {
+    Place { lac: random.pick(&LACS), rac: random.pick(&RACS) }
+}
+
+/// A place that differs from another in LAC, in RAC or in both.
+pub fn other_place(random: &mut Random, old: Place) -> Place {
+    match random.below(4) {
+        0 => Place { lac: old.lac ^ 1 << random.below(16), ..old },
+        1 => Place { rac: old.rac ^ 1 << random.below(8), ..old },
+        _ => {
+            let place = place(random);
+            if place == old {
+                Place { lac: !old.lac, rac: !old.rac }
+            } else {
+                place
+            }
+        }
+    }
+}
+
+/// The same of a stored one.
+pub fn another_place(random: &mut Random, old: stored::Place) -> stored::Place {
+    stored::Place::store(other_place(random, Place { lac: old.lac, rac: old.rac }))
+}
+
+pub fn attached(random: &mut Random, node: &Node) -> Option<Subscriber> {
+    let attached: Vec<&Subscriber> = node.subscribers.iter().flatten().collect();
+    (!attached.is_empty()).then(|| attached[random.below(attached.len() as u64) as usize].clone())
+}
+
+/// Who may attach: sometimes an IMSI that a context has.
+fn newcomer(random: &mut Random, node: &Node) -> Imsi {
+    match active(random, node) {
+        Some(context) if random.percent(20) => context.start.imsi,
+        _ => subscriber_name(random),
+    }
+}
+
+/// What a subscriber may do next; the share of those that attach.
+fn next_of_subscriber(random: &mut Random, node: &Node, attaching: u64) -> What {
+    let Some(subscriber) = attached(random, node).filter(|_| !random.percent(attaching)) else {
+        return What::Attach(newcomer(random, node), place(random));
+    };
+    let imsi = subscriber.imsi;
+    match random.below(100) {
+        0..=84 => What::Location(imsi, other_place(random, subscriber.place_in_force())),
+        85..=89 => What::Location(imsi, subscriber.place_in_force()),
+        90..=95 => What::SubscriberManagement(imsi),
+        _ => What::Detach(imsi, random.pick(&[0, 4])),
+    }
+}
+
+/// An event of a subscriber for a node, as `event` has those of contexts.
+fn event_of_subscriber(random: &mut Random, node: &Node) -> What {
+    match attached(random, node) {
+        Some(subscriber) if random.percent(75) => {
+            let imsi = subscriber.imsi;
+            match random.below(12) {
+                0..=4 => What::Location(imsi, other_place(random, subscriber.place_in_force())),
+                5 => What::Location(imsi, subscriber.place_in_force()),
+                6 | 7 => What::SubscriberManagement(imsi),
+                8 => What::Attach(imsi, place(random)),
+                _ => What::Detach(imsi, random.pick(&[0, 4])),
+            }
+        }
+        _ => {
+            let imsi = newcomer(random, node);
+            match random.below(6) {
+                0 => What::Location(imsi, place(random)),
+                1 => What::SubscriberManagement(imsi),
+                2 => What::Detach(imsi, random.pick(&[0, 4])),
+                _ => What::Attach(imsi, place(random)),
+            }
+        }
+    }
+}
+
+// ---- runs and events ----
+
 /// A time from the clock on.
 pub fn time(random: &mut Random, node: &Node) -> u32 {
     let left = u64::from(LAST_SECOND.saturating_sub(node.clock));
@@ -187,9 +285,13 @@ pub fn run(random: &mut Random) -> Vec<Node> {
         _ => random.sized(1_000_000) as u32,
     };
     let mut nodes = vec![node.clone()];
-    let activating = random.pick(&[3, 10, 25, 60]);
-    for round in 0..random.between(8, 90) {
-        let what = next(random, &node, activating);
+    let activating = random.pick(&[3, 10, 25, 60, 60]);
+    let (roaming, attaching) = random.pick(&[(0, 0), (60, 60), (40, 25), (50, 3), (60, 10)]);
+    for round in 0..random.between(8, 120) {
+        let what = match random.percent(roaming) {
+            true => next_of_subscriber(random, &node, attaching),
+            false => next(random, &node, activating),
+        };
         let at = match round {
             0 => begin,
             // few jumps, so that records stay open
@@ -209,6 +311,7 @@ pub fn run(random: &mut Random) -> Vec<Node> {
 pub fn event(random: &mut Random, node: &Node) -> Vec<u8> {
     let mut at = time(random, node);
     let what = match active(random, node) {
+        _ if random.percent(35) => event_of_subscriber(random, node),
         Some(context) if random.percent(70) => match random.below(13) {
             0..=3 => {
                 let (up, down) = volumes(random, &context, node.profile.volume_limit);
@@ -248,7 +351,7 @@ fn spoil(random: &mut Random, event: &mut Vec<u8>, node: &Node) {
         0 => event.clear(),
         1 => event.truncate(random.below(7) as usize),
         2 | 7 => event[random.below(2) as usize] ^= 1 << random.below(8),
-        3 | 8 => event[2] = random.pick(&[0, 8, 255]),
+        3 | 8 => event[2] = random.pick(&[0, 12, 255]),
         4 => event.push(0),
         5 => event[3..7].copy_from_slice(&(LAST_SECOND + 1).to_be_bytes()),
         6 if node.clock > 0 => {
@@ -264,6 +367,13 @@ fn spoil_field(random: &mut Random, event: &mut Vec<u8>, kind: u8) {
         event::QOS if event.len() == 20 => {
             let level = random.below(5) as usize;
             event[15 + level] = QOS_HIGHEST[level] + 1;
+        }
+        event::DETACH if event.len() == 16 && random.percent(60) => {
+            event[15] = random.pick(&[1, 16, 17, 18, 19, 20, 255]);
+        }
+        event::ATTACH..=event::DETACH if event.len() >= 15 => {
+            let digits = random.pick(&[0, 5, 16]);
+            event[7..15].copy_from_slice(&imsi(random, digits));
         }
         event::RELEASE if event.len() == 16 => event[15] = random.pick(&[1, 16, 17, 255]),
         event::ACTIVATE if event.len() > 36 => match random.below(6) {

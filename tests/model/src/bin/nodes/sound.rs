@@ -1,6 +1,8 @@
 //! "A sound node", rule by rule, of a node with all its stored fields. Written
-//! from document 01 alone; words in quotes are the document's.
+//! from document 01 alone; words in quotes are the document's. The rules of
+//! subscribers (02, W4) are in sound_subscribers.rs.
 
+use crate::sound_subscribers as subscribers;
 use crate::stored::{within, Container, Context, Stored, APN, NODE_ID};
 use charging_model::event::{Name, Qos};
 
@@ -29,10 +31,12 @@ pub enum Range {
     Peak,
     Mean,
     Condition,
+    SubscriberDigits,
+    LocationChanges,
 }
 
 /// Each range that a rule speaks of: its name, its lowest and its highest.
-pub type Ranges = [(Range, &'static str, i128, i128); 21];
+pub type Ranges = [(Range, &'static str, i128, i128); 23];
 
 pub const RANGES: Ranges = [
     (Range::VolumeLimit, "volume limit", 1, 1_000_000_000_000),
@@ -58,6 +62,8 @@ pub const RANGES: Ranges = [
     (Range::Peak, "peak", 0, 9),
     (Range::Mean, "mean", 0, 18),
     (Range::Condition, "condition", 0, 1),
+    (Range::SubscriberDigits, "subscriber's IMSI's digits", 6, 15),
+    (Range::LocationChanges, "location changes", 0, 14),
 ];
 
 pub const QOS: [(Range, &str); 5] = [
@@ -84,7 +90,7 @@ pub struct Rule {
 pub const WHOLE: &[&str] = &["whole"];
 
 macro_rules! rules {
-    ($($name:literal $words:literal $parts:expr, $test:ident;)*) => {
+    ($($name:literal $words:literal $parts:expr, $test:path;)*) => {
         pub const RULES: &[Rule] =
             &[$(Rule { name: $name, words: $words, parts: $parts, test: $test }),*];
     };
@@ -126,6 +132,24 @@ rules! {
         "other after 1, running",
     ], qos_between;
     "volumes" "all volumes of the open record sum below the volume limit" WHOLE, volumes;
+    "attached" "a place is taken (1) or free (0)" WHOLE, subscribers::attached;
+    "free place" "free places of subscribers all zero"
+        subscribers::FREE_PARTS, subscribers::free_place;
+    "unused change" "unused changes all zero"
+        subscribers::CHANGE_PARTS, subscribers::unused_change;
+    "IMSIs" "IMSIs of subscribers distinct" WHOLE, subscribers::imsis;
+    "subscriber's IMSI" "fields in range: IMSI 6..15 digits, all later halves F"
+        &["digits", "later halves"], subscribers::imsi;
+    "subscriber's offset" "one offset: that of a stored time is the profile's"
+        &["opening", "change"], subscribers::stored_offset;
+    "subscriber's closed records" "closed records below the accepted count"
+        WHOLE, subscribers::closed;
+    "location changes" "at most 14 changes" WHOLE, subscribers::change_count;
+    "places" "A change to the same place is none, in .. sound nodes too"
+        &["opening, change", "change, change"], subscribers::places;
+    "subscriber's times" "opening, changes and clock in order" &[
+        "opening, change", "change, change", "change, clock", "opening, clock",
+    ], subscribers::times;
 }
 
 /// The test of a rule: it says the parts that a node breaks.
@@ -169,7 +193,7 @@ impl Found {
         }
     }
 
-    fn in_range(&self, range: Range, value: impl Into<i128>) -> bool {
+    pub fn in_range(&self, range: Range, value: impl Into<i128>) -> bool {
         let (_, _, low, high) = self.ranges[range as usize];
         (low..=high).contains(&value.into())
     }
@@ -321,12 +345,16 @@ fn flags(node: &Stored, found: &mut Found) {
 /// "IMSI 6..15 digits, low half first, all later halves F"
 fn imsi(node: &Stored, found: &mut Found) {
     for context in node.active() {
-        let halves: Vec<u8> = context.imsi.iter().flat_map(|o| [o & 15, o >> 4]).collect();
-        let digits = halves.iter().take_while(|half| **half < 10).count();
-        let mut later = halves[digits..].iter();
-        found.unless("digits", found.in_range(Range::ImsiDigits, digits as u8));
-        found.unless("later halves", later.all(|half| *half == 15));
+        imsi_of(&context.imsi, Range::ImsiDigits, found);
     }
+}
+
+pub fn imsi_of(imsi: &[u8; 8], range: Range, found: &mut Found) {
+    let halves: Vec<u8> = imsi.iter().flat_map(|o| [o & 15, o >> 4]).collect();
+    let digits = halves.iter().take_while(|half| **half < 10).count();
+    let mut later = halves[digits..].iter();
+    found.unless("digits", found.in_range(range, digits as u8));
+    found.unless("later halves", later.all(|half| *half == 15));
 }
 
 fn apn_length(node: &Stored, found: &mut Found) {

@@ -4,9 +4,13 @@
 use charging_model::event::{Name, Qos, Start};
 use charging_model::node;
 use charging_model::profile;
+use charging_model::subscriber;
 
 pub const SLOTS: usize = node::SLOTS;
 pub const PLACES: usize = 15;
+/// Places for subscribers, and for the location changes of one.
+pub const SUBSCRIBERS: usize = subscriber::SUBSCRIBERS;
+pub const CHANGES: usize = 15;
 pub const APN: usize = 63;
 pub const NODE_ID: usize = 20;
 /// "minutes from universal time plus 720"
@@ -50,6 +54,29 @@ pub struct Context {
 }
 
 #[derive(Clone, Copy, Debug, Default, PartialEq, Eq)]
+pub struct Place {
+    pub lac: u16,
+    pub rac: u8,
+}
+
+#[derive(Clone, Copy, Debug, Default, PartialEq, Eq)]
+pub struct Change {
+    pub place: Place,
+    pub time: Stamp,
+}
+
+#[derive(Clone, Copy, Debug, Default, PartialEq, Eq)]
+pub struct Subscriber {
+    pub active: u8,
+    pub imsi: [u8; 8],
+    pub place: Place,
+    pub opening: Stamp,
+    pub changes: [Change; CHANGES],
+    pub count: u64,
+    pub closed: u64,
+}
+
+#[derive(Clone, Copy, Debug, Default, PartialEq, Eq)]
 pub struct Profile {
     pub sgsn: u32,
     pub volume: u64,
@@ -66,6 +93,7 @@ pub struct Stored {
     pub clock: u32,
     pub accepted: u64,
     pub contexts: [Context; SLOTS],
+    pub subscribers: [Subscriber; SUBSCRIBERS],
 }
 
 /// A free slot: "all zero".
@@ -179,9 +207,77 @@ impl Context {
     }
 }
 
+impl Place {
+    fn view(self) -> subscriber::Place {
+        subscriber::Place { lac: self.lac, rac: self.rac }
+    }
+
+    pub fn store(place: subscriber::Place) -> Place {
+        Place { lac: place.lac, rac: place.rac }
+    }
+}
+
+impl Subscriber {
+    /// The location changes of the open record.
+    pub fn used(&self) -> &[Change] {
+        &self.changes[..within(self.count, CHANGES)]
+    }
+
+    pub fn unused(&self) -> &[Change] {
+        &self.changes[within(self.count, CHANGES)..]
+    }
+
+    pub fn place_in_force(&self) -> Place {
+        self.used().last().map_or(self.place, |change| change.place)
+    }
+
+    fn view(&self) -> subscriber::Subscriber {
+        let view = |c: &Change| subscriber::Change { place: c.place.view(), time: c.time.seconds };
+        subscriber::Subscriber {
+            imsi: self.imsi,
+            closed: self.closed,
+            place: self.place.view(),
+            opened: self.opening.seconds,
+            changes: self.used().iter().map(view).collect(),
+        }
+    }
+
+    fn store(subscriber: &subscriber::Subscriber, zone: u16) -> Subscriber {
+        let mut stored = Subscriber {
+            active: 1,
+            imsi: subscriber.imsi,
+            place: Place::store(subscriber.place),
+            opening: Stamp { seconds: subscriber.opened, zone },
+            count: subscriber.changes.len() as u64,
+            closed: subscriber.closed,
+            ..Subscriber::default()
+        };
+        for (stored, change) in stored.changes.iter_mut().zip(&subscriber.changes) {
+            let time = Stamp { seconds: change.time, zone };
+            *stored = Change { place: Place::store(change.place), time };
+        }
+        stored
+    }
+}
+
 impl Stored {
     pub fn zero() -> Stored {
-        Stored { profile: Profile::default(), clock: 0, accepted: 0, contexts: [FREE; SLOTS] }
+        Stored {
+            profile: Profile::default(),
+            clock: 0,
+            accepted: 0,
+            contexts: [FREE; SLOTS],
+            subscribers: [Subscriber::default(); SUBSCRIBERS],
+        }
+    }
+
+    pub fn attached(&self) -> impl Iterator<Item = &Subscriber> {
+        self.subscribers.iter().filter(|s| s.active == 1)
+    }
+
+    /// The places for subscribers with this `active`.
+    pub fn places(&self, active: u8) -> Vec<usize> {
+        (0..SUBSCRIBERS).filter(|at| self.subscribers[*at].active == active).collect()
     }
 
     pub fn active(&self) -> impl Iterator<Item = &Context> {
@@ -208,6 +304,8 @@ impl Stored {
         view.accepted = self.accepted;
         let slot = |c: &Context| (c.active == 1).then(|| c.view());
         view.slots = self.contexts.iter().map(slot).collect();
+        let place = |s: &Subscriber| (s.active == 1).then(|| s.view());
+        view.subscribers = self.subscribers.iter().map(place).collect();
         view
     }
 
@@ -230,6 +328,10 @@ impl Stored {
         stored.accepted = node.accepted;
         for (slot, context) in stored.contexts.iter_mut().zip(&node.slots) {
             *slot = context.as_ref().map_or(FREE, |c| Context::store(c, zone));
+        }
+        for (place, subscriber) in stored.subscribers.iter_mut().zip(&node.subscribers) {
+            let store = |s: &subscriber::Subscriber| Subscriber::store(s, zone);
+            *place = subscriber.as_ref().map(store).unwrap_or_default();
         }
         stored
     }
@@ -308,6 +410,26 @@ fn walk_context(walk: &mut impl Walk, context: &mut Context) {
     number!(walk, "closed", context.closed);
 }
 
+fn walk_place(walk: &mut impl Walk, place: &mut Place) {
+    number!(walk, "lac", place.lac);
+    number!(walk, "rac", place.rac);
+}
+
+fn walk_subscriber(walk: &mut impl Walk, subscriber: &mut Subscriber) {
+    number!(walk, "active", subscriber.active);
+    walk.field("imsi", &mut subscriber.imsi);
+    walk_place(walk, &mut subscriber.place);
+    walk_stamp(walk, &mut subscriber.opening);
+    for (at, change) in subscriber.changes.iter_mut().enumerate() {
+        walk.part(1, "change", at);
+        walk_place(walk, &mut change.place);
+        walk_stamp(walk, &mut change.time);
+    }
+    walk.part(1, "", 0);
+    number!(walk, "count", subscriber.count);
+    number!(walk, "closed", subscriber.closed);
+}
+
 fn walk_profile(walk: &mut impl Walk, profile: &mut Profile) {
     number!(walk, "sgsn", profile.sgsn);
     number!(walk, "volume", profile.volume);
@@ -326,6 +448,10 @@ impl Stored {
         for (at, context) in self.contexts.iter_mut().enumerate() {
             walk.part(0, "slot", at);
             walk_context(walk, context);
+        }
+        for (at, subscriber) in self.subscribers.iter_mut().enumerate() {
+            walk.part(0, "subscriber", at);
+            walk_subscriber(walk, subscriber);
         }
     }
 
@@ -357,7 +483,7 @@ impl Stored {
 }
 
 /// How many octets a node's fields have.
-pub const OCTETS: usize = 47 + 12 + SLOTS * (139 + PLACES * 28);
+pub const OCTETS: usize = 47 + 12 + SLOTS * (139 + PLACES * 28) + SUBSCRIBERS * (34 + CHANGES * 9);
 
 /// What the octet at a place belongs to.
 pub fn field_at(place: usize) -> String {

@@ -3,7 +3,10 @@
 
 use crate::faults::See;
 use crate::sound::record_volume;
-use crate::stored::{within, Container, Context, Stored, FREE, NODE_ID, PLACES, SLOTS};
+use crate::stored::{
+    within, Change, Container, Context, Place, Stored, Subscriber, CHANGES, FREE, NODE_ID, PLACES,
+    SLOTS, SUBSCRIBERS,
+};
 
 /// A name, what is wrong, the rule that sees so (or every one), and what it
 /// sees.
@@ -121,13 +124,102 @@ pub const UNSEEN: &[Unseen] = &[
     ("volumes-two-below", "the sum of volumes must be two below the limit", VOLUMES, |n| {
         n.profile.volume = n.profile.volume.max(2) - 1;
     }),
+    ("first-subscriber-unseen", "the first place of a subscriber is not looked at", None, |n| {
+        n.subscribers[0] = Subscriber::default();
+    }),
+    ("last-subscriber-unseen", "the last place of a subscriber is not looked at", None, |n| {
+        n.subscribers[SUBSCRIBERS - 1] = Subscriber::default();
+    }),
+    ("any-attached", "any active but 0 of a subscriber counts as 1", None, |n| {
+        n.subscribers.iter_mut().for_each(|s| s.active = s.active.min(1));
+    }),
+    ("first-change-unseen", "the first unused change is not looked at", None, |n| {
+        unused_changes(n, |changes| changes.first_mut());
+    }),
+    ("last-change-unseen", "the last unused change is not looked at", None, |n| {
+        unused_changes(n, |changes| changes.last_mut());
+    }),
+    ("fifteenth-unseen", "the change after the fourteenth is not looked at", None, |n| {
+        n.subscribers.iter_mut().for_each(|s| s.changes[CHANGES - 1] = Change::default());
+    }),
+    ("imsis-in-part", "IMSIs are compared in their first four octets", Some("IMSIs"), |n| {
+        each_subscriber(n, |s| s.imsi[4..].fill(0));
+    }),
+    ("imsis-but-first", "the first IMSI is compared with none", Some("IMSIs"), |n| {
+        if let Some(first) = n.subscribers.iter_mut().find(|s| s.active == 1) {
+            *first = Subscriber::default();
+        }
+    }),
+    ("imsis-of-contexts", "an IMSI must be no context's", Some("IMSIs"), |n| {
+        let context = n.active().next().map(|context| context.imsi);
+        if let (Some(imsi), Some(at)) = (context, n.places(0).first()) {
+            n.subscribers[*at] = Subscriber { active: 1, imsi, ..Subscriber::default() };
+        }
+    }),
+    ("attached-closed-may-meet", "closed records may meet the accepted count", CLOSED, |n| {
+        n.accepted = n.accepted.saturating_add(1);
+    }),
+    ("attached-closed-two-below", "closed records must be two below the count", CLOSED, |n| {
+        n.accepted = n.accepted.saturating_sub(1);
+    }),
+    ("places-by-lac", "places are compared by LAC alone", Some("places"), |n| {
+        each_place(n, |place| place.rac = 0);
+    }),
+    ("places-by-rac", "places are compared by RAC alone", Some("places"), |n| {
+        each_place(n, |place| place.lac = 0);
+    }),
+    ("change-times-strict", "equal times of two changes are out of order", TIMES, |n| {
+        each_subscriber(n, |s| {
+            for at in (1..s.used().len()).rev() {
+                if s.changes[at - 1].time.seconds == s.changes[at].time.seconds {
+                    s.changes[at - 1].time.seconds += 1;
+                }
+            }
+        });
+    }),
+    ("change-at-opening", "a change at the time of the opening is out of order", TIMES, |n| {
+        each_subscriber(n, |s| {
+            if s.used().first().is_some_and(|first| first.time.seconds == s.opening.seconds) {
+                s.opening.seconds += 1;
+            }
+        });
+    }),
+    ("attached-limit", "the changes must be below the profile's change limit", COUNT, |n| {
+        let limit = u64::from(n.profile.changes);
+        each_subscriber(n, |s| s.count += if s.count >= limit { CHANGES as u64 } else { 0 });
+    }),
 ];
+
+const CLOSED: Option<&str> = Some("subscriber's closed records");
+const TIMES: Option<&str> = Some("subscriber's times");
+const COUNT: Option<&str> = Some("location changes");
 
 const BETWEEN: Option<&str> = Some("QoS between containers");
 const VOLUMES: Option<&str> = Some("volumes");
 
 fn each(node: &mut Stored, change: impl Fn(&mut Context)) {
     node.contexts.iter_mut().filter(|c| c.active == 1).for_each(change);
+}
+
+fn each_subscriber(node: &mut Stored, change: impl Fn(&mut Subscriber)) {
+    node.subscribers.iter_mut().filter(|s| s.active == 1).for_each(change);
+}
+
+fn each_place(node: &mut Stored, change: impl Fn(&mut Place)) {
+    each_subscriber(node, |s| {
+        change(&mut s.place);
+        s.changes.iter_mut().for_each(|c| change(&mut c.place));
+    });
+}
+
+/// Clears one unused change of each subscriber.
+fn unused_changes(node: &mut Stored, which: fn(&mut [Change]) -> Option<&mut Change>) {
+    each_subscriber(node, |s| {
+        let from = within(s.count, CHANGES);
+        if let Some(change) = which(&mut s.changes[from..]) {
+            *change = Change::default();
+        }
+    });
 }
 
 /// Clears one unused octet of the node ID and of each APN.
