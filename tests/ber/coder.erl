@@ -1,5 +1,5 @@
-%% Codes S-CDRs with what Erlang's ASN.1 compiler made of SCDR.asn1, a line of
-%% the input file at a time:
+%% Codes S-CDRs and M-CDRs with what Erlang's ASN.1 compiler made of CDR.asn1, a
+%% line of the input file at a time:
 %%
 %%   encode: values -> the record's octets in hex, or "refused WHY"
 %%   decode: octets in hex -> "refused WHY", or
@@ -35,14 +35,14 @@ line("decode", Line) ->
     end.
 
 encode(Values) ->
-    try 'SCDR':encode('CallEventRecord', Values) of
+    try 'CDR':encode('CallEventRecord', Values) of
         {ok, Octets} -> {ok, Octets};
         {error, Why} -> {error, why(Why)}
     catch _:Why -> {error, why(Why)}
     end.
 
 decode(Octets) ->
-    try 'SCDR':decode('CallEventRecord', Octets) of
+    try 'CDR':decode('CallEventRecord', Octets) of
         {ok, Values, Rest} -> {ok, Values, Rest};
         {error, Why} -> {error, why(Why)}
     catch _:Why -> {error, why(Why)}

@@ -118,8 +118,8 @@ NUMBERS = [bytes.fromhex(x) for x in (
     "00010000000000000000").split()]
 
 
-def contents(octets, f):
-    """Other contents of a value that holds no others."""
+def contents(octets, f, flags):
+    """Other contents of a value that holds no others; `flags` are the tags of those that are TRUE."""
     tag, body = octets[f.start], octets[f.body : f.end]
     yield "padded with 00", tlv(tag, b"\x00" + body)
     yield "padded with FF", tlv(tag, b"\xff" + body)
@@ -134,7 +134,7 @@ def contents(octets, f):
     yield "contents in pieces", tlv(tag | 0x20, tlv(0x04, body))
     yield "contents in pieces", tlv(tag | 0x20, tlv(0x04, body[:1]) + tlv(0x04, body[1:]))
     yield "contents in pieces", tlv(tag | 0x20, tlv(tag, body))
-    if tag in (0x81, 0x92):
+    if tag in flags:
         for true in (0x01, 0x00, 0x7F, 0x80, 0xFE):
             yield "TRUE in another form", tlv(tag, bytes([true]))
     if len(body) < 8:
@@ -142,17 +142,17 @@ def contents(octets, f):
             yield "other number", tlv(tag, other)
 
 
-UNKNOWN = [bytes.fromhex(x) for x in (
-    "8101FF 810100 820100 8201FF 84080011223344556677 8600 8603330000 870101 88020001 89020001 9201FF 920100 "
-    "9400 B40380010A B700 B70A300806032A03048201 00 950102 950101 9600 960141 9700 9800 9F1F00 9F2000 BF1F00 "
-    "0500 0000 3000 02010C 0101FF 0C0141 A000 A10F800101810103820102830104840100 80 C000").split()
-    if len(x) % 2 == 0]
+# Fields of no kind; and fields that an S-CDR has, or that 001 gives it.
+NO_FIELDS = ("00 9700 9800 9F1F00 9F2000 BF1F00 0500 0000 3000 02010C 0101FF 0C0141 A000 80 C000 "
+             "A10F800101810103820102830104840100")
+UNKNOWN = ("8101FF 810100 820100 8201FF 84080011223344556677 8600 8603330000 870101 88020001 89020001 9201FF 920100 "
+           "9400 B40380010A B700 B70A300806032A03048201 950102 950101 9600 960141")
 
 
-def strange(octets, f):
+def strange(octets, f, unknown):
     """An unknown, unwanted or second field before this one."""
     own = octets[f.start : f.end]
-    for other in UNKNOWN:
+    for other in unknown:
         yield "unknown or unwanted field", other + own
 
 
@@ -184,20 +184,34 @@ def order(octets, f):
         yield "fields in other order", mended(octets, f, f.body, f.end, octets[first.end : f.end] + octets[first.start : first.end])
 
 
-def fields(octets):
+def fields(octets, shape):
     """Every damage to each field, the lengths around it mended."""
     for f in Field(octets, 0, None).all():
-        ways = [lengths, tags, family, strange] + ([] if f.kids else [contents])
+        ways = [lengths(octets, f), tags(octets, f), family(octets, f), strange(octets, f, shape.unknown)]
+        if not f.kids:
+            ways.append(contents(octets, f, shape.flags))
         for way in ways:
-            for name, new in way(octets, f):
+            for name, new in way:
                 yield name, mended(octets, f.parent, f.start, f.end, new)
         yield from order(octets, f)
+
+
+def long_fields(octets):
+    """Other lengths of the fields whose length takes more than one octet."""
+    for f in Field(octets, 0, None).all():
+        if f.end - f.body >= 128:
+            for name, new in lengths(octets, f):
+                yield name, mended(octets, f.parent, f.start, f.end, new)
+
+
+def child(octets, f, tag):
+    return next((k for k in f.kids if octets[k.start] == tag), None)
 
 
 def containers(octets):
     """Containers left out, doubled and added up to a sixteenth and more."""
     whole = Field(octets, 0, None)
-    held = next(k for k in whole.kids if octets[k.start] == 0xAF)
+    held = child(octets, whole, 0xAF)
     for i, c in enumerate(held.kids):
         own = octets[c.start : c.end]
         yield "container left out", mended(octets, held, c.start, c.end, b"")
@@ -214,7 +228,7 @@ def profiles(octets):
     """The QoS of a container left out, put in, or moved to the next one; conditions 0 and 1 taken for each
     other, with the next container as it was, without a QoS, and with one."""
     whole = Field(octets, 0, None)
-    held = next(k for k in whole.kids if octets[k.start] == 0xAF)
+    held = child(octets, whole, 0xAF)
     parts = [{octets[k.start]: octets[k.start : k.end] for k in c.kids} for c in held.kids]
 
     def with_parts(*edits):
@@ -262,19 +276,35 @@ def across(rng, octets, other, count):
         yield "field of another record", mended(octets, f.parent, f.start, f.end, other[g.start : g.end])
 
 
-def noise(rng, count):
+def noise(rng, count, outer):
     yield "no record at all", b""
     for size in (1, 2, 3, 1024, 1025, 65535):
         yield "no record at all", bytes(size)
-        yield "no record at all", b"\xa0" * size
+        yield "no record at all", bytes([outer]) * size
     for _ in range(count):
         yield "no record at all", rng.randbytes(rng.randrange(1, 200))
-        yield "no record at all", tlv(0xA0, rng.randbytes(rng.randrange(1, 200)))
+        yield "no record at all", tlv(outer, rng.randbytes(rng.randrange(1, 200)))
 
 
-def damaged(rng, sample, bases, full, whole):
-    """(damage, octets), no octets twice: `sample` in every way, `bases` in several;
-    of the `full` ones, with fifteen containers, the containers and their QoS only."""
+class Shape:
+    """What damage knows of a kind of record: its outer tag, the tags of what is TRUE, fields that are not its own or
+    too many, and the damages to its list."""
+
+    def __init__(self, outer, flags, unknown, lists):
+        self.outer, self.flags, self.lists = outer, flags, lists
+        self.unknown = [bytes.fromhex(x) for x in (unknown + " " + NO_FIELDS).split()]
+
+    def of_list(self, octets):
+        for damage in self.lists:
+            yield from damage(octets)
+
+
+SHAPE = Shape(0xA0, (0x81, 0x92), UNKNOWN, (containers, profiles))
+
+
+def damaged(rng, shape, sample, bases, full, others, whole):
+    """(damage, octets), no octets twice: `sample` in every way, `bases` in several; of the `full` ones, with fifteen
+    places taken, the list and the long lengths only; and `others`, which are records of another kind."""
     made = {}
 
     def keep(pairs):
@@ -283,20 +313,21 @@ def damaged(rng, sample, bases, full, whole):
                 made.setdefault(octets, name)
 
     keep(changed(sample, every if whole else several))
-    keep(noise(rng, 300 if whole else 30))
+    keep(noise(rng, 300 if whole else 30, shape.outer))
+    for other in others:
+        keep([("record of another kind", other), ("record of another kind", bytes([shape.outer]) + other[1:])])
     for base in [sample] + bases:
         keep(changed(base, several))
         keep(cut(base))
         keep(put_in(base))
         keep(after(base))
-        keep(fields(base))
-        keep(containers(base))
-        keep(profiles(base))
+        keep(fields(base, shape))
+        keep(shape.of_list(base))
         keep(twice(rng, base, 800 if whole else 80))
         keep(across(rng, base, rng.choice(bases or [sample]), 400 if whole else 40))
     for base in full:
-        keep(containers(base))
-        keep(profiles(base))
+        keep(long_fields(base))
+        keep(shape.of_list(base))
     for base in [sample] + bases + full:
         made.pop(base, None)
     return [(name, octets) for octets, name in made.items()]

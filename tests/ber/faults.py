@@ -5,7 +5,8 @@ usage: faults.py FOLDER COMMAND...            plants all of them
 
 A fault sits between the comparison and our program: it changes a block before
 our writer sees it, the line that our writer answers, the octets before our
-reader sees them, or the line that our reader answers.
+reader sees them, or the line that our reader answers. Here are the faults in
+S-CDRs; those in M-CDRs are in mm_faults.py.
 """
 
 import os
@@ -14,149 +15,24 @@ import subprocess
 import sys
 import tempfile
 
+import kinds
+import mm_faults
 import values
-from compare import AGAIN, BACK, DAMAGED, DECODES, ITSELF, KINDS, REFUSES, SAMPLE, WRITES, framed
-from damage import Field, mended, tlv
+from compare import AGAIN, BACK, DAMAGED, DECODES, ITSELF, REFUSES, SAMPLE, SORTS, WRITES, framed, label
+from damage import mended, tlv
+from edits import (Fault, bare, cut_off, edited, fields, if_sound, in_fields, in_line, in_read, length_128, length_255,
+                   longer, missing_answer, no_83, no_leap_day, plus_sign, plus_zero, put_after, put_last,
+                   short_lengths, short_number, turned, unpadded)
 from plain import HEAD, PLACE, SIZE
 
 HERE = os.path.dirname(os.path.abspath(__file__))
 OCTETS = {WRITES, DECODES}
-
-
-# Finding fields in octets
-
-
-def fields(octets, *path):
-    """The fields with the last tag of the path, below those with the tags before it."""
-    found = [Field(octets, 0, None)]
-    for tag in path:
-        found = [kid for f in found for kid in f.kids if octets[kid.start] == tag]
-    return found
-
-
-def sound(octets):
-    """The tree of a record that may be damaged, or None."""
-    def fits(f):
-        at = f.body
-        for kid in f.kids:
-            if kid.start != at or kid.end > f.end or not fits(kid):
-                return False
-            at = kid.end
-        return at == f.end or not f.kids
-    try:
-        tree = Field(octets, 0, None)
-        return tree if tree.end <= len(octets) and fits(tree) else None
-    except (IndexError, RecursionError):
-        return None
-
-
-def edited(octets, edit, *path):
-    """Every field at the path edited: edit gives octets for a tag and contents."""
-    for f in reversed(fields(octets, *path)):
-        new = edit(octets[f.start], octets[f.body : f.end])
-        # Editing from the last on: the places of those before stay right, but
-        # not the lengths around them, so the tree is read again each time.
-        again = next(g for g in fields(octets, *path) if g.start == f.start)
-        octets = mended(octets, again.parent, again.start, again.end, new)
-    return octets
-
-
-def in_line(edit):
-    """An edit of octets as an edit of a line of our writer."""
-    def change(block, line):
-        return line if line == "24" else edit(bytes.fromhex(line)).hex().upper()
-    return change
-
-
-def if_sound(edit):
-    """An edit of octets before our reader, where they have a tree at all."""
-    def change(octets):
-        if sound(octets) is None:
-            return octets
-        try:
-            return edit(octets)
-        except (IndexError, ValueError, StopIteration):
-            return octets
-    return change
-
-
-def replaced(octets, old, new):
-    return octets.replace(old, new, 1)
+STAMPS = ((0xAF, 0x30, 0x86), (0x90,))
+NUMBERS = ((0x8A,), (0x91,), (0x95,), (0xAF, 0x30, 0x83), (0xAF, 0x30, 0x84))
+TRUE = ((0x81,), (0x92,))
 
 
 # Edits of the writer's octets
-
-
-def short_charging_id(octets):
-    return edited(octets, lambda tag, body: tlv(tag, body[1:] if len(body) == 5 else body), 0x8A)
-
-
-def bare_address(octets):
-    return edited(octets, lambda tag, body: tlv(tag, body[2:]), 0xA5)
-
-
-def bare_served_address(octets):
-    return edited(octets, lambda tag, body: tlv(tag, body[2:]), 0xAE)
-
-
-def number_on_sole(octets):
-    if fields(octets, 0x95):
-        return octets
-    return edited(octets, lambda tag, body: tlv(tag, body) + b"\x95\x01\x01", 0x93)
-
-
-def longer_duration(octets):
-    def edit(tag, body):
-        value = int.from_bytes(body, "big") + 1
-        return tlv(tag, value.to_bytes(value.bit_length() // 8 + 1, "big"))
-    return edited(octets, edit, 0x91)
-
-
-def length_128(octets):
-    """The length 128 as 80 alone."""
-    for f in Field(octets, 0, None).all():
-        if f.end - f.body == 128:
-            return octets[: f.start + 1] + b"\x80" + octets[f.body :]
-    return octets
-
-
-def length_255(octets):
-    """Lengths from 128 on in three octets."""
-    for f in Field(octets, 0, None).all():
-        if 128 <= f.end - f.body < 256:
-            new = octets[f.start : f.start + 1] + b"\x82\x00" + octets[f.start + 2 : f.end]
-            return mended(octets, f.parent, f.start, f.end, new)
-    return octets
-
-
-def weak_true(octets):
-    octets = edited(octets, lambda tag, body: tlv(tag, b"\x01"), 0x81)
-    return edited(octets, lambda tag, body: tlv(tag, b"\x01"), 0x92)
-
-
-def empty_node_id(octets):
-    if fields(octets, 0x96):
-        return octets
-    whole = Field(octets, 0, None)
-    return mended(octets, whole, whole.end, whole.end, b"\x96\x00")
-
-
-def plus_sign(octets):
-    edit = lambda tag, body: tlv(tag, body[:6] + b"\x2b" + body[7:])
-    return edited(edited(octets, edit, 0xAF, 0x30, 0x86), edit, 0x90)
-
-
-def no_leap_day(octets):
-    edit = lambda tag, body: tlv(tag, body[:1] + b"\x03\x01" + body[3:] if body[1:3] == b"\x02\x29" else body)
-    return edited(edited(octets, edit, 0xAF, 0x30, 0x86), edit, 0x90)
-
-
-def number_before_cause(octets):
-    if not fields(octets, 0x95):
-        return octets
-    cause, number = fields(octets, 0x93)[0], fields(octets, 0x95)[0]
-    new = octets[number.start : number.end] + octets[cause.start : cause.end]
-    return mended(octets, cause.parent, cause.start, number.end, new)
 
 
 def with_profiles(octets, choose):
@@ -225,20 +101,6 @@ def full_refused(block, line):
 # Edits before and after the reader
 
 
-def unpadded(octets):
-    def edit(tag, body):
-        while len(body) > 1 and body[0] == 0 and body[1] < 128:
-            body = body[1:]
-        return tlv(tag, body)
-    for path in ((0x8A,), (0x91,), (0x95,), (0xAF, 0x30, 0x83), (0xAF, 0x30, 0x84)):
-        octets = edited(octets, edit, *path)
-    return octets
-
-
-def cut_off(octets):
-    return octets[: Field(octets, 0, None).end]
-
-
 def right_duration(octets):
     """The duration that the times give, whatever stands there."""
     text = lambda f: "x:" + octets[f.body : f.end].hex().upper()
@@ -249,9 +111,8 @@ def right_duration(octets):
         if value >= 0 else octets
 
 
-def any_true(octets):
-    edit = lambda tag, body: tlv(tag, b"\xff" if len(body) == 1 and body != b"\x00" else body)
-    return edited(edited(octets, edit, 0x81), edit, 0x92)
+def any_true(body):
+    return b"\xff" if len(body) == 1 and body != b"\x00" else body
 
 
 def fifteen(octets):
@@ -276,19 +137,6 @@ def any_profile(octets):
     return with_profiles(octets, lambda own, last, condition: own or (other(last) if condition in (None, 0) else b""))
 
 
-def short_lengths(octets):
-    def again(f):
-        body = b"".join(again(kid) for kid in f.kids) if f.kids else octets[f.body : f.end]
-        return tlv(octets[f.start], body)
-    tree = Field(octets, 0, None)
-    return again(tree) + octets[tree.end :]
-
-
-def plus_zero(octets):
-    edit = lambda tag, body: tlv(tag, replaced(body, b"\x2d\x00\x00", b"\x2b\x00\x00"))
-    return edited(edited(octets, edit, 0xAF, 0x30, 0x86), edit, 0x90)
-
-
 def any_cause(octets):
     """A record closed by a limit may go without its number."""
     if fields(octets, 0x95) or octets[fields(octets, 0x93)[0].body] not in (16, 17, 19, 20):
@@ -300,10 +148,6 @@ def without_its_number(octets, line):
     """.. and is shown without it."""
     changed = if_sound(any_cause)(octets) != octets
     return line[:198] + "0" * 16 + line[214:] if changed and line != "20" else line
-
-
-def swapped_back(octets, line):
-    return line if line == "20" else swapped_volumes(bytes.fromhex(line)).hex().upper()
 
 
 def first_profile_throughout(octets, line):
@@ -332,48 +176,44 @@ def no_full_list(octets, line):
     return "20" if line[256:258] == "0F" else line
 
 
-class Fault:
-    def __init__(self, name, kinds, block=None, written=None, octets=None, read=None, lines=None):
-        self.name, self.kinds = name, kinds
-        self.block, self.written, self.octets, self.read, self.lines = block, written, octets, read, lines
-
-
 FAULTS = [
-    Fault("charging ID in four octets with its top bit set", OCTETS, written=in_line(short_charging_id)),
-    Fault("an address under A5 without its inner 80", OCTETS, written=in_line(bare_address)),
-    Fault("the served address without the A0 around it", OCTETS, written=in_line(bare_served_address)),
+    Fault("charging ID in four octets with its top bit set", OCTETS, written=in_line(short_number(0x8A))),
+    Fault("an address under A5 without its inner 80", OCTETS, written=in_line(bare(0xA5))),
+    Fault("the served address without the A0 around it", OCTETS, written=in_line(bare(0xAE))),
     Fault("uplink and downlink swapped by the writer", OCTETS | {BACK}, block=swapped_volumes),
-    Fault("uplink and downlink swapped by writer and reader alike", OCTETS | {DAMAGED}, block=swapped_volumes, read=swapped_back),
+    Fault("uplink and downlink swapped by writer and reader alike", OCTETS | {DAMAGED}, block=swapped_volumes,
+          read=in_read(swapped_volumes)),
     Fault("delay and precedence swapped", OCTETS | {BACK}, block=swapped_qos),
     Fault("SGSN and GGSN address swapped", OCTETS | {BACK}, block=swapped_addresses),
     Fault("the QoS in the first container only", OCTETS | {BACK}, written=in_line(first_profile_only)),
     Fault("the QoS in every container", OCTETS | {BACK}, written=in_line(every_profile)),
-    Fault("number 1 on a sole record", OCTETS, written=in_line(number_on_sole)),
-    Fault("duration one too high", OCTETS, written=in_line(longer_duration)),
+    Fault("number 1 on a sole record", OCTETS, written=in_line(put_after(0x93, b"\x95\x01\x01"))),
+    Fault("duration one too high", OCTETS, written=in_line(longer(0x91))),
     Fault("length 128 in one octet", OCTETS, written=in_line(length_128)),
     Fault("lengths from 128 on in three octets", {WRITES, AGAIN}, written=in_line(length_255)),
-    Fault("TRUE as 01", {WRITES, AGAIN}, written=in_line(weak_true)),
-    Fault("an empty node ID written", OCTETS, written=in_line(empty_node_id)),
-    Fault("offsets below zero with the sign 2B", OCTETS, written=in_line(plus_sign)),
-    Fault("29 February written as 1 March", OCTETS, written=in_line(no_leap_day)),
-    Fault("the number before the cause", {WRITES, AGAIN}, written=in_line(number_before_cause)),
+    Fault("TRUE as 01", {WRITES, AGAIN}, written=in_line(in_fields(lambda body: b"\x01", *TRUE))),
+    Fault("an empty node ID written", OCTETS, written=in_line(put_last(b"\x96\x00"))),
+    Fault("offsets below zero with the sign 2B", OCTETS, written=in_line(in_fields(plus_sign, *STAMPS))),
+    Fault("29 February written as 1 March", OCTETS, written=in_line(in_fields(no_leap_day, *STAMPS))),
+    Fault("the number before the cause", {WRITES, AGAIN}, written=in_line(turned(0x93, 0x95))),
     Fault("octets where 24 is due: number 1 with a release", {REFUSES}, block=no_first_number),
     Fault("octets where 24 is due: octets after the node ID", {REFUSES}, block=no_unused),
     Fault("24 for fifteen containers", OCTETS, written=full_refused),
-    Fault("an answer of the writer left out", {WRITES, DECODES, ITSELF}, lines=lambda how, a: a[:300] + a[301:] if how == "write" else a),
-    Fault("the reader takes a padded integer", {DAMAGED}, octets=if_sound(unpadded)),
+    Fault("an answer of the writer left out", {WRITES, DECODES, ITSELF}, lines=missing_answer("write")),
+    Fault("the reader takes a padded integer", {DAMAGED}, octets=if_sound(in_fields(unpadded, *NUMBERS))),
     Fault("the reader takes octets after the record", {DAMAGED}, octets=if_sound(cut_off)),
     Fault("the reader takes any duration", {DAMAGED}, octets=if_sound(right_duration)),
-    Fault("the reader takes TRUE as 01", {DAMAGED}, octets=if_sound(any_true)),
+    Fault("the reader takes TRUE as 01", {DAMAGED}, octets=if_sound(in_fields(any_true, *TRUE))),
     Fault("the reader takes a sixteenth container", {DAMAGED}, octets=if_sound(fifteen)),
     Fault("the reader takes a QoS too many", {DAMAGED}, octets=if_sound(no_spare_profile)),
     Fault("the reader takes containers without a QoS", {DAMAGED}, octets=if_sound(any_profile)),
     Fault("the reader takes long-form lengths", {DAMAGED}, octets=if_sound(short_lengths)),
-    Fault("the reader takes the offset 2D 00 00", {DAMAGED}, octets=if_sound(plus_zero)),
+    Fault("the reader takes lengths from 256 on in 83 and three octets", {DAMAGED}, octets=if_sound(no_83)),
+    Fault("the reader takes the offset 2D 00 00", {DAMAGED}, octets=if_sound(in_fields(plus_zero, *STAMPS))),
     Fault("the reader takes a limit's record without its number", {DAMAGED}, octets=if_sound(any_cause), read=without_its_number),
     Fault("the reader fills the QoS in from the first container", {BACK}, read=first_profile_throughout),
     Fault("the reader answers another IMSI digit", {BACK, DAMAGED}, read=other_digit),
-    Fault("the reader answers numbers in 32 bits", {BACK, DAMAGED}, read=other_number),
+    Fault("the reader answers numbers in 32 bits", {BACK}, read=other_number),
     Fault("the reader refuses fifteen containers", {BACK}, read=no_full_list),
 ]
 
@@ -388,10 +228,16 @@ MODULE_FAULTS = [
 
 # Our program with a fault
 
+# Each fault with the kind of record it is about.
+ALL = [(kinds.S_CDR, fault) for fault in FAULTS] + [(kinds.M_CDR, fault) for fault in mm_faults.FAULTS]
+ALL_MODULES = [(kinds.S_CDR, *fault) for fault in MODULE_FAULTS] + [
+    (kinds.M_CDR, *fault) for fault in mm_faults.MODULE_FAULTS]
 
-def split(data, how):
-    if how == "write":
-        return [data[i : i + SIZE] for i in range(0, len(data), SIZE)]
+
+def split(data, size):
+    """Blocks of this size; or records, each after its length, where there is no size."""
+    if size:
+        return [data[i : i + size] for i in range(0, len(data), size)]
     parts, at = [], 0
     while at < len(data):
         size = int.from_bytes(data[at : at + 2], "big")
@@ -400,11 +246,12 @@ def split(data, how):
     return parts
 
 
-def stand_between(fault, command, how):
-    given = split(sys.stdin.buffer.read(), how)
-    change, answer = (fault.block, fault.written) if how == "write" else (fault.octets, fault.read)
+def stand_between(kind, fault, command, how):
+    writes = how == kind.write
+    given = split(sys.stdin.buffer.read(), kind.size if writes else None)
+    change, answer = (fault.block, fault.written) if writes else (fault.octets, fault.read)
     seen = [change(x) for x in given] if change else given
-    data = b"".join(seen) if how == "write" else framed(seen)
+    data = b"".join(seen) if writes else framed(seen)
     run = subprocess.run(command + [how], input=data, stdout=subprocess.PIPE, check=True)
     lines = run.stdout.decode().split("\n")[:-1]
     if answer:
@@ -417,70 +264,82 @@ def stand_between(fault, command, how):
 # All of them
 
 
-def compared(folder, command):
-    """How the comparison on the smaller set ended: its code, counts and text."""
-    run = subprocess.run([sys.executable, os.path.join(HERE, "compare.py"), "--small", folder] + command,
-                         stdout=subprocess.PIPE, stderr=subprocess.STDOUT, text=True)
+def compared(kind, folder, command):
+    """How the comparison on the smaller set ended: its code, counts, the sorts that failed, and text."""
+    run = subprocess.run(
+        [sys.executable, os.path.join(HERE, "compare.py"), "--small", "--kind", kind.name, folder] + command,
+        stdout=subprocess.PIPE, stderr=subprocess.STDOUT, text=True)
     last = re.fullmatch(r"(\d+) passed, (\d+) failed", run.stdout.rstrip("\n").rpartition("\n")[2])
-    kinds = {kind for kind in KINDS + (ITSELF,) if re.search(r"FAILED \d+ times: " + re.escape(kind) + "$", run.stdout, re.M)}
-    return run.returncode, last and tuple(int(x) for x in last.groups()), kinds, run.stdout
+    said = lambda sort: re.search(r"FAILED \d+ times: " + re.escape(label(kind, sort)) + "$", run.stdout, re.M)
+    found = {sort for sort in SORTS + (ITSELF,) if said(sort)}
+    return run.returncode, last and tuple(int(x) for x in last.groups()), found, run.stdout
 
 
 def faulty_module(place, old, new):
-    with open(os.path.join(HERE, "SCDR.asn1")) as file:
+    with open(os.path.join(HERE, "CDR.asn1")) as file:
         text = file.read()
     if old not in text:
         sys.exit(f"not in the module: {old}")
-    module = os.path.join(place, "SCDR.asn1")
+    module = os.path.join(place, "CDR.asn1")
     with open(module, "w") as file:
         file.write(text.replace(old, new))
     subprocess.run(["erlc", "-b", "ber", "+undec_rest", "+maps", "-o", place, module], check=True)
     subprocess.run(["erlc", "-o", place, os.path.join(HERE, "coder.erl")], check=True)
 
 
-def main(folder, command):
-    code, counts, _, text = compared(folder, command)
+def without_fault(kind, folder, command):
+    code, counts, _, text = compared(kind, folder, command)
     if code or not counts or counts[1]:
         print(text)
-        sys.exit("without a fault the comparison fails: faults show nothing")
-    print(f"without a fault: {counts[0]} comparisons, none fails")
+        sys.exit(f"without a fault the comparison of {kind.name}s fails: faults show nothing")
+    print(f"without a fault: {counts[0]} comparisons of {kind.name}s, none fails")
 
-    passed, failed, seen = 0, 0, set()
 
-    def judge(name, kinds, result):
-        nonlocal passed, failed
+class Judge:
+    def __init__(self):
+        self.passed, self.failed, self.seen = 0, 0, set()
+
+    def judge(self, kind, name, sorts, result):
         code, counts, found, text = result
         # A filter that breaks down shows nothing: the test itself fails then.
-        if code == 1 and counts and counts[1] and kinds <= found and (ITSELF in found) == (ITSELF in kinds):
-            passed += 1
-            seen.update(found)
-            print(f"stopped: {name} ({counts[1]} of {sum(counts)} fail)")
+        if code == 1 and counts and counts[1] and sorts <= found and (ITSELF in found) == (ITSELF in sorts):
+            self.passed += 1
+            self.seen.update((kind.name, sort) for sort in found)
+            print(f"stopped: {kind.name}: {name} ({counts[1]} of {sum(counts)} fail)")
         else:
-            failed += 1
-            print(f"NOT STOPPED: {name}\n  ended with {code}, {counts}, failed: {sorted(found)}\n  wanted: {sorted(kinds)}")
+            self.failed += 1
+            print(f"NOT STOPPED: {kind.name}: {name}\n  ended with {code}, {counts}, failed: {sorted(found)}\n"
+                  f"  wanted: {sorted(sorts)}")
             print("\n".join("  | " + line for line in text.splitlines()[-20:]))
 
-    every = int(os.environ.get("EVERY", "1"))
-    for number, fault in enumerate(FAULTS):
-        if number % every:
-            continue
-        between = [sys.executable, os.path.abspath(__file__), "--as", str(number)] + command
-        judge(fault.name, fault.kinds, compared(folder, between))
-    for name, (old, new) in MODULE_FAULTS[::every]:
+    def all_seen(self):
+        for kind in kinds.ALL:
+            for sort in SORTS:
+                if (kind.name, sort) not in self.seen:
+                    self.failed += 1
+                    print(f"NO FAULT made this fail: {label(kind, sort)}")
+
+
+def main(folder, command):
+    for kind in kinds.ALL:
+        without_fault(kind, folder, command)
+    every, judge = int(os.environ.get("EVERY", "1")), Judge()
+    for number, (kind, fault) in enumerate(ALL):
+        if number % every == 0:
+            between = [sys.executable, os.path.abspath(__file__), "--as", str(number)] + command
+            judge.judge(kind, fault.name, fault.sorts, compared(kind, folder, between))
+    for kind, name, (old, new) in ALL_MODULES[::every]:
         with tempfile.TemporaryDirectory() as place:
             faulty_module(place, old, new)
-            judge(name, {SAMPLE}, compared(place, command))
-
-    for kind in KINDS:
-        if every == 1 and kind not in seen:
-            failed += 1
-            print(f"NO FAULT made this fail: {kind}")
-    print(f"{passed} passed, {failed} failed")
-    return 1 if failed else 0
+            judge.judge(kind, name, {SAMPLE}, compared(kind, place, command))
+    if every == 1:
+        judge.all_seen()
+    print(f"{judge.passed} passed, {judge.failed} failed")
+    return 1 if judge.failed else 0
 
 
 if __name__ == "__main__":
     if sys.argv[1] == "--as":
-        stand_between(FAULTS[int(sys.argv[2])], sys.argv[3:-1], sys.argv[-1])
+        stand_between(*ALL[int(sys.argv[2])], sys.argv[3:-1], sys.argv[-1])
     else:
         sys.exit(main(sys.argv[1], sys.argv[2:]))

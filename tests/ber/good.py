@@ -1,4 +1,4 @@
-"""Records within the rules: the boundaries of every field, then seeded ones."""
+"""S-CDRs within the rules: the boundaries of every field, then seeded ones; and what M-CDRs share."""
 
 from datetime import datetime
 
@@ -33,6 +33,10 @@ MOMENTS = [0, 1, 59, 60, 3599, 3600, 86399, 86400, LAST - 1, LAST] + [
     for rest in ((2, 28), (3, 1), (12, 31)) for more in (0, 86399, 86400) if
     seconds(year, *rest) + more <= LAST]
 MONTHS = [seconds(year, month, 1) for year in range(2000, 2100) for month in range(1, 13)]
+LENGTHS = (127, 128, 255, 256)
+
+
+# What both kinds of records have
 
 
 def number_of_bits(rng, most):
@@ -46,17 +50,27 @@ def imsi(rng, digits=None):
     return bytes(halves[i] | halves[i + 1] << 4 for i in range(0, 16, 2))
 
 
-def profile(rng, before=None, same=False):
-    """A QoS profile: the one before, or one that differs, often in one value only."""
-    if same:
-        return before
-    while True:
-        qos = [rng.randint(0, top) for top in TOPS]
-        if before and rng.random() < 0.5:
-            place = rng.randrange(5)
-            qos = list(before[:place]) + [qos[place]] + list(before[place + 1 :])
-        if tuple(qos) != before:
-            return tuple(qos)
+def some_zone(rng):
+    return rng.choice((rng.choice(ZONES), 720, rng.randint(0, 1560)))
+
+
+def numbered(rng, cause, number, releases, closings):
+    """A cause and a number that go together; what is given stays."""
+    if cause is None:
+        cause = rng.choice(closings if number == 1 else releases if number == 0 else releases + closings)
+    if number is None:
+        any_number = min(NUMBERS, max(2, number_of_bits(rng, 50)))
+        number = rng.choice((0, 0, 2, any_number) if cause in releases else (1, 1, 2, any_number))
+    return cause, number
+
+
+def some_length(rng):
+    """Of a node ID."""
+    return rng.choice((0, rng.randrange(21)))
+
+
+def named(rng, length):
+    return dict(node_id_length=length, node_id=filled(bytes(rng.choices(PRINTED, k=length)), 20))
 
 
 def moments(rng, opening, count, duration):
@@ -69,6 +83,48 @@ def moments(rng, opening, count, duration):
         duration = min(duration, LAST - opening)
     return opening, sorted(rng.randint(opening, opening + duration) for _ in range(count - 1)) + [
         opening + duration]
+
+
+def shared_boundaries():
+    yield from ({"zone": x} for x in ZONES)
+    yield from ({"imsi_digits": n} for n in range(6, 16) for _ in range(8))
+    yield from ({"node_id_length": n} for n in range(21))
+
+
+def shared_wanted(r, duration, length):
+    yield from (f"number {x}" for x in RECORD_NUMBERS if r.number == x)
+    yield from (f"duration {x}" for x in DURATIONS if duration == x)
+    yield f"IMSI of {sum(h < 10 for o in r.imsi for h in (o & 15, o >> 4))} digits"
+    yield f"node ID of {r.node_id_length}"
+    yield f"cause {r.cause} and {'no' if r.number == 0 else 'the first' if r.number == 1 else 'a later'} number"
+    yield f"offset {r.zone - 720}"
+    yield from (f"time {x}" for x in MOMENTS if r.opening == x)
+    yield from (f"record of {x} octets inside" for x in LENGTHS if length == x)
+
+
+def shared_names(releases, closings):
+    names = [f"number {x}" for x in RECORD_NUMBERS] + [f"duration {x}" for x in DURATIONS]
+    names += [f"IMSI of {n} digits" for n in range(6, 16)] + [f"node ID of {n}" for n in range(21)]
+    names += [f"cause {c} and {n} number" for c in releases for n in ("no", "a later")]
+    names += [f"cause {c} and {n} number" for c in closings for n in ("the first", "a later")]
+    names += [f"offset {x}" for x in range(-720, 841)] + [f"time {x}" for x in MOMENTS]
+    return names + [f"record of {x} octets inside" for x in LENGTHS]
+
+
+# S-CDRs
+
+
+def profile(rng, before=None, same=False):
+    """A QoS profile: the one before, or one that differs, often in one value only."""
+    if same:
+        return before
+    while True:
+        qos = [rng.randint(0, top) for top in TOPS]
+        if before and rng.random() < 0.5:
+            place = rng.randrange(5)
+            qos = list(before[:place]) + [qos[place]] + list(before[place + 1 :])
+        if tuple(qos) != before:
+            return tuple(qos)
 
 
 def of_octets(rng, size):
@@ -98,7 +154,7 @@ def record(rng, *, containers=None, conditions=None, opening=None, duration=None
         opening = times[0] if opening is None else opening
     else:
         opening, times = moments(rng, opening, count, duration)
-    zone = rng.choice((rng.choice(ZONES), 720, rng.randint(0, 1560))) if zone is None else zone
+    zone = some_zone(rng) if zone is None else zone
 
     held = []
     for i, condition in enumerate([*conditions, 2]):
@@ -114,25 +170,19 @@ def record(rng, *, containers=None, conditions=None, opening=None, duration=None
     marked.uplink = marked.uplink if uplink is None else uplink
     marked.downlink = marked.downlink if downlink is None else downlink
 
-    if cause is None:
-        cause = rng.choice(CLOSINGS if number == 1 else RELEASES if number == 0 else RELEASES + CLOSINGS)
-    if number is None:
-        any_number = min(NUMBERS, max(2, number_of_bits(rng, 50)))
-        number = rng.choice((0, 0, 2, any_number) if cause in RELEASES else (1, 1, 2, any_number))
+    cause, number = numbered(rng, cause, number, RELEASES, CLOSINGS)
     if change is None:
         change = rng.randrange(2) if number <= 1 else 0
 
     apn_length = apn_length or rng.choice((1, rng.randrange(1, 20), rng.randrange(1, 64)))
     if node_id_length is None:
-        node_id_length = rng.choice((0, rng.randrange(21)))
+        node_id_length = some_length(rng)
     fields = dict(
         network=rng.randrange(2), imsi=imsi(rng, imsi_digits), sgsn=rng.randbytes(4),
         charging_id=number_of_bits(rng, 32), ggsn=rng.randbytes(4), apn_length=apn_length,
         apn=filled(bytes(rng.choices(APN_LETTERS, k=apn_length)), 63), pdp_type=rng.randbytes(2),
         address=rng.randbytes(4), opening=opening, zone=zone, change=change, cause=cause,
-        number=number, node_id_length=node_id_length,
-        node_id=filled(bytes(rng.choices(PRINTED, k=node_id_length)), 20), count=count,
-        places=places(held))
+        number=number, **named(rng, node_id_length), count=count, places=places(held))
     return Record(**{**fields, **others})
 
 
@@ -170,9 +220,7 @@ def boundaries():
     yield from ({"opening": x, "containers": n} for x in MOMENTS for n in (1, 4))
     yield from ({"opening": 0, "times": [0] * n} for n in range(1, 16))
     yield from ({"opening": LAST, "times": [LAST] * n} for n in range(1, 16))
-    yield from ({"zone": x} for x in ZONES)
-    yield from ({"imsi_digits": n} for n in range(6, 16) for _ in range(8))
-    yield from ({"node_id_length": n} for n in range(21))
+    yield from shared_boundaries()
     for letter in APN_LETTERS:
         yield {"apn_length": 2, "apn": filled(bytes([letter, 0x2E]), 63), "containers": 1}
     for letter in PRINTED:
@@ -231,40 +279,41 @@ def records(rng, count):
     return made + [record(rng) for _ in range(count - len(made))]
 
 
+# Records to damage: what they are like, and their most octets.
+TO_DAMAGE = [
+    (lambda r: r.network and r.change and r.number == 1 and r.node_id_length and r.count == 1, 170),
+    (lambda r: r.count == 2 and r.places[0].condition == 0, 190),
+    (lambda r: r.count == 2 and r.places[0].condition == 1 and r.node_id_length, 220),
+    (lambda r: r.count == 1 and r.charging_id >= 2**31 and r.number > 2**31 and not r.node_id_length, 150),
+    (lambda r: [c.condition for c in r.places[: r.count]] == [0, 1, 2] and r.network and r.zone < 720, 256),
+    (lambda r: r.count == 1 and r.change and r.number == 0 and r.zone == 720, 140),
+]
+
+
+def full(r):
+    """Fifteen containers, one without a QoS among them: more of it break no other rule."""
+    return r.count == 15 and any(a.condition == b.condition == 1 for a, b in zip(r.places, r.places[1:]))
+
+
 def wanted(r, length, list_length):
     """Names of the boundaries that a record with these lengths meets."""
     c = r.places[: r.count]
-    duration = c[-1].time - r.opening
+    yield from shared_wanted(r, c[-1].time - r.opening, length)
     yield from (f"charging ID {x}" for x in CHARGING_IDS if r.charging_id == x)
     yield from (f"uplink {x}" for x in VOLUMES if any(y.uplink == x for y in c))
     yield from (f"downlink {x}" for x in VOLUMES if any(y.downlink == x for y in c))
-    yield from (f"number {x}" for x in RECORD_NUMBERS if r.number == x)
-    yield from (f"duration {x}" for x in DURATIONS if duration == x)
     yield f"APN of {r.apn_length}"
-    yield f"IMSI of {sum(h < 10 for o in r.imsi for h in (o & 15, o >> 4))} digits"
-    yield f"node ID of {r.node_id_length}"
     yield f"{r.count} containers"
     seen = {x.condition for x in c[:-1]}
     yield from (f"{r.count} containers with {name}" for name, held in CONDITIONS.items() if seen == held)
-    yield f"cause {r.cause} and {'no' if r.number == 0 else 'the first' if r.number == 1 else 'a later'} number"
     yield f"SGSN change {r.change} with cause {r.cause}"
-    yield f"offset {r.zone - 720}"
-    yield from (f"time {x}" for x in MOMENTS if r.opening == x)
-    yield from (f"record of {x} octets inside" for x in (127, 128, 255, 256) if length == x)
-    yield from (f"containers of {x} octets" for x in (127, 128, 255, 256) if list_length == x)
+    yield from (f"containers of {x} octets" for x in LENGTHS if list_length == x)
 
 
 def all_wanted():
-    names = [f"charging ID {x}" for x in CHARGING_IDS]
+    names = shared_names(RELEASES, CLOSINGS) + [f"charging ID {x}" for x in CHARGING_IDS]
     names += [f"{way} {x}" for way in ("uplink", "downlink") for x in VOLUMES]
-    names += [f"number {x}" for x in RECORD_NUMBERS] + [f"duration {x}" for x in DURATIONS]
-    names += [f"APN of {n}" for n in range(1, 64)] + [f"IMSI of {n} digits" for n in range(6, 16)]
-    names += [f"node ID of {n}" for n in range(21)] + [f"{n} containers" for n in range(1, 16)]
+    names += [f"APN of {n}" for n in range(1, 64)] + [f"{n} containers" for n in range(1, 16)]
     names += [f"{n} containers with {name}" for name, held in CONDITIONS.items() for n in range(len(held) + 1, 16)]
-    names += [f"cause {c} and {n} number" for c in RELEASES for n in ("no", "a later")]
-    names += [f"cause {c} and {n} number" for c in CLOSINGS for n in ("the first", "a later")]
     names += [f"SGSN change {x} with cause {c}" for x in (0, 1) for c in RELEASES + CLOSINGS]
-    names += [f"offset {x}" for x in range(-720, 841)] + [f"time {x}" for x in MOMENTS]
-    names += [f"{what} {x} octets{inside}" for x in (127, 128, 255, 256)
-              for what, inside in (("record of", " inside"), ("containers of", ""))]
-    return names
+    return names + [f"containers of {x} octets" for x in LENGTHS]

@@ -1,4 +1,4 @@
-"""Records outside the rules, each breaking one rule that is named.
+"""S-CDRs outside the rules, each breaking one rule that is named; and what M-CDRs share.
 
 A breaker changes a record within the rules, in place. `blocks` gives plain
 forms; `wrong_values` gives values that Erlang can encode, for the reader.
@@ -86,8 +86,11 @@ def cause(rng, r):
     r.cause, r.number, r.change = rng.choice(NOT_CAUSES), 2, 0
 
 
+HIGH_NUMBERS = (NUMBERS + 1, NUMBERS + 2, 2**50, 2**62, 2**63, 2**64 - 1)
+
+
 def high_number(rng, r):
-    r.number, r.change = rng.choice((NUMBERS + 1, NUMBERS + 2, 2**50, 2**62, 2**63, 2**64 - 1)), 0
+    r.number, r.change = rng.choice(HIGH_NUMBERS), 0
 
 
 def no_number(rng, r):
@@ -205,14 +208,23 @@ def simply(name, choices):
     return break_it
 
 
-# What is broken, the breaker, and whether values of SCDR.asn1 can say it. (A QoS that differs after condition 1
-# is not written; where it is all the same, it is one too many.)
-BREAKERS = [
-    ("network initiation is 0 or 1", simply("network", (2, 3, 128, 255)), False),
+IMSI_BREAKERS = [
     ("IMSI has 6 to 15 digits", few_digits, False),
     ("IMSI has 6 to 15 digits", sixteen_digits, True),
     ("every half after the IMSI's digits is F", half_in_imsi, True),
     ("every half after the IMSI's digits is F", digit_after_imsi, True),
+]
+NODE_ID_BREAKERS = [
+    ("node ID has at most 20 characters", long_node_id, False),
+    ("node ID is characters 20 to 7E", node_id_letter, True),
+    ("octets after the node ID are zero", after_node_id, False),
+]
+
+# What is broken, the breaker, and whether values of CDR.asn1 can say it. (A QoS that differs after condition 1
+# is not written; where it is all the same, it is one too many.)
+BREAKERS = [
+    ("network initiation is 0 or 1", simply("network", (2, 3, 128, 255)), False),
+    *IMSI_BREAKERS,
     ("APN has 1 to 63 characters", no_apn, False),
     ("APN has 1 to 63 characters", long_apn, False),
     ("APN is letters, digits, '.' and '-'", apn_letter, True),
@@ -224,9 +236,7 @@ BREAKERS = [
     ("number is absent only with cause 0, 4 or 18", no_number, True),
     ("number is never 1 with cause 0, 4 or 18", first_number, True),
     ("SGSN change only with number absent or 1", later_change, True),
-    ("node ID has at most 20 characters", long_node_id, False),
-    ("node ID is characters 20 to 7E", node_id_letter, True),
-    ("octets after the node ID are zero", after_node_id, False),
+    *NODE_ID_BREAKERS,
     ("1 to 15 containers", no_container, False),
     ("1 to 15 containers", many_containers, False),
     ("unused container places are zero", unused_place, False),
@@ -308,8 +318,8 @@ def padded_imsi(rng, f):
     f["servedIMSI"] += "FF"
 
 
-def stamped(*edits):
-    """Puts digits into one of the time stamps, or into all of them."""
+def stamped(held, *edits):
+    """Puts digits into the opening, into the last time stamp of the list that is held, or into all of them."""
     def break_it(rng, f):
         place, digits = rng.choice(edits)
         place += len("x:")
@@ -318,7 +328,7 @@ def stamped(*edits):
         if which != 0:
             f["recordOpeningTime"] = write(f["recordOpeningTime"])
         if which != 1:
-            for c in f["listOfTrafficVolumes"][-1 if which == 0 else 0 :]:
+            for c in f.get(held, [])[-1 if which == 0 else 0 :]:
                 c["changeTime"] = write(c["changeTime"])
     return break_it
 
@@ -336,17 +346,35 @@ IPV6 = ["iPBinaryAddress", ["iPBinV6Address", "x:" + "00" * 16]]
 TEXT = ["iPTextRepresentedAddress", ["iPTextV4Address", "s:31302E302E302E31"]]
 TEXT6 = ["iPTextRepresentedAddress", ["iPTextV6Address", "s:" + "3A" * 15]]
 
-VALUE_BREAKERS = [
+
+def shared_breakers(held):
+    """Of values of both kinds, `held` being the name of the list in which time stamps stand."""
+    return [
+        ("IMSI takes half its digits, rounded up", padded_imsi),
+        ("no IMEI", put("servedIMEI", "x:0011223344556677")),
+        ("SGSN address is four binary octets", put("sgsnAddress", IPV6, TEXT, TEXT6)),
+        ("no classmark", put("msClassmark", "x:", "x:330000")),
+        ("no cell identity", put("cellIdentity", "x:0001")),
+        ("time stamps are BCD", stamped(held, (0, "A"), (1, "F"), (2, "0A"), (5, "B"), (7, "A"), (9, "C"), (11, "F"), (17, "A"), (19, "F"))),
+        ("dates and times of day exist", stamped(held, (2, "00"), (2, "13"), (2, "20"), (4, "00"), (2, "0230"), (0, "010229"), (2, "0431"), (4, "32"), (6, "24"), (8, "60"), (10, "60"), (10, "99"))),
+        ("a time stamp's sign is 2B or 2D", stamped(held, (12, "2C"), (12, "00"), (12, "2A"), (12, "FF"))),
+        ("an offset of zero has the sign 2B", stamped(held, (12, "2D0000"))),
+        ("an offset's minutes are at most 59", stamped(held, (12, "2B0060"), (12, "2B0099"), (12, "2D0060"), (12, "2D1160"))),
+        ("a time stamp's offset is from -720 to 840 minutes", stamped(held, (12, "2B1401"), (12, "2B1500"), (12, "2D1201"), (12, "2D1400"), (12, "2B9959"))),
+        ("no diagnostics", put("diagnostics", ["gsm0408Cause", 0], ["ccittQ767Cause", 16])),
+        ("number is 1 or more where it stands", put("recordSequenceNumber", 0, -1, -10**15)),
+        ("node ID is not empty where it stands", put("nodeID", "s:")),
+        ("node ID has at most 20 characters where it stands", put("nodeID", "s:" + "41" * 21, "s:" + "41" * 128)),
+        ("no extensions", put("recordExtensions", [])),
+    ]
+
+
+VALUE_BREAKERS = shared_breakers("listOfTrafficVolumes") + [
     ("record type is 18", put("recordType", "ggsnPDPRecord", "moCallRecord", "termCAMELIntRecord", 23, 255, -1, 18 + 256)),
     ("network initiation is TRUE where it stands", put("networkInitiation", False)),
     ("no anonymous access indicator", put("anonymousAccessIndicator", True, False)),
-    ("IMSI takes half its digits, rounded up", padded_imsi),
-    ("no IMEI", put("servedIMEI", "x:0011223344556677")),
-    ("SGSN address is four binary octets", put("sgsnAddress", IPV6, TEXT, TEXT6)),
-    ("no classmark", put("msClassmark", "x:", "x:330000")),
     ("no routing area", put("routingArea", "x:01")),
     ("no location area", put("locationAreaCode", "x:0001")),
-    ("no cell identity", put("cellIdentity", "x:0001")),
     ("GGSN address is four binary octets", put("ggsnAddressUsed", IPV6, TEXT, TEXT6)),
     ("served address is four binary octets", put("servedPDPAddress", ["iPAddress", IPV6], ["iPAddress", TEXT], ["iPAddress", TEXT6], ["eTSIAddress", "x:0A000001"])),
     ("at most 15 containers", sixteen),
@@ -355,19 +383,8 @@ VALUE_BREAKERS = [
     ("a container after condition 0 has its QoS", no_qos_after_0),
     ("no other container has a QoS", same_qos_again),
     ("no other container has a QoS", other_qos_again),
-    ("time stamps are BCD", stamped((0, "A"), (1, "F"), (2, "0A"), (5, "B"), (7, "A"), (9, "C"), (11, "F"), (17, "A"), (19, "F"))),
-    ("dates and times of day exist", stamped((2, "00"), (2, "13"), (2, "20"), (4, "00"), (2, "0230"), (0, "010229"), (2, "0431"), (4, "32"), (6, "24"), (8, "60"), (10, "60"), (10, "99"))),
-    ("a time stamp's sign is 2B or 2D", stamped((12, "2C"), (12, "00"), (12, "2A"), (12, "FF"))),
-    ("an offset of zero has the sign 2B", stamped((12, "2D0000"))),
-    ("an offset's minutes are at most 59", stamped((12, "2B0060"), (12, "2B0099"), (12, "2D0060"), (12, "2D1160"))),
-    ("a time stamp's offset is from -720 to 840 minutes", stamped((12, "2B1401"), (12, "2B1500"), (12, "2D1201"), (12, "2D1400"), (12, "2B9959"))),
     ("duration is the last container's time minus the opening", duration),
     ("SGSN change is TRUE where it stands", put("sgsnChange", False)),
-    ("no diagnostics", put("diagnostics", ["gsm0408Cause", 0], ["ccittQ767Cause", 16])),
-    ("number is 1 or more where it stands", put("recordSequenceNumber", 0, -1, -10**15)),
-    ("node ID is not empty where it stands", put("nodeID", "s:")),
-    ("node ID has at most 20 characters where it stands", put("nodeID", "s:" + "41" * 21, "s:" + "41" * 128)),
-    ("no extensions", put("recordExtensions", [])),
     ("1 to 15 containers", no_list),
     ("uplink is below 2^40", put_in_container("dataVolumeGPRSUplink", -1, -128, -129, -(2**39), 2**64)),
     ("downlink is below 2^40", put_in_container("dataVolumeGPRSDownlink", -1, -128, -129, -(2**39), 2**64)),
@@ -391,33 +408,22 @@ def one(rng, rule, breaker, judge, make):
     raise SystemExit(f"no record breaks just this: {rule}")
 
 
-def fresh(rng):
-    return copy(record(rng))
-
-
-def fresh_values(rng):
-    return values.of_record(record(rng))[1]
-
-
-def judge_values(fields):
-    return broken_values(["sgsnPDPRecord", fields])[0]
-
-
-def blocks(rng, each):
+def blocks(rng, each, *, breakers=BREAKERS, make=record, judge=broken):
     """(rule, record) `each` times a breaker."""
-    return [(rule, one(rng, rule, breaker, broken, fresh))
-            for rule, breaker, _ in BREAKERS for _ in range(each)]
+    return [(rule, one(rng, rule, breaker, judge, lambda rng: copy(make(rng))))
+            for rule, breaker, _ in breakers for _ in range(each)]
 
 
-def wrong_values(rng, each):
+def wrong_values(rng, each, *, breakers=BREAKERS, value_breakers=VALUE_BREAKERS, make=record,
+                 of_record=values.of_record, judge=broken_values):
     """(rule, values) that Erlang can encode."""
     made = []
-    for rule, breaker, sayable in BREAKERS:
+    for rule, breaker, sayable in breakers:
         for _ in range(each if sayable else 0):
-            def both(r):
-                return judge_values(values.of_record(r)[1])
-            made.append((rule, values.of_record(one(rng, rule, breaker, both, fresh))))
-    for rule, breaker in VALUE_BREAKERS:
+            r = one(rng, rule, breaker, lambda r: judge(of_record(r)[1])[0], lambda rng: copy(make(rng)))
+            made.append((rule, of_record(r)))
+    for rule, breaker in value_breakers:
         for _ in range(each):
-            made.append((rule, ["sgsnPDPRecord", one(rng, rule, breaker, judge_values, fresh_values)]))
+            made.append((rule, one(rng, rule, lambda rng, v: breaker(rng, v[1]), lambda v: judge(v[1])[0],
+                                   lambda rng: of_record(make(rng)))))
     return made

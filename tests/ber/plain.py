@@ -1,13 +1,32 @@
-"""The plain form of a record: a block of 549 octets, and its fields."""
+"""The plain forms of records: a block of 549 octets for an S-CDR, of 191 for an M-CDR."""
 
 import struct
 from dataclasses import dataclass, field, replace
 
+PLACES = 15
+
+
+def filled(octets, size):
+    return octets + bytes(max(0, size - len(octets)))
+
+
+def copy(r, **changes):
+    return replace(r, **{"places": [replace(c) for c in r.places], **changes})
+
+
+# S-CDRs
+
 HEAD = struct.Struct(">B8s4sI4sB63s2s4sIHBBQB20sB")
 PLACE = struct.Struct(">5sQQBIH")
-PLACES = 15
 SIZE = HEAD.size + PLACES * PLACE.size
 assert SIZE == 549
+
+FIELDS = [("network initiation", 1), ("IMSI", 8), ("SGSN address", 4), ("charging ID", 4), ("GGSN address", 4),
+          ("APN length", 1), ("APN", 63), ("PDP type", 2), ("PDP address", 4), ("opening time", 4),
+          ("opening zone", 2), ("SGSN change", 1), ("cause", 1), ("number", 8), ("node ID length", 1),
+          ("node ID", 20), ("container count", 1)] + [
+    (f"container {i + 1} {name}", size) for i in range(PLACES) for name, size in (
+        ("QoS", 5), ("uplink", 8), ("downlink", 8), ("condition", 1), ("time", 4), ("zone", 2))]
 
 
 @dataclass
@@ -45,12 +64,8 @@ class Record:
     places: list = field(default_factory=list)
 
 
-def filled(octets, size):
-    return octets + bytes(max(0, size - len(octets)))
-
-
-def places(containers):
-    return list(containers) + [BLANK] * (PLACES - len(containers))
+def places(used, blank=BLANK):
+    return list(used) + [blank] * (PLACES - len(used))
 
 
 def pack(r):
@@ -64,5 +79,50 @@ def pack(r):
     )
 
 
-def copy(r, **changes):
-    return replace(r, **{"places": [replace(c) for c in r.places], **changes})
+# M-CDRs
+
+MM_HEAD = struct.Struct(">8s4sHBIHIBQB20sB")
+MM_PLACE = struct.Struct(">HBIH")
+MM_SIZE = MM_HEAD.size + PLACES * MM_PLACE.size
+assert MM_SIZE == 191
+
+MM_FIELDS = [("IMSI", 8), ("SGSN address", 4), ("LAC", 2), ("RAC", 1), ("opening time", 4), ("opening zone", 2),
+             ("duration", 4), ("cause", 1), ("number", 8), ("node ID length", 1), ("node ID", 20),
+             ("change count", 1)] + [
+    (f"change {i + 1} {name}", size) for i in range(PLACES) for name, size in (
+        ("LAC", 2), ("RAC", 1), ("time", 4), ("zone", 2))]
+
+
+@dataclass
+class Change:
+    lac: int = 0
+    rac: int = 0
+    time: int = 0
+    zone: int = 0
+
+
+NO_CHANGE = Change()
+
+
+@dataclass
+class MMRecord:
+    imsi: bytes = bytes(8)
+    sgsn: bytes = bytes(4)
+    lac: int = 0
+    rac: int = 0
+    opening: int = 0
+    zone: int = 0
+    duration: int = 0
+    cause: int = 0
+    number: int = 0
+    node_id_length: int = 0
+    node_id: bytes = bytes(20)
+    count: int = 0
+    places: list = field(default_factory=list)
+
+
+def pack_mm(r):
+    return MM_HEAD.pack(
+        r.imsi, r.sgsn, r.lac, r.rac, r.opening, r.zone, r.duration, r.cause, r.number, r.node_id_length,
+        r.node_id, r.count,
+    ) + b"".join(MM_PLACE.pack(c.lac, c.rac, c.time, c.zone) for c in r.places)

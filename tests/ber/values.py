@@ -1,4 +1,4 @@
-"""A record as values of SCDR.asn1, as coder.erl reads and shows them."""
+"""A record as values of CDR.asn1, as coder.erl reads and shows them: what is common, and S-CDRs."""
 
 from datetime import datetime, timedelta
 
@@ -42,7 +42,6 @@ def hexed(data):
     return "x:" + data.hex().upper()
 
 
-
 # Time stamps
 
 
@@ -74,12 +73,8 @@ def stamp_fault(text):
     return None
 
 
-def stamps(fields):
-    return [fields["recordOpeningTime"]] + [c["changeTime"] for c in fields["listOfTrafficVolumes"]]
-
-
-def stamp_faults(fields):
-    return {stamp_fault(text) for text in set(stamps(fields))} - {None}
+def stamp_faults(texts):
+    return {stamp_fault(text) for text in set(texts)} - {None}
 
 
 def moment(text):
@@ -88,14 +83,6 @@ def moment(text):
     past = datetime(2000 + year, month, day, hour, minute, second) - START
     offset = int(text[16:18]) * 60 + int(text[18:20])
     return past.days * 86400 + past.seconds, 720 + (offset if text[14:16] == "2B" else -offset)
-
-
-def duration_fits(fields):
-    """Not judged where there is no right time to judge it by."""
-    if not fields["listOfTrafficVolumes"] or stamp_faults(fields):
-        return True
-    all_stamps = stamps(fields)
-    return fields["duration"] == moment(all_stamps[-1])[0] - moment(all_stamps[0])[0]
 
 
 # Addresses
@@ -108,19 +95,64 @@ def address(value):
     return None
 
 
-def served(value):
-    return address(value[1]) if value[0] == "iPAddress" else None
-
-
 def of_address(data):
     return ["iPBinaryAddress", ["iPBinV4Address", hexed(data)]]
 
 
-# Whole records
+# What both kinds of records have
 
 
 def of_imsi(imsi):
     return hexed(imsi.rstrip(b"\xff"))
+
+
+def of_shared(r):
+    fields = {
+        "servedIMSI": of_imsi(r.imsi),
+        "sgsnAddress": of_address(r.sgsn),
+        "recordOpeningTime": stamp(r.opening, r.zone),
+        "causeForRecClosing": CAUSE_NAMES.get(r.cause, r.cause),
+    }
+    if r.number:
+        fields["recordSequenceNumber"] = r.number
+    if r.node_id_length:
+        fields["nodeID"] = "s:" + r.node_id[: r.node_id_length].hex().upper()
+    return fields
+
+
+def to_shared(fields):
+    node_id = octets(fields.get("nodeID", "s:"))
+    opening, zone = moment(fields["recordOpeningTime"])
+    cause = fields["causeForRecClosing"]
+    return dict(
+        imsi=octets(fields["servedIMSI"]).ljust(8, b"\xff"),
+        sgsn=address(fields["sgsnAddress"]),
+        opening=opening,
+        zone=zone,
+        cause=CAUSES.get(cause, cause),
+        number=fields.get("recordSequenceNumber", 0),
+        node_id_length=len(node_id),
+        node_id=filled(node_id, 20),
+    )
+
+
+# S-CDRs
+
+
+def stamps(fields):
+    return [fields["recordOpeningTime"]] + [c["changeTime"] for c in fields["listOfTrafficVolumes"]]
+
+
+def duration_fits(fields):
+    """Not judged where there is no right time to judge it by."""
+    if not fields["listOfTrafficVolumes"] or stamp_faults(stamps(fields)):
+        return True
+    all_stamps = stamps(fields)
+    return fields["duration"] == moment(all_stamps[-1])[0] - moment(all_stamps[0])[0]
+
+
+def served(value):
+    return address(value[1]) if value[0] == "iPAddress" else None
 
 
 def of_qos(qos):
@@ -143,27 +175,20 @@ def of_container(c, before):
 def of_record(r):
     containers = r.places[: r.count]
     fields = {
+        **of_shared(r),
         "recordType": "sgsnPDPRecord",
-        "servedIMSI": of_imsi(r.imsi),
-        "sgsnAddress": of_address(r.sgsn),
         "chargingID": r.charging_id,
         "ggsnAddressUsed": of_address(r.ggsn),
         "accessPointName": "s:" + r.apn[: r.apn_length].hex().upper(),
         "pdpType": hexed(r.pdp_type),
         "servedPDPAddress": ["iPAddress", of_address(r.address)],
         "listOfTrafficVolumes": [of_container(c, before) for before, c in zip([None] + containers, containers)],
-        "recordOpeningTime": stamp(r.opening, r.zone),
         "duration": containers[-1].time - r.opening,
-        "causeForRecClosing": CAUSE_NAMES.get(r.cause, r.cause),
     }
     if r.network:
         fields["networkInitiation"] = True
     if r.change:
         fields["sgsnChange"] = True
-    if r.number:
-        fields["recordSequenceNumber"] = r.number
-    if r.node_id_length:
-        fields["nodeID"] = "s:" + r.node_id[: r.node_id_length].hex().upper()
     return ["sgsnPDPRecord", fields]
 
 
@@ -187,29 +212,19 @@ def to_container(c, before):
 def to_record(fields):
     """Of fields that keep `rules.value_rules`."""
     apn = octets(fields["accessPointName"])
-    node_id = octets(fields.get("nodeID", "s:"))
-    opening, zone = moment(fields["recordOpeningTime"])
     containers = []
     for c in fields["listOfTrafficVolumes"]:
         containers.append(to_container(c, containers[-1] if containers else None))
-    cause = fields["causeForRecClosing"]
     return Record(
+        **to_shared(fields),
         network=int("networkInitiation" in fields),
-        imsi=octets(fields["servedIMSI"]).ljust(8, b"\xff"),
-        sgsn=address(fields["sgsnAddress"]),
         charging_id=fields["chargingID"],
         ggsn=address(fields["ggsnAddressUsed"]),
         apn_length=len(apn),
         apn=filled(apn, 63),
         pdp_type=octets(fields["pdpType"]),
         address=served(fields["servedPDPAddress"]),
-        opening=opening,
-        zone=zone,
         change=int("sgsnChange" in fields),
-        cause=CAUSES.get(cause, cause),
-        number=fields.get("recordSequenceNumber", 0),
-        node_id_length=len(node_id),
-        node_id=filled(node_id, 20),
         count=len(containers),
         places=places(containers),
     )
