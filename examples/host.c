@@ -1,5 +1,5 @@
-/* A host that charges two sessions through the library: a node where it lies, events one by one and reports by the minute, the record list on
- * standard output in hex, and what was refused. See tests/host/run for how it is built. */
+/* A host that charges two sessions and a phone that only attaches through the library: a node where it lies, events one by one and reports by
+ * the minute, the record list on standard output in hex, and what was refused. See tests/host/run for how it is built. */
 #include "charging.h"
 
 int printf(const char *, ...);
@@ -26,6 +26,12 @@ static uint8_t activate_again[sizeof activate];
 static const uint32_t reports[] = { 400, 599, 0, 1, 600, 400, 5 };
 /* time 60: release 0 */
 static const uint8_t release_again[] = { 0xC3, 0x5E, 5, 0, 0, 0, 60, 0, 0, 0, 1, 10, 0, 0, 2, 0 };
+
+/* a phone, IMSI 001010123456789: time 61: attach at LAC 1A2B, RAC 07; 62: at RAC 08; 63: management; 64: detach 0 */
+static const uint8_t attach[] = { 0xC3, 0x5E, 8, 0, 0, 0, 61, 0x00, 0x01, 0x01, 0x21, 0x43, 0x65, 0x87, 0xF9, 0x1A, 0x2B, 0x07 };
+static const uint8_t move[] = { 0xC3, 0x5E, 9, 0, 0, 0, 62, 0x00, 0x01, 0x01, 0x21, 0x43, 0x65, 0x87, 0xF9, 0x1A, 0x2B, 0x08 };
+static const uint8_t manage[] = { 0xC3, 0x5E, 10, 0, 0, 0, 63, 0x00, 0x01, 0x01, 0x21, 0x43, 0x65, 0x87, 0xF9 };
+static const uint8_t detach[] = { 0xC3, 0x5E, 11, 0, 0, 0, 64, 0x00, 0x01, 0x01, 0x21, 0x43, 0x65, 0x87, 0xF9, 0 };
 
 static void written(size_t n) {
     printf(", %zu octets", n);
@@ -69,6 +75,15 @@ int main(void) {
     batch("reports, with a room of 116", reports, 6, 116);
     batch("those that were left", reports + 4, 2, sizeof out);
     step("release, at 60", release_again, sizeof release_again, sizeof out);
+    printf("clock %u, accepted %u\n", node.clock, (unsigned)node.accepted);
+    step("attach", attach, sizeof attach, sizeof out);
+    step("the same again", attach, sizeof attach, sizeof out);
+    step("another place", move, sizeof move, sizeof out);
+    printf("place %04X %02X, changes %zu\n", node.subscribers[0].place.lac, node.subscribers[0].place.rac, node.subscribers[0].count);
+    step("management", manage, sizeof manage, sizeof out);
+    step("detach, with a room of 51", detach, sizeof detach, 51);
+    step("detach", detach, sizeof detach, sizeof out);
+    step("detach again", detach, sizeof detach, sizeof out);
     printf("clock %u, accepted %u\n", node.clock, (unsigned)node.accepted);
     return 0;
 }
