@@ -1,12 +1,14 @@
 -- The rules of stored names one by one.
-use mathlib.Core.Bool.{_&&_}
+use mathlib.Core.Path.{_≡_}
+use mathlib.Core.Bool.{true, _&&_}
 use mathlib.Core.List.{List}
 use Prim.Native.Nat.{ℕ, _≤_}
 use lib.Dec.{T, leb, leb→le}
-use lib.ListN.{take, drop}
-use Rattle.format.proofs.Tests.{and-l, and-r}
-use Rattle.octets.specs.Chars.{allOf, isZero, apnChar, nodeChar}
-use Rattle.octets.specs.Names.{apnOk, nodeOk}
+use lib.ListN.{length, take, drop}
+use borrow.Author.Tests.{leb-true}
+use Rattle.format.proofs.Tests.{and-l, and-r, both}
+use Rattle.octets.specs.Chars.{allOf, isZero, apnChar, nodeChar, lowered}
+use Rattle.octets.specs.Names.{apnOk, isApn, nodeOk}
 
 pub record Apn (a : List ℕ) (n : ℕ) : Type 0 where
   pub least : 1 ≤ n
@@ -27,6 +29,19 @@ apn-rules a n t =
       chars = and-r (leb 1 n && leb n 63) c u;
       rest = and-r (leb 1 n && leb n 63 && c) z t;
     }
+
+-- of a name as an event spells it
+pub record Spelled (s : List ℕ) : Type 0 where
+  pub least : 1 ≤ length s
+  pub most : length s ≤ 63
+  pub chars : allOf apnChar (lowered s) ≡ true
+
+pub spelled-rules : (s : List ℕ) → isApn s ≡ true → Spelled s
+unfolding isApn
+spelled-rules s e =
+    let (u, c) = both (leb 1 (length s) && leb (length s) 63) (allOf apnChar (lowered s)) e in
+    let (l, m) = both (leb 1 (length s)) (leb (length s) 63) u in
+    record { least = leb-true 1 (length s) l; most = leb-true (length s) 63 m; chars = c }
 
 pub record Node (a : List ℕ) (n : ℕ) : Type 0 where
   pub most : n ≤ 20
