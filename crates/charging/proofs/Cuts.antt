@@ -4,12 +4,12 @@ use mathlib.Core.Bool.{Bool, true, false, cond, _&&_, _||_}
 use mathlib.Core.List.{List, [], _∷_}
 use Prim.Native.Nat.{ℕ, zero, suc, _+_, _-_, _≤_, _<_}
 use native.Mathlib.Omega.{arith}
-use native.Mathlib.Numerals.{unary-clauses}
 use lib.Dec.{leb, eqb}
 use lib.ListN.{length, take, drop, length-take, length-drop}
-use lib.Seq.{take-nil, drop-drop}
+use lib.Seq.{drop-drop}
 use borrow.Author.Tests.{leb-true, leb-false, le-leb, lt-leb, eqb-true, eqb-false}
 use Rattle.format.proofs.Tests.{by, both, either}
+use Rattle.octets.proofs.Fronts.{drop-take}
 use Rattle.history.specs.Lists.{All}
 use Rattle.node.specs.declared.Node.{Node}
 use Rattle.node.specs.Held.{Octets}
@@ -27,12 +27,6 @@ pub drop-octets : (k : ℕ) (s : List ℕ) → Octets s → Octets (drop k s)
 drop-octets zero s o = o
 drop-octets (suc k) [] o = tt
 drop-octets (suc k) (x ∷ s) o = drop-octets k s (o .1)
-
-drop-take : (k h : ℕ) (s : List ℕ) → drop k (take h s) ≡ take (h - k) (drop k s)
-drop-take zero h s = simp unary-clauses
-drop-take (suc k) zero s = let z : 0 - suc k ≡ 0 = omega arith in rw z
-drop-take (suc k) (suc h) [] = sym (take-nil (suc h - suc k))
-drop-take (suc k) (suc h) (x ∷ s) = simp unary-clauses (drop-take k h s)
 
 -- ---- the whole file: more octets allowed than it has change nothing
 
