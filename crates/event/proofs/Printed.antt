@@ -6,7 +6,8 @@ use lib.ListN.{take}
 use Rattle.ber.specs.Imsi.{imsiOk, halves, leading, allF}
 use Rattle.ber.specs.Int.{spelt, octetsFrom, numberIn}
 use Rattle.container.specs.Qos.{qosOk}
-use Rattle.octets.specs.Chars.{allOf, apnChar}
+use Rattle.octets.specs.Chars.{allOf, apnChar, lower, lowered}
+use Rattle.octets.specs.Names.{isApn}
 use Rattle.event.specs.Fields.{release, activateOk}
 use Rattle.event.specs.Kinds.{kinds, kindIn, wholeOf}
 use Rattle.event.specs.Rows.{firstFit, rows, marked, known, measured, fieldsOk}
@@ -30,7 +31,7 @@ pub activate-said : decoded activate ≡
       apnlen = 1;
     }))
 unfolding activate decoded saidBy eventOf firstFit rows marked kinds kindIn known measured wholeOf fieldsOk activateOk
-    spelt octetsFrom numberIn imsiOk halves leading allF qosOk allOf apnChar
+    spelt octetsFrom numberIn imsiOk halves leading allF qosOk isApn lowered lower allOf apnChar
 activate-said = refl
 
 pub traffic-said : decoded traffic ≡ Said 5 (Traffic (record { id = 1; ggsn = 0x0A000002 }) 400 599)
@@ -59,7 +60,7 @@ activate-35 = refl
 -- n = 0 in 36 octets, and in 37
 pub n-0 : decoded (named 0 0) ≡ Refused 5
 unfolding activate named decoded saidBy firstFit rows marked kinds kindIn known measured wholeOf fieldsOk activateOk
-    imsiOk halves leading allF qosOk allOf apnChar
+    imsiOk halves leading allF qosOk isApn lowered lower allOf apnChar
 n-0 = refl
 
 pub n-0-longer : decoded (named 0 1) ≡ Refused 4
@@ -69,5 +70,5 @@ n-0-longer = refl
 -- n = 64 in 100 octets
 pub n-64 : decoded (named 64 64) ≡ Refused 5
 unfolding activate named decoded saidBy firstFit rows marked kinds kindIn known measured wholeOf fieldsOk activateOk
-    imsiOk halves leading allF qosOk allOf apnChar
+    imsiOk halves leading allF qosOk isApn lowered lower allOf apnChar
 n-64 = refl

@@ -13,8 +13,9 @@ use Rattle.ber.specs.Int.{spelt, numberIn, allOctets, lowest}
 use Rattle.ber.proofs.Fixeds.{spelt-back}
 use Rattle.container.specs.declared.Qos.{Qos}
 use Rattle.container.specs.Qos.{qosOk}
-use Rattle.octets.specs.Chars.{allOf, apnChar}
-use Rattle.event.specs.Fields.{kindOf, timeOf, qosAt, flagsOf, imsiOf, countOf, apnOf, causeOf, activationOf, activateOk, release}
+use Rattle.octets.specs.Names.{isApn}
+use Rattle.octets.proofs.Lowered.{lowered-length}
+use Rattle.event.specs.Fields.{kindOf, timeOf, qosAt, flagsOf, imsiOf, countOf, spellingOf, causeOf, activationOf, activateOk, release}
 use Rattle.event.specs.Fields.{subscriberImsi, subscriberOf, lacOf, racOf, subscriberOk, detach}
 use Rattle.event.specs.Kinds.{Kind, kinds, wholeOf}
 use Rattle.event.specs.Rows.{row, firstFit, rows, marked, known, measured, fieldsOk}
@@ -123,23 +124,18 @@ activation-in s l h =
     let a = leb (flagsOf s) 3 in
     let b = imsiOk (imsiOf s) in
     let c = qosOk (qosAt 30 s) in
-    let d = leb 1 (countOf s) in
-    let e = leb (countOf s) 63 in
-    let f = allOf apnChar (apnOf s) in
-    let h5 = and-left (a && b && c && d && e) f h in
-    let h4 = and-left (a && b && c && d) e h5 in
-    let h3 = and-left (a && b && c) d h4 in
+    let d = isApn (spellingOf s) in
+    let h3 = and-left (a && b && c) d h in
     let h2 = and-left (a && b) c h3 in
+    let size : length (spellingOf s) ≡ countOf s = omega (arith, length-drop 36 s) in
     record {
       is = refl;
       long = l;
       flags = leb-true (flagsOf s) 3 (and-left a b h2);
       imsi = and-right a b h2;
       qos = and-right (a && b) c h3;
-      least = leb-true 1 (countOf s) (and-right (a && b && c) d h4);
-      most = leb-true (countOf s) 63 (and-right (a && b && c && d) e h5);
-      apn = and-right (a && b && c && d && e) f h;
-      size = omega (arith, length-drop 36 s);
+      name = and-right (a && b && c) d h;
+      size = lowered-length (spellingOf s) ∙ size;
     }
 
 -- ---- an attach

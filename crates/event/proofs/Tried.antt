@@ -5,12 +5,14 @@ use mathlib.Core.List.{List}
 use Prim.Native.Nat.{ℕ, _≤_, _<_}
 use native.Mathlib.Omega.{arith}
 use lib.Dec.{leb, eqb}
-use lib.ListN.{length, drop, length-append, length-drop, take-append-drop, List·getD-eq-default}
+use lib.ListN.{length, drop, length-append, length-drop, take-append-drop}
 use borrow.Author.Tests.{lt-ltb, le-ltb, lt-leb, ne-eqb, not-true, not-false}
 use Rattle.ber.specs.Imsi.{imsiOk, imsiRoom}
 use Rattle.container.specs.Qos.{qosOk}
-use Rattle.octets.specs.Chars.{allOf, apnChar}
-use Rattle.event.specs.Fields.{subscriberImsi, subscriberOk, qosAt, flagsOf, imsiOf, countOf, apnOf, activateOk}
+use Rattle.octets.specs.declared.names.Checked.{Checked}
+use Rattle.octets.specs.Names.{isApn, checkedApn}
+use Rattle.octets.proofs.Checked.{no-name, some-name}
+use Rattle.event.specs.Fields.{subscriberImsi, subscriberOk, qosAt, flagsOf, imsiOf, spellingOf, activateOk}
 use Rattle.ber.proofs.Imsis.{imsi-room}
 use Rattle.event.specs.Rows.{firstFit, rows, marked, known, measured, fieldsOk}
 
@@ -31,14 +33,13 @@ and-false false = refl
 pub activate-short : (s : List ℕ) → length s < 36 → false ≡ activateOk s
 unfolding activateOk
 activate-short s h =
-    let z : countOf s ≡ 0 = List·getD-eq-default s 0 {n = 35} (omega arith) in
-    let f : leb 1 (countOf s) ≡ false = lt-leb 1 (countOf s) (omega arith) in
+    let f : isApn (spellingOf s) ≡ false = no-name (spellingOf s) (omega (arith, length-drop 36 s)) in
     rw (f, and-false)
 
-pub activate-is : (s : List ℕ) {f d n : ℕ} {q a : Bool} → f ≡ flagsOf s → d ≡ imsiRoom (imsiOf s) → q ≡ qosOk (qosAt 30 s) → n ≡ countOf s
-    → a ≡ allOf apnChar (apnOf s) → (leb f 3 && not (eqb d 0) && q && leb 1 n && leb n 63 && a) ≡ activateOk s
+pub activate-is : (s : List ℕ) {f d : ℕ} {q : Bool} {a : Checked} → f ≡ flagsOf s → d ≡ imsiRoom (imsiOf s) → q ≡ qosOk (qosAt 30 s)
+    → a ≡ checkedApn (spellingOf s) → (leb f 3 && not (eqb d 0) && q && not (eqb (a .n) 0)) ≡ activateOk s
 unfolding activateOk
-activate-is s p e u v w = rw (p, e, u, v, w, imsi-room (imsiOf s))
+activate-is s p e u w = rw (p, e, u, w, imsi-room (imsiOf s), some-name (spellingOf s))
 
 -- ---- a subscriber's IMSI
 

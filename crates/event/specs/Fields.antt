@@ -9,7 +9,8 @@ use Rattle.ber.specs.Imsi.{imsiOk}
 use Rattle.ber.specs.Int.{numberIn}
 use Rattle.container.specs.declared.Qos.{Qos}
 use Rattle.container.specs.Qos.{qosOk}
-use Rattle.octets.specs.Chars.{allOf, apnChar}
+use Rattle.octets.specs.Chars.{lowered}
+use Rattle.octets.specs.Names.{isApn}
 use Rattle.event.specs.declared.Name.{Name}
 use Rattle.event.specs.declared.Activation.{Activation}
 
@@ -47,8 +48,12 @@ imsiOf s = take 8 (drop 16 s)
 abbrev pub countOf : List ℕ → ℕ
 countOf s = getD s 35 0
 
+-- the access point name as the event spells it, and as it is stored and written: "hand back the name with letters in lower case" (02, W5)
+abbrev pub spellingOf : List ℕ → List ℕ
+spellingOf s = drop 36 s
+
 abbrev pub apnOf : List ℕ → List ℕ
-apnOf s = drop 36 s
+apnOf s = lowered (spellingOf s)
 
 -- bit 0 of the flags is network-initiated, bit 1 arrived by SGSN change
 abbrev pub activationOf : List ℕ → Activation
@@ -84,15 +89,14 @@ racOf s = getD s 17 0
 
 -- ---- what is in range
 
--- flags 0..3; IMSI; QoS; n 1..63; APN letters, digits, '.', '-'. The PDP type and the PDP address are any.
+-- flags 0..3; IMSI; QoS; n 1..63; APN letters, digits, '.', '-'. The PDP type and the PDP address are any. The name is all that follows n, which is n
+-- octets where row 4 does not fit: so its own length is looked at.
 unfoldable pub activateOk : List ℕ → Bool
 activateOk s =
     leb (flagsOf s) 3
     && imsiOk (imsiOf s)
     && qosOk (qosAt 30 s)
-    && leb 1 (countOf s)
-    && leb (countOf s) 63
-    && allOf apnChar (apnOf s)
+    && isApn (spellingOf s)
 
 -- a release has cause 0, 4 or 18
 unfoldable pub release : ℕ → Bool

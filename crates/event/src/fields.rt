@@ -5,8 +5,7 @@ use crate::number;
 use ber::imsi;
 use container::Qos;
 use container::qos_profile;
-use octets::chars;
-use octets::chars::Class;
+use octets::names;
 ghost use mathlib.Core.Path.{_≡_};
 ghost use Prim.Native.Nat.{_<_};
 ghost use Rattle.event.specs.Fields.{nameOf, qosAt, activationOf, activateOk, release, subscriberOk, detach};
@@ -79,9 +78,8 @@ pub fn activate_ok(s: &[u8]) -> bool
     let digits = imsi::imsi_size(&s[16..24]);
     let q = qos_at(s, 30);
     let qos = qos_profile::qos_ok(q);
-    let n = octets::octet(s, 35);
-    let apn = chars::all_chars(Class::Apn, &s[36..]);
-    (flags <= 3) & !(digits == 0) & qos & (1 <= n) & (n <= 63) & apn
+    let name = names::check_apn(&s[36..]);
+    (flags <= 3) & !(digits == 0) & qos & !(name.n == 0)
 }
 
 // A release has cause 0, 4 or 18.

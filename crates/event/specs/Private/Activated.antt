@@ -6,8 +6,8 @@ use Prim.Native.Nat.{ℕ, _+_, _≤_}
 use lib.ListN.{length}
 use Rattle.ber.specs.Imsi.{imsiOk}
 use Rattle.container.specs.Qos.{qosOk}
-use Rattle.octets.specs.Chars.{allOf, apnChar}
-use Rattle.event.specs.Fields.{flagsOf, imsiOf, apnOf, activationOf}
+use Rattle.octets.specs.Names.{isApn}
+use Rattle.event.specs.Fields.{flagsOf, imsiOf, spellingOf, apnOf, activationOf}
 use Rattle.event.specs.declared.Activation.{Activation}
 
 -- its flags, IMSI, QoS and access point name, which stand where the table of kinds has them
@@ -17,7 +17,5 @@ pub record Activated (s : List ℕ) (a : Activation) : Type 0 where
   pub flags : flagsOf s ≤ 3
   pub imsi : imsiOk (imsiOf s) ≡ true
   pub qos : qosOk (a .qos) ≡ true
-  pub least : 1 ≤ a .apnlen
-  pub most : a .apnlen ≤ 63
-  pub apn : allOf apnChar (apnOf s) ≡ true
+  pub name : isApn (spellingOf s) ≡ true
   pub size : length (apnOf s) ≡ a .apnlen

@@ -3,7 +3,7 @@ use mathlib.Core.Path.{refl, ap, _∙_}
 use lib.ListN.{length}
 use borrow.Author.Needs.{needs}
 use Rattle.container.specs.Qos.{qosOk}
-use Rattle.octets.specs.Chars.{allOf, apnChar}
+use Rattle.octets.specs.Names.{checkedApn}
 use Rattle.octets.proofs.Stored.{rest-all}
 use Rattle.event.proofs.Tried.{activate-short, activate-is}
 use Rattle.event.proofs.fields.activate_ok.Statement.{statement}
@@ -19,12 +19,11 @@ returns-2 c =
     (c .before .before .before .before .before .before .before .octet .ensures)
     (c .before .before .before .before .before .imsi-size .ensures)
     (c .before .before .before .qos-ok .ensures ∙ ap qosOk (c .before .before .before .before .qos-at .ensures))
-    (c .before .before .octet2 .ensures)
-    (c .all-chars .ensures ∙ ap (allOf apnChar) (rest-all s (length s) 36 refl))
+    (c .before .check-apn .ensures ∙ ap checkedApn (rest-all s (length s) 36 refl))
 
 pub activate-ok-spec : {M : Type 1} → statement M
 activate-ok-spec =
     tie.close
     (tie.spec returns (λ c. search needs) (λ c. search needs) (λ c. search needs) (λ c. search needs)
     (λ c. search needs) (λ c. search needs) (λ c. search needs) (λ c. search needs) (λ c. search needs)
-    (λ c. search needs) (λ c. search needs) (λ c. search needs) returns-2)
+    (λ c. search needs) (λ c. search needs) returns-2)
