@@ -4,19 +4,20 @@ use mathlib.Core.Bool.{true, false}
 use mathlib.Core.List.{List, [], _∷_}
 use Prim.Native.Nat.{ℕ, zero, suc, _+_, _-_, _^_, _≤_, _<_}
 use native.Mathlib.Omega.{arith}
-use lib.ListN.{length, getD, replicate}
-use lib.Seq.{drop-append-seam}
-use borrow.Author.Tests.{le-leb, lt-ltb}
+use lib.ListN.{length, getD}
+use borrow.Author.Tests.{lt-ltb}
 use Rattle.format.proofs.Tests.{true-T}
 use Rattle.ber.specs.Int.{spelt, octetsFrom, numberIn}
 use Rattle.ber.specs.Imsi.{imsiOk}
 use Rattle.ber.proofs.Imsis.{imsi-rules}
 use Rattle.container.specs.Qos.{qosOk}
 use Rattle.container.proofs.OpenRules.{opened-sound}
-use Rattle.octets.specs.Chars.{allOf, isZero, apnChar}
 use Rattle.octets.specs.Names.{apnOk}
 use Rattle.octets.specs.Filled.{fillTo}
-use Rattle.octets.proofs.Filled.{take-fill, fill-length}
+use Rattle.octets.proofs.Filled.{fill-length}
+use Rattle.octets.proofs.NameRules.{spelled-rules}
+use Rattle.octets.proofs.Lowered.{lowered-length}
+use Rattle.octets.proofs.Checked.{lowered-stored}
 use Rattle.container.proofs.Padded.{padded-length}
 use Rattle.profile.specs.declared.Profile.{Profile}
 use Rattle.profile.specs.Profile.{profileOk}
@@ -27,7 +28,7 @@ use Rattle.event.specs.declared.Event.the-variants as E
 use Rattle.event.specs.declared.Decoded.the-variants as D
 use Rattle.event.specs.Event.{decoded}
 use Rattle.event.proofs.Numbers.{number-more}
-use Rattle.event.specs.Fields.{lacOf, racOf, detach}
+use Rattle.event.specs.Fields.{spellingOf, lacOf, racOf, detach}
 use Rattle.event.proofs.Theorems.{activated as activate-in, reported as reports, qos-changed, released, attached as attach-in, located as moved-in, detached}
 use Rattle.mcdr.specs.declared.Place.{Place}
 use Rattle.mcdr.specs.Change.{placeOk}
@@ -65,9 +66,8 @@ number-below (suc k) at s o = rw (number-more k at s) (omega (arith, number-belo
 pub record Brings (m : Name) (b : Brought) : Type 0 where
   pub flags : b .flags ≤ 3
   pub imsi : imsiOk (b .imsi) ≡ true
-  pub least : 1 ≤ length (b .apn)
+  pub apn : apnOk (fillTo 63 0 (b .apn)) (length (b .apn)) ≡ true
   pub most : length (b .apn) ≤ 63
-  pub apn : allOf apnChar (b .apn) ≡ true
   pub qos : qosOk (b .qos) ≡ true
   pub id : m .id < 2 ^ 32
   pub ggsn : m .ggsn < 2 ^ 32
@@ -171,14 +171,12 @@ detached-held c = refl
 pub fair-said : (s : List ℕ) (e : Event) {t : ℕ} → Octets s → decoded s ≡ D.Said t e → Fair (takes e s)
 fair-said s (E.Activate a) o d =
     let x = activate-in s d in
-    let n = x .size in
     record {
       contexts = record {
         flags = x .flags;
         imsi = x .imsi;
-        least = omega (arith, x .least);
-        most = omega (arith, x .most);
-        apn = x .apn;
+        apn = lowered-stored (spellingOf s) (x .name);
+        most = omega (arith, lowered-length (spellingOf s), spelled-rules (spellingOf s) (x .name) .most);
         qos = x .qos;
         id = rw (x .is) (number-below 4 7 s o);
         ggsn = rw (x .is) (number-below 4 11 s o);
@@ -209,18 +207,6 @@ fair-said s (E.Detach k c) o d = record { contexts = tt; subscribers = (fair-mea
 
 -- ---- the context that it opens
 
-all-zero : (n : ℕ) → allOf isZero (replicate n 0) ≡ true
-unfolding allOf
-all-zero zero = refl
-all-zero (suc n) = all-zero n
-
--- a name filled up with zeros
-filled-apn : (xs : List ℕ) → 1 ≤ length xs → length xs ≤ 63 → allOf apnChar xs ≡ true → apnOk (fillTo 63 0 xs) (length xs) ≡ true
-unfolding apnOk fillTo
-filled-apn xs l m a =
-    rw (le-leb 1 (length xs) l, le-leb (length xs) 63 m, take-fill 63 0 xs, a, drop-append-seam xs (replicate (63 - length xs) 0))
-    (all-zero (63 - length xs))
-
 module _ (p : Profile) (t : ℕ) (m : Name) (b : Brought) (r : Brings m b) where
   pub activated-sound : profileOk p ≡ true → (accepted : ℕ) → contextOk (p .limits) (p .zone) t (accepted + 1) (activated p t m b) ≡ true
   unfolding activated
@@ -229,7 +215,7 @@ module _ (p : Profile) (t : ℕ) (m : Name) (b : Brought) (r : Brings m b) where
       good-is (p .limits) (p .zone) t (accepted + 1) (activated p t m b) (record {
         flags = r .flags;
         imsi = r .imsi;
-        apn = filled-apn (b .apn) (r .least) (r .most) (r .apn);
+        apn = r .apn;
         closed = omega arith;
         current = opened-sound (p .limits .volume) (p .limits .changes) (p .zone) t (b .qos) (r .qos) (f .some-volume) (f .some-changes);
       })

@@ -1,17 +1,17 @@
--- The octets of an activate, copied.
+-- The octets of an activate and of an attach, as the code takes them.
 use mathlib.Core.Path.{_≡_, refl, sym, ap, _∙_}
-use mathlib.Core.List.{List, [], _∷_, _++_, append-nil}
-use Prim.Native.Nat.{ℕ, zero, suc, _+_, _-_, _≤_}
+use mathlib.Core.Bool.{true}
+use mathlib.Core.List.{List, _++_, append-nil}
+use Prim.Native.Nat.{ℕ, _+_, _-_, _≤_}
 use native.Mathlib.Omega.{arith}
-use lib.ListN.{length, take, drop, replicate, length-take, length-drop, drop-of-length-le}
-use lib.Seq.{take-length, length-take-le, take-all}
+use lib.ListN.{length, take, drop, length-drop, drop-of-length-le}
+use lib.Seq.{take-length, length-take-le}
+use Rattle.octets.specs.declared.names.Checked.{Checked}
 use Rattle.octets.specs.Filled.{fillTo}
-use Rattle.event.specs.Fields.{imsiOf, apnOf, subscriberImsi}
-
-drop-replicate : (n m : ℕ) → drop {A = ℕ} n (replicate m 0) ≡ replicate (m - n) 0
-drop-replicate zero m = let e : m ≡ m - 0 = omega arith in ap (λ (k : ℕ). replicate k 0) e
-drop-replicate (suc n) zero = let e : 0 ≡ 0 - suc n = omega arith in ap (λ (k : ℕ). replicate k 0) e
-drop-replicate (suc n) (suc m) = let e : m - n ≡ suc m - suc n = omega arith in drop-replicate n m ∙ ap (λ (k : ℕ). replicate k 0) e
+use Rattle.octets.specs.Names.{isApn, checkedApn}
+use Rattle.octets.proofs.Stored.{rest-all}
+use Rattle.octets.proofs.Checked.{checked-apn}
+use Rattle.event.specs.Fields.{imsiOf, spellingOf, apnOf, subscriberImsi}
 
 -- eight octets from a place on
 eight : (a : ℕ) (s : List ℕ) → a + 8 ≤ length s → length (take 8 (drop a s)) ≡ 8
@@ -30,11 +30,8 @@ pub copied-subscriber : (s d d′ : List ℕ) → 15 ≤ length s → length d �
     → d′ ≡ take (length (take (15 - 7) (drop 7 s))) (take (15 - 7) (drop 7 s)) ++ drop (length (take (15 - 7) (drop 7 s))) d → d′ ≡ subscriberImsi s
 copied-subscriber s d d′ l k e = copied-over (subscriberImsi s) d d′ (eight 7 s (omega arith) ∙ sym k) e
 
--- what is left is zero
-pub copied-apn : (s d d′ : List ℕ) → d ≡ replicate 63 0
-    → d′ ≡ take (length (take (length s - 36) (drop 36 s))) (take (length s - 36) (drop 36 s)) ++ drop (length (take (length s - 36) (drop 36 s))) d
-    → d′ ≡ fillTo 63 0 (apnOf s)
-unfolding fillTo
-copied-apn s d d′ k e =
-    let w : take (length s - 36) (drop 36 s) ≡ drop 36 s = take-all (length s - 36) (drop 36 s) (omega (arith, length-drop 36 s)) in
-    e ∙ rw (w, take-length (drop 36 s), k, drop-replicate (length (drop 36 s)) 63)
+-- the access point name of an activate, with its letters lowered
+pub checked-name : (s : List ℕ) {k : Checked} → k ≡ checkedApn (take (length s - 36) (drop 36 s)) → isApn (spellingOf s) ≡ true
+    → k .apn ≡ fillTo 63 0 (apnOf s)
+checked-name s e n =
+    ap (λ (z : Checked). z .apn) (e ∙ ap checkedApn (rest-all s (length s) 36 refl) ∙ checked-apn (spellingOf s) n)

@@ -11,8 +11,8 @@ use Rattle.container.specs.Qos.{qosOk, sameQos, qos}
 use Rattle.container.specs.Container.{containerOk, isNew, told, container}
 use Rattle.container.specs.List.{eachOk, oneOffset, containers, noContainers, isBlank, blanks}
 use Rattle.container.specs.Open.{midway, timesTo, qosRun, openOk, volumeOf, unusedOk, countOk, containersOk, volumeOk, soundOpen, blankOpen}
-use Rattle.octets.specs.Chars.{allOf, apnChar, nodeChar}
-use Rattle.octets.specs.Names.{apnOk, nodeOk}
+use Rattle.octets.specs.Chars.{allOf, apnChar, nodeChar, lower, lowered}
+use Rattle.octets.specs.Names.{apnOk, isApn, nodeOk}
 use Rattle.scdr.specs.Rules.{release, lastTime, duration}
 use Rattle.octets.specs.Filled.{fillTo}
 use Rattle.scdr.specs.Layout.{body, ofRecord, fieldsOf, inside, scdr}
@@ -51,7 +51,7 @@ use Rattle.node.specs.Sample.{at, named, answers, session, first, second
 -- time 0: activate; time 5: 400 up, 599 down; time 6: release 0. The last writes the mark and the record that 01 prints.
 pub one-session : session (activate ∷ traffic ∷ released 0 ∷ []) ≡ (0, []) ∷ (0, []) ∷ (0, 0xC3 ∷ 0x5A ∷ printed) ∷ []
 unfolding intEnc lowest lenEnc tlvEnc halves leading allF imsiOk imsiEnc monthLen seek monthDay stampOk stampEnc qosOk sameQos containerOk
-    isNew told eachOk oneOffset noContainers isBlank blanks midway timesTo qosRun openOk volumeOf allOf apnChar nodeChar apnOk nodeOk
+    isNew told eachOk oneOffset noContainers isBlank blanks midway timesTo qosRun openOk volumeOf isApn lowered lower allOf apnChar nodeChar apnOk nodeOk
     release releases lastTime duration body fillTo ofRecord fieldsOf inside scdr printed spelt octetsFrom numberIn kinds kindIn wholeOf activateOk fieldsOk
     firstFit marked known measured eventOf activate traffic released limitsOk profileOk storedOk unusedOk closedOk countOk containersOk
     volumeOk soundOpen blankOpen contextOk zeroOk slotOk slotsOk sameName isActive isFree bears noneBears distinct reported qosAfter changeOf limitMet closing
@@ -65,7 +65,7 @@ pub other-session : session (activate ∷ traffic ∷ at 2 6 (named (0 ∷ 0 ∷
     (named (0 ∷ [])) ∷ [])
     ≡ (0, []) ∷ (0, []) ∷ (0, first) ∷ (0, []) ∷ (0, []) ∷ (0, second) ∷ (0, third) ∷ []
 unfolding first second third intEnc lowest lenEnc tlvEnc halves leading allF imsiOk imsiEnc monthLen seek monthDay stampOk stampEnc qosOk
-    sameQos containerOk isNew told eachOk oneOffset noContainers isBlank blanks midway timesTo qosRun openOk volumeOf allOf apnChar nodeChar
+    sameQos containerOk isNew told eachOk oneOffset noContainers isBlank blanks midway timesTo qosRun openOk volumeOf isApn lowered lower allOf apnChar nodeChar
     apnOk nodeOk release releases lastTime duration body fillTo ofRecord fieldsOf inside scdr spelt octetsFrom numberIn kinds kindIn wholeOf activateOk
     fieldsOk firstFit marked known measured eventOf activate traffic limitsOk profileOk storedOk unusedOk closedOk countOk containersOk
     volumeOk soundOpen blankOpen contextOk zeroOk slotOk slotsOk sameName isActive isFree bears noneBears distinct reported qosAfter changeOf limitMet closing

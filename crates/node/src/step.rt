@@ -14,6 +14,7 @@ use context::slots::Slot;
 use event::Activation;
 use event::Name;
 use mcdr::Place;
+use octets::names;
 use profile::Profile;
 use subscriber::hear;
 use subscriber::tell;
@@ -23,10 +24,9 @@ ghost use mathlib.Core.Bool.{cond};
 ghost use Prim.Native.Nat.{_≤_, _<_};
 ghost use lib.Dec.{eqb};
 ghost use lib.ListN.{length};
-ghost use Rattle.event.specs.Fields.{imsiOf, apnOf, subscriberImsi};
+ghost use Rattle.event.specs.Fields.{imsiOf, subscriberImsi};
 ghost use Rattle.subscriber.specs.Hear as subscriber;
 ghost use Rattle.event.specs.Private.Activated.{Activated};
-ghost use Rattle.octets.specs.Filled.{fillTo};
 ghost use Rattle.node.specs.Sound.{mostAccepted};
 ghost use Rattle.node.specs.Step.{Steps, broughtBy, activated};
 ghost use Rattle.node.specs.Private.Premises.{InRange, SoundTable};
@@ -95,16 +95,6 @@ fn imsi_of(event: &[u8]) -> [u8; 8]
     imsi
 }
 
-// The access point name of an activate, filled up with zeros.
-fn apn_of(event: &[u8]) -> [u8; 63]
-    requires { ⌜ (36 ≤ length (now event)) × (length (now event) ≤ 99) ⌝ }
-    ensures { λ r. ⌜ r ≡ fillTo 63 0 (apnOf (now (event .entry))) ⌝ }
-{
-    let mut apn = [0u8; 63];
-    bytes::copy(&event[36..], &mut apn);
-    apn
-}
-
 // The context that an activate opens.
 fn opening(p: Profile, t: u32, a: Activation, event: &[u8]) -> Context
     requires { ⌜ Activated (now event) a ⌝ }
@@ -112,7 +102,8 @@ fn opening(p: Profile, t: u32, a: Activation, event: &[u8]) -> Context
 {
     let name = a.name;
     let imsi = imsi_of(event);
-    let apn = apn_of(event);
+    let checked = names::check_apn(&event[36..]);
+    let apn = checked.apn;
     let qos = a.qos;
     let flags = event[15];
     let now = Stamp {
