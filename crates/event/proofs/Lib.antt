@@ -7,3 +7,4 @@ pub mod Theorems
 pub mod Printed
 pub mod Framed
 pub mod Traffics
+pub mod Spelled

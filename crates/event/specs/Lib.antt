@@ -5,4 +5,5 @@ pub mod Traffic
 pub mod Framing
 pub mod Event
 pub mod Sample
+pub mod Spelling
 pub mod Private

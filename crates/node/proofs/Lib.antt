@@ -37,3 +37,4 @@ pub mod FullRecords
 pub mod Tellings
 pub mod Batches
 pub mod Holds
+pub mod OneSpelling
