@@ -11,7 +11,7 @@ use lib.Dec.{T, leb, ltb, leb→le, ltb→lt, le→leb, lt→ltb}
 use lib.ListN.{length, take}
 use lib.Seq.{length-take-le}
 use Rattle.format.specs.Format.{Law}
-use Rattle.format.proofs.Tests.{and-l, and-r}
+use Rattle.format.proofs.Tests.{T-true, and-l, and-r}
 use Rattle.format.proofs.Formats.{viewed-law, injective, refuses}
 use Rattle.ber.specs.Field.{unless0, unlessNone, _⨾_}
 use Rattle.ber.specs.Table.{ifSet, rowGood, tag}
@@ -31,7 +31,10 @@ use Rattle.scdr.specs.Rules.{shaped, within, numberOk, lastTime, duratio
 use Rattle.scdr.specs.Table.{recordTag, Network, Change, Number, NodeId}
 use Rattle.scdr.specs.Layout.{body, ofRecord, fieldsOf, toRecord, durationRight, rules, inside, scdr}
 use Rattle.scdr.proofs.BodyLaw.{body-law}
+use Rattle.octets.specs.Chars.{lowered}
+use Rattle.octets.specs.Names.{apnOk}
 use Rattle.octets.proofs.NameRules.{apn-rules, node-rules}
+use Rattle.octets.proofs.Checked.{stored-lowered}
 use Rattle.scdr.proofs.Views.{shape, withins, places-rules, fields-back, record-back}
 
 -- ---- the rules of a list one by one, as far as the octets rest on them
@@ -164,3 +167,10 @@ one-record a b s t e = injective scdr scdr-law a b (good-is-rules a .1 s) (good-
 -- what is refused is the octets of no record within the rules
 pub none-refused : (s : List ℕ) → scdr .dec s ≡ none → (r : Record) → T (rules r) → scdr .enc r ≡ s → ⊥
 none-refused s n r t e = refuses scdr scdr-law s n r (good-is-rules r .1 t) e
+
+-- the access point name of a record that is read is lowered: "The reader refuses capitals" (02, W5)
+pub no-capitals : (s : List ℕ) (r : Record) → scdr .dec s ≡ some r → lowered (take (r .apnlen) (r .apn)) ≡ take (r .apnlen) (r .apn)
+unfolding rules
+no-capitals s r e =
+    let w = withins r (and-r (shaped r) (within r) (exact s r .0 e .0)) in
+    stored-lowered (r .apn) (r .apnlen) (T-true (apnOk (r .apn) (r .apnlen)) (w .apn))
