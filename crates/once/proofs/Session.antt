@@ -18,8 +18,8 @@ use Rattle.container.specs.List.{containers, noContainers, eachOk, oneOffset, i
 use Rattle.container.specs.Open.{midway, timesTo, qosRun, openOk, volumeOf, unusedOk, countOk, containersOk, volumeOk, soundOpen, blankOpen}
 use Rattle.scdr.specs.declared.Record as scdr
 use Rattle.octets.specs.Filled.{fillTo}
-use Rattle.octets.specs.Chars.{allOf, apnChar, nodeChar}
-use Rattle.octets.specs.Names.{apnOk, nodeOk}
+use Rattle.octets.specs.Chars.{allOf, apnChar, nodeChar, lower, lowered}
+use Rattle.octets.specs.Names.{apnOk, isApn, nodeOk}
 use Rattle.scdr.specs.Rules.{lastTime, duration, release}
 use Rattle.scdr.specs.Sample.{only, sample, printed}
 use Rattle.scdr.proofs.Printed.{sample-octets}
@@ -80,7 +80,7 @@ unfolding activate traffic released says spelt octetsFrom numberIn
 short-history = refl
 
 short-records : map (recordFrom session name) (records R (start 0 (inForceBy activate) ▸ 5 ∶ Heard.traffic 400 599 ▸ 6 ∶ Heard.release 0)) ≡ sample ∷ []
-unfolding activate sample only spelt octetsFrom numberIn fillTo noContainers
+unfolding activate sample only spelt octetsFrom numberIn fillTo noContainers lowered lower
 short-records = refl
 
 -- the 113 octets that 01 prints
@@ -167,7 +167,7 @@ unfolding activate traffic released printed says spelt octetsFrom numberIn fillT
     step.output step.recordsOf step.octetsOf step.markedOctets
     step.nodeAfter step.activated batchOf batchBy listRefusals pairsOf oneByOne andThen trafficEvent afterOne after
     firstFit rows.marked known measured kinds kindIn wholeOf rows.fieldsOk activateOk eventOf
-    imsiOk halves leading allF qosOk allOf apnChar release fields.release nodeChar
+    imsiOk halves leading allF qosOk isApn lowered lower allOf apnChar release fields.release nodeChar
     sound profileOk limitsOk nodeOk apnOk stampOk distinct slots.isActive isFree bears noneBears sameName
     context.fieldsOk unusedOk closedOk countOk containersOk volumeOk soundOpen blankOpen contextOk zeroOk slotOk slotsOk openOk eachOk midway oneOffset
     timesTo qosRun volumeOf isBlank blanks sameQos

@@ -30,7 +30,8 @@ use Rattle.history.specs.Demand.{Forms}
 
 -- ---- 01, "Events": what they say
 
--- What an activation brings, and no event changes: the flags, the IMSI's octets, the APN's, the PDP type and the PDP address.
+-- What an activation brings, and no event changes: the flags, the IMSI's octets, the APN's with its letters lowered (02, W5: `apnOf`), the PDP type
+-- and the PDP address.
 pub record Brought : Type 0 where
   pub flags : ℕ
   pub imsi : List ℕ
