@@ -51,6 +51,7 @@ pub struct Start {
     pub pdp_type: [u8; 2],
     pub address: [u8; 4],
     pub qos: Qos,
+    /// As the event spells it; lowered in a context.
     pub apn: Vec<u8>,
 }
 
@@ -138,10 +139,25 @@ pub fn imsi_in_range(imsi: &[u8; 8]) -> bool {
     (6..=15).contains(&digits) && halves(imsi)[digits..].iter().all(|half| *half == 15)
 }
 
-/// "n 1..63; APN letters, digits, '.', '-'"
+/// W5: "the name with letters in lower case": A to Z plus 0x20, every other
+/// octet as it is.
+pub fn lowered(apn: &[u8]) -> Vec<u8> {
+    let lower = |c: &u8| match *c {
+        b'A'..=b'Z' => *c + 0x20,
+        other => other,
+    };
+    apn.iter().map(lower).collect()
+}
+
+/// "APN letters, digits, '.', '-'", the letters in lower case (W5).
+pub fn apn_character(c: u8) -> bool {
+    matches!(c, b'a'..=b'z' | b'0'..=b'9' | b'.' | b'-')
+}
+
+/// "n 1..63", and the characters: an APN as contexts and records have it. That
+/// of an event is asked once it is lowered.
 pub fn apn_in_range(apn: &[u8]) -> bool {
-    (1..=63).contains(&apn.len())
-        && apn.iter().all(|c| c.is_ascii_alphanumeric() || *c == b'.' || *c == b'-')
+    (1..=63).contains(&apn.len()) && apn.iter().all(|c| apn_character(*c))
 }
 
 /// "flags 0..3"
@@ -167,7 +183,7 @@ pub fn fields_in_range(event: &[u8]) -> bool {
             flags_in_range(start.flags)
                 && imsi_in_range(&start.imsi)
                 && qos_in_range(&start.qos)
-                && apn_in_range(&start.apn)
+                && apn_in_range(&lowered(&start.apn))
         }
         What::Qos(_, qos) => qos_in_range(&qos),
         What::Release(_, cause) => cause_in_range(cause),

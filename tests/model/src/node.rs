@@ -29,7 +29,8 @@ pub struct Container {
 #[derive(Clone, Debug, PartialEq, Eq)]
 pub struct Context {
     pub name: Name,
-    /// What the activation said; its QoS is the one of the start only.
+    /// What the activation said, with the APN lowered; its QoS is the one of the
+    /// start only.
     pub start: Start,
     /// Records of this activation closed so far.
     pub closed: u64,

@@ -227,9 +227,11 @@ fn of_subscriber(node: &mut Node, what: What, now: u32) -> Option<Mcdr> {
 }
 
 /// "Activation takes the lowest free slot, opens a record now with empty
-/// counters, no containers, change count 0."
+/// counters, no containers, change count 0." W5: "the stored context, the
+/// record .. use that name", the lowered one.
 fn activate(node: &mut Node, name: Name, start: Start, now: u32) {
     let slot = node.lowest_free().unwrap();
+    let start = Start { apn: event::lowered(&start.apn), ..start };
     let qos = start.qos;
     node.slots[slot] = Some(Context {
         name,

@@ -350,7 +350,7 @@ fn rows_that_no_run_reaches() {
 #[test]
 fn nothing_but_a_sound_node_is_taken() {
     type Change = fn(&mut Node);
-    let spoil: [Change; 12] = [
+    let spoil: [Change; 13] = [
         |n| n.clock = 3_155_760_000,
         |n| n.slots[1] = n.slots[0].clone(),
         |n| n.slots[0].as_mut().unwrap().closed = n.accepted,
@@ -363,6 +363,7 @@ fn nothing_but_a_sound_node_is_taken() {
         |n| n.slots[0].as_mut().unwrap().uplink = 999,
         |n| n.slots[0].as_mut().unwrap().start.flags = 4,
         |n| n.slots[0].as_mut().unwrap().start.imsi[7] = 0,
+        |n| n.slots[0].as_mut().unwrap().start.apn[0] = b'A',
     ];
     let mut run = Run::new();
     run.say(4, What::Traffic(NAME, 1, 0));
@@ -412,6 +413,126 @@ fn profile_text_both_ways() {
     for (from, to) in [("offset -90", "offset +90"), ("60", "060"), ("a b ", ""), ("\n", "\r\n")] {
         let other = String::from_utf8(text.to_vec()).unwrap().replacen(from, to, 1);
         assert_eq!(Profile::read(other.as_bytes()), None, "{other}");
+    }
+}
+
+// ---- W5: "One spelling of an APN" ----
+
+const CREW: [&[u8]; 5] = [b"crew.ship", b"Crew.Ship", b"CREW.SHIP", b"cREW.sHIP", b"crew.shiP"];
+
+fn activation(name: Name, apn: &[u8]) -> What {
+    What::Activate(name, Box::new(Start { apn: apn.to_vec(), ..start() }))
+}
+
+/// The records of an activation with the APN: by changes, by the volume, by
+/// management, at a tick and at its release.
+fn records_of(name: Name, apn: &[u8]) -> Vec<Vec<u8>> {
+    let mut run = Run(Node::fresh(profile()));
+    assert_eq!(run.say(3, activation(name, apn)), []);
+    let events = [
+        (5, What::Traffic(name, 400, 599)),
+        (6, What::Qos(name, [0; 5])),
+        (7, What::Tariff),
+        (8, What::Traffic(name, 1, 999)),
+        (9, What::Management(name)),
+        (69, What::Tick),
+        (70, What::Release(name, 4)),
+    ];
+    let outputs = events.into_iter().map(|(time, what)| run.say(time, what));
+    outputs.filter(|output| !output.is_empty()).collect()
+}
+
+/// "Crew.Ship" and "crew.ship" are one customer.
+#[test]
+fn every_spelling_gives_the_same_octets() {
+    let records = records_of(NAME, b"crew.ship");
+    assert_eq!(records.len(), 5);
+    for record in &records {
+        assert_eq!(values(body(record)).get(0x8C), b"crew.ship");
+    }
+    for apn in CREW {
+        assert_eq!(records_of(NAME, apn), records, "{apn:?}");
+    }
+}
+
+/// Two contexts of one node: all of their records but the name is the same.
+#[test]
+fn two_spellings_side_by_side() {
+    let other = Name { charging_id: 2, ..NAME };
+    let mut run = Run(Node::fresh(profile()));
+    run.say(0, activation(NAME, b"Crew.Ship"));
+    run.say(0, activation(other, b"crew.ship"));
+    for name in [NAME, other] {
+        run.say(1, What::Traffic(name, 1, 2));
+    }
+    let (one, two) = (run.say(2, What::Release(NAME, 0)), run.say(2, What::Release(other, 0)));
+    let (one, two) = (values(body(&one)), values(body(&two)));
+    assert_eq!(one.tags(), two.tags());
+    assert_eq!((one.get(0x8A), two.get(0x8A)), (&[1][..], &[2][..]));
+    for tag in one.tags().into_iter().filter(|tag| *tag != 0x8A) {
+        assert_eq!(one.get(tag), two.get(tag), "{tag:02X}");
+    }
+}
+
+/// The name of a context is not spelled at all: charging ID and GGSN stay.
+#[test]
+fn names_of_contexts_are_untouched() {
+    let name = Name { charging_id: 0x4142_595A, ggsn: *b"AZaz" };
+    let mut run = Run(Node::fresh(profile()));
+    run.say(0, activation(name, b"A"));
+    let lowered = Name { charging_id: 0x6162_797A, ggsn: *b"azaz" };
+    assert_eq!(run.answer(&octets(0, &What::Release(lowered, 0)), ROOM), 8);
+    let output = run.say(0, What::Release(name, 0));
+    let found = values(body(&output));
+    assert_eq!(found.get(0x8A), b"ABYZ");
+    assert_eq!(found.get(0xAB), [&[0x80, 4][..], b"AZaz"].concat());
+}
+
+/// "A stored capital makes a node unsound, 13."
+#[test]
+fn stored_capitals() {
+    let run = Run::with(profile(), Start { apn: b"Crew.Ship".to_vec(), ..start() });
+    assert_eq!(run.0.slots[0].as_ref().unwrap().start.apn, b"crew.ship");
+    for capital in b'A'..=b'Z' {
+        for at in 0..9 {
+            let mut node = run.0.clone();
+            node.slots[0].as_mut().unwrap().start.apn[at] = capital;
+            assert!(!node.sound(), "{capital} at {at}");
+            let unsound = Run(node);
+            assert_eq!(unsound.answer(&octets(0, &What::Tick), ROOM), 13);
+            assert_eq!(unsound.answer(&octets(0, &What::Release(NAME, 0)), ROOM), 13);
+        }
+    }
+}
+
+/// Every octet as the only one of an APN, and at the end of one: which an event
+/// may have, which a node, and what is stored.
+#[test]
+fn every_octet_of_an_apn() {
+    let small = b"abcdefghijklmnopqrstuvwxyz";
+    let capitals = b"ABCDEFGHIJKLMNOPQRSTUVWXYZ";
+    let others = b"0123456789.-";
+    for octet in 0..=255u8 {
+        for before in [&b""[..], b"a"] {
+            let apn = [before, &[octet]].concat();
+            let fresh = Run(Node::fresh(profile()));
+            let event = octets(0, &activation(NAME, &apn));
+            let stays = small.contains(&octet) || others.contains(&octet);
+            let taken = stays || capitals.contains(&octet);
+            assert_eq!(fresh.answer(&event, ROOM), if taken { 0 } else { 5 }, "{octet:02X}");
+            let mut node = Run::new().0;
+            node.slots[0].as_mut().unwrap().start.apn = apn.clone();
+            assert_eq!(node.sound(), stays, "{octet:02X}");
+            if taken {
+                let stored = step::step(&fresh.0, &event, ROOM).node;
+                let lower = match capitals.iter().position(|capital| *capital == octet) {
+                    Some(at) => small[at],
+                    None => octet,
+                };
+                let stored = &stored.slots[0].as_ref().unwrap().start.apn;
+                assert_eq!(*stored, [before, &[lower]].concat(), "{octet:02X}");
+            }
+        }
     }
 }
 

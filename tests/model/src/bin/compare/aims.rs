@@ -16,6 +16,10 @@ use std::collections::{BTreeMap, BTreeSet};
 pub const REFUSALS: [u8; 13] = [1, 2, 3, 4, 5, 6, 8, 9, 10, 11, 15, 16, 17];
 pub const CAUSES: [u8; 7] = [0, 4, 16, 17, 18, 19, 20];
 
+/// Of the activations that are taken one in so many, at least, has no capitals
+/// in its APN, and one in so many has both cases.
+const SHARE: u64 = 3;
+
 /// Answers with a later row of the table that would have applied as well.
 const PAIRS: [(u8, u8); 22] = [
     (1, 2),
@@ -137,6 +141,23 @@ const NAMES: &[&str] = &[
     "n of 1",
     "n of 63",
     "n of 64 in 100 octets",
+    "APN without capitals",
+    "APN of both cases",
+    "APN of capitals alone",
+    "APN of eight octets or more, all capitals",
+    "APN of eight octets or more with a capital as its first alone",
+    "APN of eight octets or more with a capital as its last alone",
+    "APN of 63 octets with a capital as its last",
+    "APN of eight octets or more that a context has in another spelling",
+    "APN with A",
+    "APN with Z",
+    "APN refused for '@', the octet before A",
+    "APN refused for '[', the octet after Z",
+    "APN refused for '`', the octet before a",
+    "APN refused for '{', the octet after z",
+    "sole record of an APN with capitals",
+    "record number 1 of an APN with capitals",
+    "later record of an APN with capitals",
     "activate of 35 octets",
     "mean 18",
     "mean 19",
@@ -152,9 +173,15 @@ pub struct Aims {
     pub aims: BTreeMap<&'static str, u64>,
     pub pairs: BTreeMap<(u8, u8), u64>,
     pub lengths: BTreeSet<usize>,
+    /// Activations that were taken.
+    pub activations: u64,
+    /// Octets of APNs, taken or the only fault of an activation.
+    pub apn_octets: BTreeSet<u8>,
     batches: Batches,
     subscribers: Subscribers,
     released: BTreeSet<Name>,
+    /// Names whose last activation had capitals in its APN.
+    capitals: BTreeSet<Name>,
     refused_for_room: Vec<u8>,
 }
 
@@ -166,9 +193,12 @@ impl Default for Aims {
             aims: NAMES.iter().map(|n| (*n, 0)).collect(),
             pairs: PAIRS.iter().map(|n| (*n, 0)).collect(),
             lengths: BTreeSet::new(),
+            activations: 0,
+            apn_octets: BTreeSet::new(),
             batches: Batches::default(),
             subscribers: Subscribers::default(),
             released: BTreeSet::new(),
+            capitals: BTreeSet::new(),
             refused_for_room: Vec::new(),
         }
     }
@@ -178,6 +208,7 @@ impl Aims {
     /// A new run begins with a fresh node.
     pub fn new_run(&mut self) {
         self.released.clear();
+        self.capitals.clear();
         self.refused_for_room.clear();
         self.batches.no_batch();
         self.subscribers.new_run();
@@ -202,6 +233,12 @@ impl Aims {
         missed.extend(
             (0..=300).filter(|l| !self.lengths.contains(l)).map(|l| format!("event of length {l}")),
         );
+        for name in ["APN without capitals", "APN of both cases"] {
+            let few = self.aims[name] * SHARE < self.activations;
+            missed.extend(few.then(|| format!("in one activation of {SHARE}: {name}")));
+        }
+        let octets = (0..=255).filter(|o| !self.apn_octets.contains(o));
+        missed.extend(octets.map(|o: u8| format!("octet {o:02X} in an APN")));
         missed.extend(self.batches.missed());
         missed.extend(self.subscribers.missed());
         missed
@@ -227,6 +264,9 @@ impl Aims {
             text += &format!("  {:>9}  {name}\n", self.aims[name]);
         }
         text += &format!("  {:>9}  different lengths of an event\n", self.lengths.len());
+        text += &format!("  {:>9}  activations taken\n", self.activations);
+        let octets = self.apn_octets.len();
+        text += &format!("  {octets:>9}  different octets of an APN, taken or the only fault\n");
         text + &self.batches.table() + &self.subscribers.table()
     }
 
@@ -303,6 +343,7 @@ impl Aims {
             self.met("IMSI of 16 digits", digits == 16 && answer == 5);
             self.met("mean 18", start.qos[4] == 18 && answer == 0);
             self.met("mean 19", start.qos[4] == 19 && answer == 5);
+            self.count_apn(node, event, &start.apn, answer);
         }
         let time = event::time(event);
         if matches!(answer, 0 | 6) {
@@ -315,6 +356,51 @@ impl Aims {
             self.met("first event of a run at a time above 0", first);
         }
         self.met("active name while the table is full", answer == 9 && node.active() == SLOTS);
+    }
+
+    /// The APN of an activation, as it is spelled.
+    fn count_apn(&mut self, node: &Node, event: &[u8], apn: &[u8], answer: u8) {
+        for octet in apn.iter().copied().collect::<BTreeSet<u8>>() {
+            let mut other = event.to_vec();
+            other[36..].iter_mut().filter(|o| **o == octet).for_each(|o| *o = b'0');
+            let refused = answer == 5 && event::fields_in_range(&other);
+            if refused || answer == 0 {
+                self.apn_octets.insert(octet);
+            }
+            self.met("APN refused for '@', the octet before A", refused && octet == b'@');
+            self.met("APN refused for '[', the octet after Z", refused && octet == b'[');
+            self.met("APN refused for '`', the octet before a", refused && octet == b'`');
+            self.met("APN refused for '{', the octet after z", refused && octet == b'{');
+        }
+        if answer != 0 {
+            return;
+        }
+        self.activations += 1;
+        let capital = u8::is_ascii_uppercase;
+        let (capitals, n) = (apn.iter().filter(|c| capital(c)).count(), apn.len());
+        let first = capital(&apn[0]);
+        let last = capital(&apn[n - 1]);
+        self.met("APN without capitals", capitals == 0);
+        let both = capitals > 0 && apn.iter().any(u8::is_ascii_lowercase);
+        self.met("APN of both cases", both);
+        self.met("APN of capitals alone", capitals == n);
+        let long = n >= 8;
+        self.met("APN of eight octets or more, all capitals", long && capitals == n);
+        let alone = long && capitals == 1;
+        self.met("APN of eight octets or more with a capital as its first alone", alone && first);
+        self.met("APN of eight octets or more with a capital as its last alone", alone && last);
+        self.met("APN of 63 octets with a capital as its last", n == 63 && last);
+        let stored = event::lowered(apn);
+        let again = node.slots.iter().flatten().any(|c| c.start.apn == stored);
+        let again = long && capitals > 0 && again;
+        self.met("APN of eight octets or more that a context has in another spelling", again);
+        self.met("APN with A", apn.contains(&b'A'));
+        self.met("APN with Z", apn.contains(&b'Z'));
+        let name = event::name(event);
+        self.capitals.remove(&name);
+        if capitals > 0 {
+            self.capitals.insert(name);
+        }
     }
 
     fn count_room(&mut self, node: &Node, event: &[u8], room: usize) {
@@ -461,6 +547,11 @@ impl Aims {
         self.met("network initiation", record.network_initiated);
         self.met("SGSN change in a sole record", sole && record.sgsn_change);
         self.met("SGSN change in record number 1", !sole && record.sgsn_change);
+        let capitals = self.capitals.contains(&record.name);
+        self.met("sole record of an APN with capitals", capitals && sole);
+        self.met("record number 1 of an APN with capitals", capitals && record.number == Some(1));
+        let after = record.number.is_some_and(|n| n > 1);
+        self.met("later record of an APN with capitals", capitals && after);
         let flagged = node.find(record.name);
         let flags = flagged.map_or(0, |slot| node.slots[slot].as_ref().unwrap().start.flags);
         let later = flags & 2 != 0 && record.number.is_some_and(|n| n > 1);

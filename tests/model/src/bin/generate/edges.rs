@@ -72,6 +72,14 @@ impl Run {
         for length in [0, 1, 2, 62, 63, 64, 65, 127, 128, 255] {
             events.push(with(Start { apn: self.apn(length), ..plain.clone() }));
         }
+        // the letters of both cases, and the octets beside them
+        for octet in *b"@AZ[`az{" {
+            for at in 0..plain.apn.len() {
+                let mut apn = plain.apn.clone();
+                apn[at] = octet;
+                events.push(with(Start { apn, ..plain.clone() }));
+            }
+        }
         for (n, length) in [(0, 37), (1, 36), (2, 37), (1, 38), (63, 100), (64, 99), (255, 36)] {
             let mut event = with(Start { apn: vec![b'a'; 64], ..plain.clone() });
             event[35] = n;

@@ -21,6 +21,7 @@ mod run;
 mod runs;
 mod scenes;
 mod sessions;
+mod spellings;
 mod times;
 
 use crate::run::Run;

@@ -1,4 +1,4 @@
-//! The other parts of an event: QoS, IMSI, APN, volumes.
+//! The other parts of an event: QoS, IMSI, volumes.
 
 use crate::run::Run;
 use charging_model::event::{Name, Qos, Start, QOS_HIGHEST};
@@ -26,11 +26,6 @@ impl Run {
         imsi
     }
 
-    pub fn apn(&mut self, length: usize) -> Vec<u8> {
-        let letters = b"abcxyzABCXYZ0189.-";
-        (0..length).map(|_| self.random.pick(letters)).collect()
-    }
-
     pub fn start(&mut self) -> Start {
         let digits = match self.random.below(3) {
             0 => self.random.pick(&[6, 7, 14, 15]),
@@ -44,13 +39,17 @@ impl Run {
             0 => self.random.pick(&[1, 2, 62, 63]),
             _ => self.random.between(1, 63) as usize,
         };
+        let apn = match self.apn_again() {
+            Some(apn) if self.random.percent(10) => apn,
+            _ => self.apn(length),
+        };
         Start {
             flags: self.random.below(4) as u8,
             imsi,
             pdp_type: [self.random.octet(), self.random.octet()],
             address: [self.random.octet(), self.random.octet(), 0, self.random.octet()],
             qos: self.qos(),
-            apn: self.apn(length),
+            apn,
         }
     }
 
