@@ -2,7 +2,7 @@
 
 use crate::break_subscribers as subscribers;
 use crate::limits::{any_active, set_zone};
-use crate::runs::{apn_character, imsi, node_id_character};
+use crate::runs::{apn_character, imsi, node_id_character, raised};
 use crate::sound::{record_volume, Range, RANGES};
 use crate::stored::{within, Container, Context, Stored, APN, FREE, NODE_ID, PLACES, SLOTS};
 use charging_model::random::Random;
@@ -66,7 +66,9 @@ breakers! {
     "IMSI" "digits" imsi_digits;
     "IMSI" "later halves" imsi_later;
     "APN's length" "whole" apn_length;
-    "APN's characters" "whole" apn_character_wrong;
+    "APN's characters" "capital" apn_capital;
+    "APN's characters" "capital" apn_as_spelled;
+    "APN's characters" "other" apn_character_wrong;
     "APN's unused octets" "whole" apn_unused;
     "APN's unused octets" "whole" apn_unused_far;
     "APN's unused octets" "whole" apn_unused_far;
@@ -365,6 +367,24 @@ fn apn_length(node: &mut Stored, random: &mut Random) -> Option<()> {
     }
     context.apn = [0; APN].map(|_| apn_character(random));
     done(context.apnlen = above(random, Range::ApnLength, u64::MAX))
+}
+
+/// One octet is a capital, the first and the last of them more often.
+fn apn_capital(node: &mut Stored, random: &mut Random) -> Option<()> {
+    let context = used(node, random)?;
+    if context.apn().is_empty() {
+        return None;
+    }
+    let at = edge(random, 0, context.apn().len());
+    done(context.apn[at] = b'A' + edge(random, 0, 26) as u8)
+}
+
+/// Letters are capitals, as an event may have them.
+fn apn_as_spelled(node: &mut Stored, random: &mut Random) -> Option<()> {
+    let context = used(node, random)?;
+    let stored = context.apn;
+    context.apn = stored.map(|c| raised(random, c));
+    (context.apn != stored).then_some(())
 }
 
 fn apn_character_wrong(node: &mut Stored, random: &mut Random) -> Option<()> {

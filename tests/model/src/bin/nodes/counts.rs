@@ -7,6 +7,7 @@ use crate::sound::{broken, RULES};
 use crate::stored::{Stored, APN, CHANGES, NODE_ID, PLACES};
 use charging_model::batch::{Batch, Batched};
 use charging_model::cdr::Cdr;
+use charging_model::event;
 use charging_model::node::MOST_ACCEPTED;
 use std::collections::hash_map::DefaultHasher;
 use std::collections::{BTreeMap, BTreeSet, HashSet};
@@ -38,6 +39,9 @@ pub struct Counts {
     /// The same of M-CDRs, and by how many changes they list.
     m_causes: BTreeMap<u8, usize>,
     m_changes: BTreeMap<usize, usize>,
+    /// Capitals that were stored, and activations that were accepted.
+    capitals: BTreeMap<u8, usize>,
+    spelled: BTreeMap<&'static str, usize>,
     /// Octets and places that were not zero and had to be.
     octets: BTreeMap<(&'static str, usize), usize>,
     batches: Batches,
@@ -70,6 +74,12 @@ const BATCH_MET: [&str; 13] = [
     "the last event that may be accepted",
 ];
 
+const SPELLED: [&str; 3] = [
+    "activations without capitals, accepted",
+    "activations with capitals, accepted",
+    "activations refused with 5 for the APN",
+];
+
 const ANSWERS: [u8; 16] = [0, 1, 2, 3, 4, 5, 6, 7, 8, 9, 10, 11, 13, 15, 16, 17];
 const CAUSES: [u8; 7] = [0, 4, 16, 17, 18, 19, 20];
 const M_CAUSES: [u8; 4] = [0, 4, 19, 20];
@@ -89,7 +99,10 @@ impl Counts {
     pub fn add(&mut self, case: &Case, answer: u8, done: Option<&Batched>) {
         self.cases += 1;
         match &case.lent {
-            Lent::Event(_) => self.add_event(&case.node, answer, done),
+            Lent::Event(event) => {
+                self.add_event(&case.node, answer, done);
+                self.add_apn(event, answer);
+            }
             Lent::Batch(batch) => self.batches.add(&case.node, batch, answer, done),
         }
     }
@@ -130,11 +143,28 @@ impl Counts {
         }
     }
 
+    /// The APN of an activation that has the right length.
+    fn add_apn(&mut self, event: &[u8], answer: u8) {
+        if !matches!(answer, 0 | 5) || event::kind(event) != event::ACTIVATE {
+            return;
+        }
+        let apn = &event[36..];
+        let capitals = apn.iter().any(u8::is_ascii_uppercase);
+        let mut met = |name, when| *self.spelled.entry(name).or_default() += usize::from(when);
+        met("activations without capitals, accepted", answer == 0 && !capitals);
+        met("activations with capitals, accepted", answer == 0 && capitals);
+        let refused = !event::apn_in_range(&event::lowered(apn));
+        met("activations refused with 5 for the APN", answer == 5 && refused);
+    }
+
     fn add_octets(&mut self, node: &Stored) {
         let mut add = |name, at| *self.octets.entry((name, at)).or_default() += 1;
         let from = node.profile.nodelen.min(NODE_ID as u64) as usize;
         for at in (from..NODE_ID).filter(|at| node.profile.nodeid[*at] != 0) {
             add("node ID's unused octet", at);
+        }
+        for c in node.active().flat_map(|c| c.apn()).filter(|c| c.is_ascii_uppercase()) {
+            *self.capitals.entry(*c).or_default() += 1;
         }
         for context in &node.contexts {
             let free = context.active == 0;
@@ -208,6 +238,14 @@ impl Counts {
             let met = of(&self.m_changes, changes);
             line(format!("M-CDRs with {changes} changes"), met, TIMES / 2);
         }
+        for name in SPELLED {
+            line(name.into(), of(&self.spelled, name), TIMES);
+        }
+        for edge in *b"AZ" {
+            line(format!("{} stored", edge as char), of(&self.capitals, edge), TIMES / 2);
+        }
+        let least = (b'A'..=b'Z').map(|c| of(&self.capitals, c)).min().unwrap();
+        line("or more: a capital stored, each of A..Z".into(), least, 1);
         for (name, from, to) in [
             ("node ID's unused octet", 0, NODE_ID),
             ("APN's unused octet", 1, APN),

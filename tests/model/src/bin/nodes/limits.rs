@@ -2,7 +2,7 @@
 
 use crate::runs;
 use crate::sound::record_volume;
-use crate::stored::{Change, Context, Stamp, Stored, Subscriber};
+use crate::stored::{Change, Context, Stamp, Stored, Subscriber, FREE, SLOTS, SUBSCRIBERS};
 use charging_model::batch::Batched;
 use charging_model::cdr::Cdr;
 use charging_model::clock::LAST_SECOND;
@@ -48,6 +48,8 @@ limits! {
     "offset 840" |n, r| zone(n, r, 1560),
         |n| n.profile.zone == 1560, |_, s| !s.records.is_empty();
     "all slots taken" full, |n| n.slots(0).is_empty(), |_, s| s.answer == 10;
+    "one slot free" one_slot,
+        |n| n.slots(0).len() == 1, |_, s| s.node.slots.iter().all(Option::is_some);
     "14 location changes" |n, r| one_more_change(n, r, 14),
         |n| n.attached().any(|s| s.count == 14), |_, s| s.records.iter().any(by_changes);
     "14 location changes, closed before the next" closed_before,
@@ -59,6 +61,8 @@ limits! {
         |n, s| s.records.iter().filter_map(Cdr::m).any(|r| r.number == Some(n.accepted));
     "all places taken" full_of_subscribers,
         |n| n.places(0).is_empty(), |_, s| s.answer == 17;
+    "one place free" one_place,
+        |n| n.places(0).len() == 1, |_, s| s.node.subscribers.iter().all(Option::is_some);
 }
 
 fn by_changes(record: &Cdr) -> bool {
@@ -229,16 +233,28 @@ fn fifteen(node: &mut Stored, random: &mut Random) -> Option<Vec<u8>> {
     say(node, random, what)
 }
 
-/// No more can be activated.
-fn full(node: &mut Stored, random: &mut Random) -> Option<Vec<u8>> {
-    let taken = node.slots(0).is_empty();
-    taken.then(|| match random.percent(50) {
+/// A context that no node has yet, or any event.
+fn newcomer(node: &Stored, random: &mut Random) -> Vec<u8> {
+    match random.percent(50) {
         true => {
             let name = Name { charging_id: random.next() as u32, ggsn: [1, 2, 3, 4] };
             octets(node.clock, &What::Activate(name, Box::new(runs::start(random))))
         }
         false => runs::event(random, &node.view()),
-    })
+    }
+}
+
+/// No more can be activated.
+fn full(node: &mut Stored, random: &mut Random) -> Option<Vec<u8>> {
+    node.slots(0).is_empty().then(|| newcomer(node, random))
+}
+
+/// One more can be activated, in any slot.
+fn one_slot(node: &mut Stored, random: &mut Random) -> Option<Vec<u8>> {
+    if node.slots(0).is_empty() {
+        node.contexts[random.below(SLOTS as u64) as usize] = FREE;
+    }
+    (node.slots(0).len() == 1).then(|| newcomer(node, random))
 }
 
 /// Nothing was reported since the records opened, so any volume limit will do.
@@ -337,6 +353,18 @@ fn full_of_subscribers(node: &mut Stored, random: &mut Random) -> Option<Vec<u8>
         0 => What::Detach(imsi, 0),
         _ => What::Attach(imsi, runs::place(random)),
     };
+    say(node, random, what)
+}
+
+/// One more can be attached, in any place.
+fn one_place(node: &mut Stored, random: &mut Random) -> Option<Vec<u8>> {
+    if node.places(0).is_empty() {
+        node.subscribers[random.below(SUBSCRIBERS as u64) as usize] = Subscriber::default();
+    }
+    if node.places(0).len() != 1 {
+        return None;
+    }
+    let what = What::Attach(runs::subscriber_name(random), runs::place(random));
     say(node, random, what)
 }
 

@@ -46,6 +46,8 @@ const SPOILT: usize = 16;
 /// Runs of events a round, and pairs of breaks.
 const RUNS: usize = 4;
 const PAIRS: usize = 30;
+/// Activations a round with any octet in their APN.
+const SPELLINGS: usize = 3;
 /// Batches a round on nodes that were reached, on ones whose events run out,
 /// and with several closings; one limit of so many, and one break of so many,
 /// has a batch too.
@@ -103,6 +105,14 @@ impl Maker {
                 })
                 .unwrap_or_else(|| panic!("no node comes to {}", limit.name));
             assert!(is_sound(&node) && (limit.at)(&node), "{}", limit.name);
+            self.put(node, Lent::Event(event));
+        }
+    }
+
+    fn spelled(&mut self) {
+        for _ in 0..SPELLINGS {
+            let node = self.any();
+            let event = runs::spelling(&mut self.random, &node.view());
             self.put(node, Lent::Event(event));
         }
     }
@@ -211,6 +221,7 @@ fn make(seed: u64, rounds: usize) -> Vec<u8> {
     }
     for round in 0..rounds {
         maker.reached();
+        maker.spelled();
         maker.at_limits();
         maker.broken_once();
         maker.broken_twice();

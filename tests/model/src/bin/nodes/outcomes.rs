@@ -38,6 +38,17 @@ pub const OUTCOMES: &[(&str, &str, Change)] = &[
             o.node = with(case, |node| node.clock = event::time(event(case)));
         }
     }),
+    (
+        "unsound-lowered",
+        "stored capitals are lowered, and no 13 is answered for them",
+        |o, case| {
+            let mut node = case.node.clone();
+            node.contexts.iter_mut().for_each(|c| c.apn.make_ascii_lowercase());
+            if o.answer == 13 && is_sound(&node) {
+                *o = of_sound(&Case { node, lent: case.lent.clone(), ..*case });
+            }
+        },
+    ),
     ("refused-written", "a refusal has a written length of 1", |o, _| {
         if o.answer != 0 {
             o.written = 1;

@@ -1,6 +1,7 @@
 //! Sound nodes that are reached by events from a fresh node, and events for
 //! them.
 
+use crate::breaks::edge;
 use crate::stored;
 use charging_model::clock::LAST_SECOND;
 use charging_model::event::{self, octets, Name, Qos, Start, What, QOS_HIGHEST};
@@ -67,8 +68,35 @@ pub fn node_id_character(random: &mut Random) -> u8 {
     }
 }
 
+/// Of an APN as it is stored.
 pub fn apn_character(random: &mut Random) -> u8 {
-    random.pick(b"aabmyzzAABMYZZ0189.-")
+    match random.below(4) {
+        0 => random.pick(b"0189.-"),
+        1 => random.pick(b"az"),
+        _ => random.between(b'a'.into(), b'z'.into()) as u8,
+    }
+}
+
+/// A letter as a capital, one time in two.
+pub fn raised(random: &mut Random, octet: u8) -> u8 {
+    if random.percent(50) {
+        octet.to_ascii_uppercase()
+    } else {
+        octet
+    }
+}
+
+/// An APN as an event spells it: in half of the names letters may be capitals.
+fn apn(random: &mut Random, length: usize) -> Vec<u8> {
+    let capitals = random.percent(50);
+    let mut apn = vec![0; length];
+    for c in &mut apn {
+        *c = apn_character(random);
+        if capitals {
+            *c = raised(random, *c);
+        }
+    }
+    apn
 }
 
 pub fn imsi(random: &mut Random, digits: usize) -> [u8; 8] {
@@ -99,7 +127,7 @@ pub fn start(random: &mut Random) -> Start {
         0 => 1,
         1 => 63,
         2 => 62,
-        _ => random.between(1, 63),
+        _ => random.between(1, 63) as usize,
     };
     Start {
         flags: random.below(4) as u8,
@@ -107,7 +135,7 @@ pub fn start(random: &mut Random) -> Start {
         pdp_type: [random.octet(), random.octet()],
         address: [random.octet(), random.octet(), random.octet(), random.octet()],
         qos: qos(random),
-        apn: (0..length).map(|_| apn_character(random)).collect(),
+        apn: apn(random, length),
     }
 }
 
@@ -342,6 +370,19 @@ pub fn event(random: &mut Random, node: &Node) -> Vec<u8> {
         spoil(random, &mut event, node);
     }
     event
+}
+
+/// An activation of a new name with any octet in its APN, most often one at the
+/// edge of the letters, or one that a wrong lowering makes a character.
+pub fn spelling(random: &mut Random, node: &Node) -> Vec<u8> {
+    let name = Name { charging_id: random.next() as u32, ggsn: [4, 3, 2, 1] };
+    let mut start = start(random);
+    let at = edge(random, 0, start.apn.len());
+    start.apn[at] = match random.percent(70) {
+        true => random.pick(b"@AZ[`az{\x0D\x0E\x10\x19\xC1\xE1"),
+        false => random.octet(),
+    };
+    octets(time(random, node), &What::Activate(name, Box::new(start)))
 }
 
 /// Makes an event that is refused with one of 1 to 6.

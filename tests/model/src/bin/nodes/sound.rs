@@ -1,6 +1,7 @@
 //! "A sound node", rule by rule, of a node with all its stored fields. Written
-//! from document 01 alone; words in quotes are the document's. The rules of
-//! subscribers (02, W4) are in sound_subscribers.rs.
+//! from document 01 and, for stored capitals, from request W5 alone; words in
+//! quotes are the documents'. The rules of subscribers (02, W4) are in
+//! sound_subscribers.rs.
 
 use crate::sound_subscribers as subscribers;
 use crate::stored::{within, Container, Context, Stored, APN, NODE_ID};
@@ -23,7 +24,6 @@ pub enum Range {
     ApnLength,
     Signs,
     Digits,
-    Capitals,
     Letters,
     Reliability,
     Delay,
@@ -36,7 +36,7 @@ pub enum Range {
 }
 
 /// Each range that a rule speaks of: its name, its lowest and its highest.
-pub type Ranges = [(Range, &'static str, i128, i128); 23];
+pub type Ranges = [(Range, &'static str, i128, i128); 22];
 
 pub const RANGES: Ranges = [
     (Range::VolumeLimit, "volume limit", 1, 1_000_000_000_000),
@@ -51,11 +51,10 @@ pub const RANGES: Ranges = [
     (Range::Flags, "flags", 0, 3),
     (Range::ImsiDigits, "IMSI's digits", 6, 15),
     (Range::ApnLength, "APN's length", 1, 63),
-    // "APN letters, digits, '.', '-'"
+    // "APN letters, digits, '.', '-'", the letters in lower case
     (Range::Signs, "APN's signs", b'-' as i128, b'.' as i128),
     (Range::Digits, "APN's digits", b'0' as i128, b'9' as i128),
-    (Range::Capitals, "APN's capitals", b'A' as i128, b'Z' as i128),
-    (Range::Letters, "APN's small letters", b'a' as i128, b'z' as i128),
+    (Range::Letters, "APN's letters", b'a' as i128, b'z' as i128),
     (Range::Reliability, "reliability", 0, 5),
     (Range::Delay, "delay", 0, 3),
     (Range::Precedence, "precedence", 0, 3),
@@ -113,7 +112,8 @@ rules! {
     "IMSI" "stored fields in range: IMSI 6..15 digits, all later halves F"
         &["digits", "later halves"], imsi;
     "APN's length" "stored fields in range: n 1..63" WHOLE, apn_length;
-    "APN's characters" "stored fields in range: letters, digits, '.', '-'" WHOLE, apn_characters;
+    "APN's characters" "stored fields in range: letters, digits, '.', '-', and no capital"
+        &["capital", "other"], apn_characters;
     "APN's unused octets" "unused octets all zero" WHOLE, apn_unused;
     "QoS" "stored fields in range: the QoS in force" QOS_PARTS, qos;
     "container's QoS" "stored fields in range: a container's QoS" QOS_PARTS, container_qos;
@@ -361,10 +361,13 @@ fn apn_length(node: &Stored, found: &mut Found) {
     found.unless("whole", node.active().all(|c| found.in_range(Range::ApnLength, c.apnlen)));
 }
 
+/// W5: "A stored capital makes a node unsound".
 fn apn_characters(node: &Stored, found: &mut Found) {
-    let classes = [Range::Signs, Range::Digits, Range::Capitals, Range::Letters];
-    let good = |c: &u8| classes.iter().any(|class| found.in_range(*class, *c));
-    found.unless("whole", node.active().all(|context| context.apn().iter().all(good)));
+    let classes = [Range::Signs, Range::Digits, Range::Letters];
+    for c in node.active().flat_map(Context::apn) {
+        let part = if c.is_ascii_uppercase() { "capital" } else { "other" };
+        found.unless(part, classes.iter().any(|class| found.in_range(*class, *c)));
+    }
 }
 
 fn apn_unused(node: &Stored, found: &mut Found) {

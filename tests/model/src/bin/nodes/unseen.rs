@@ -24,6 +24,21 @@ pub const UNSEEN: &[Unseen] = &[
     ("last-octet-unseen", "the last unused octet is not looked at", None, |n| {
         unused_octets(n, |octets| octets.last_mut());
     }),
+    ("capital-a-unseen", "a stored A is seen as a", CHARACTERS, |n| {
+        each(n, |c| c.apn = c.apn.map(|c| if c == b'A' { b'a' } else { c }));
+    }),
+    ("capital-z-unseen", "a stored Z is seen as z", CHARACTERS, |n| {
+        each(n, |c| c.apn = c.apn.map(|c| if c == b'Z' { b'z' } else { c }));
+    }),
+    ("first-capital-unseen", "a capital is not seen as an APN's first octet", CHARACTERS, |n| {
+        each(n, |c| c.apn[0].make_ascii_lowercase());
+    }),
+    ("last-capital-unseen", "a capital is not seen as an APN's last octet", CHARACTERS, |n| {
+        each(n, |c| {
+            let last = c.apn().len().saturating_sub(1);
+            c.apn[last].make_ascii_lowercase();
+        });
+    }),
     ("first-place-unseen", "the first unused container place is not looked at", None, |n| {
         unused_places(n, |places| places.first_mut());
     }),
@@ -189,6 +204,8 @@ pub const UNSEEN: &[Unseen] = &[
         each_subscriber(n, |s| s.count += if s.count >= limit { CHANGES as u64 } else { 0 });
     }),
 ];
+
+const CHARACTERS: Option<&str> = Some("APN's characters");
 
 const CLOSED: Option<&str> = Some("subscriber's closed records");
 const TIMES: Option<&str> = Some("subscriber's times");
