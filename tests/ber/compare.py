@@ -359,6 +359,8 @@ class Made:
                 tally.compare(ITSELF, False, f"Erlang does not encode values made to break: {rule}", line)
             else:
                 made.append(("a value that breaks a rule", rule, octets))
+        for line in self.encoded:
+            made.extend(kind.shape.of_each(rng, bytes.fromhex(line)))
         some = bases(rng, kind, self.records, self.encoded, self.whole)
         full = full_lists(rng, kind, self.records, self.encoded, 20 if self.whole else 2)
         others = [octets_of(line) for line in self.others]

@@ -286,20 +286,33 @@ def noise(rng, count, outer):
         yield "no record at all", tlv(outer, rng.randbytes(rng.randrange(1, 200)))
 
 
+def capital(rng, octets):
+    """One letter of the APN as a capital: the module takes it, and the rule alone refuses it."""
+    apn = child(octets, Field(octets, 0, None), 0x8C)
+    letters = [i for i in range(apn.body, apn.end) if 0x61 <= octets[i] <= 0x7A]
+    if letters:
+        i = rng.choice((letters[0], letters[-1], rng.choice(letters)))
+        yield "a letter of the APN as a capital", "APN has no capitals", octets[:i] + bytes([octets[i] - 0x20]) + octets[i + 1 :]
+
+
 class Shape:
     """What damage knows of a kind of record: its outer tag, the tags of what is TRUE, fields that are not its own or
-    too many, and the damages to its list."""
+    too many, the damages to its list, and those to every record, with the rule that they break."""
 
-    def __init__(self, outer, flags, unknown, lists):
-        self.outer, self.flags, self.lists = outer, flags, lists
+    def __init__(self, outer, flags, unknown, lists, each=()):
+        self.outer, self.flags, self.lists, self.each = outer, flags, lists, each
         self.unknown = [bytes.fromhex(x) for x in (unknown + " " + NO_FIELDS).split()]
 
     def of_list(self, octets):
         for damage in self.lists:
             yield from damage(octets)
 
+    def of_each(self, rng, octets):
+        for damage in self.each:
+            yield from damage(rng, octets)
 
-SHAPE = Shape(0xA0, (0x81, 0x92), UNKNOWN, (containers, profiles))
+
+SHAPE = Shape(0xA0, (0x81, 0x92), UNKNOWN, (containers, profiles), (capital,))
 
 
 def damaged(rng, shape, sample, bases, full, others, whole):

@@ -30,6 +30,7 @@ OCTETS = {WRITES, DECODES}
 STAMPS = ((0xAF, 0x30, 0x86), (0x90,))
 NUMBERS = ((0x8A,), (0x91,), (0x95,), (0xAF, 0x30, 0x83), (0xAF, 0x30, 0x84))
 TRUE = ((0x81,), (0x92,))
+APN = (0x8C,)
 
 
 # Edits of the writer's octets
@@ -94,6 +95,11 @@ def no_unused(block):
     return block[: 108 + size] + bytes(20 - size) + block[128:]
 
 
+def small_apn(block):
+    """Capitals in the APN lowered."""
+    return block[:22] + block[22:85].lower() + block[85:]
+
+
 def full_refused(block, line):
     return "24" if block[128] == 15 else line
 
@@ -111,8 +117,21 @@ def right_duration(octets):
         if value >= 0 else octets
 
 
+def small_z(body):
+    return body.replace(b"Z", b"z")
+
+
 def any_true(body):
     return b"\xff" if len(body) == 1 and body != b"\x00" else body
+
+
+def as_spelled(octets, line):
+    """The APN as it stands in the octets."""
+    if line == "20":
+        return line
+    f, block = fields(octets, 0x8C)[0], bytes.fromhex(line)
+    apn = octets[f.body : f.end]
+    return (block[:22] + apn + block[22 + len(apn) :]).hex().upper()
 
 
 def fifteen(octets):
@@ -195,9 +214,11 @@ FAULTS = [
     Fault("an empty node ID written", OCTETS, written=in_line(put_last(b"\x96\x00"))),
     Fault("offsets below zero with the sign 2B", OCTETS, written=in_line(in_fields(plus_sign, *STAMPS))),
     Fault("29 February written as 1 March", OCTETS, written=in_line(in_fields(no_leap_day, *STAMPS))),
+    Fault("the first letter of the APN as a capital", OCTETS | {BACK}, written=in_line(in_fields(bytes.capitalize, APN))),
     Fault("the number before the cause", {WRITES, AGAIN}, written=in_line(turned(0x93, 0x95))),
     Fault("octets where 24 is due: number 1 with a release", {REFUSES}, block=no_first_number),
     Fault("octets where 24 is due: octets after the node ID", {REFUSES}, block=no_unused),
+    Fault("octets where 24 is due: capitals in the APN", {REFUSES}, block=small_apn),
     Fault("24 for fifteen containers", OCTETS, written=full_refused),
     Fault("an answer of the writer left out", {WRITES, DECODES, ITSELF}, lines=missing_answer("write")),
     Fault("the reader takes a padded integer", {DAMAGED}, octets=if_sound(in_fields(unpadded, *NUMBERS))),
@@ -210,6 +231,9 @@ FAULTS = [
     Fault("the reader takes long-form lengths", {DAMAGED}, octets=if_sound(short_lengths)),
     Fault("the reader takes lengths from 256 on in 83 and three octets", {DAMAGED}, octets=if_sound(no_83)),
     Fault("the reader takes the offset 2D 00 00", {DAMAGED}, octets=if_sound(in_fields(plus_zero, *STAMPS))),
+    Fault("the reader takes capitals in the APN", {DAMAGED}, octets=if_sound(in_fields(bytes.lower, APN)), read=as_spelled),
+    Fault("the reader takes Z in the APN", {DAMAGED}, octets=if_sound(in_fields(small_z, APN)), read=as_spelled),
+    Fault("the reader lowers capitals in the APN", {DAMAGED}, octets=if_sound(in_fields(bytes.lower, APN))),
     Fault("the reader takes a limit's record without its number", {DAMAGED}, octets=if_sound(any_cause), read=without_its_number),
     Fault("the reader fills the QoS in from the first container", {BACK}, read=first_profile_throughout),
     Fault("the reader answers another IMSI digit", {BACK, DAMAGED}, read=other_digit),

@@ -7,11 +7,11 @@ forms; `wrong_values` gives values that Erlang can encode, for the reader.
 import values
 from good import APN_LETTERS, CLOSINGS, PRINTED, TOPS, profile, record
 from plain import BLANK, PLACES, copy
-from rules import LAST, NUMBERS, RELEASES, broken, broken_values, digits
+from rules import CAPITALS, LAST, NUMBERS, RELEASES, broken, broken_values, digits
 
 QOS_RULES = ("reliability is 0 to 5", "delay is 0 to 3", "precedence is 0 to 3", "peak is 0 to 9",
              "mean is 0 to 18")
-NOT_APN = bytes(x for x in range(256) if x not in APN_LETTERS)
+NOT_APN = bytes(x for x in range(256) if x not in APN_LETTERS + CAPITALS)
 NOT_PRINTED = bytes(x for x in range(256) if x not in PRINTED)
 NOT_CAUSES = bytes(x for x in range(256) if x not in RELEASES + CLOSINGS)
 
@@ -60,6 +60,17 @@ def long_apn(rng, r):
 
 def apn_letter(rng, r):
     r.apn = with_octet(r.apn, rng.randrange(r.apn_length), rng.choice(NOT_APN))
+
+
+def apn_capital(capital):
+    def break_it(rng, r):
+        place = rng.choice((0, r.apn_length - 1, rng.randrange(r.apn_length)))
+        r.apn = with_octet(r.apn, place, capital)
+    return break_it
+
+
+def apn_in_capitals(rng, r):
+    r.apn = r.apn.upper()
 
 
 def after_apn(rng, r):
@@ -228,6 +239,8 @@ BREAKERS = [
     ("APN has 1 to 63 characters", no_apn, False),
     ("APN has 1 to 63 characters", long_apn, False),
     ("APN is letters, digits, '.' and '-'", apn_letter, True),
+    *(("APN has no capitals", apn_capital(capital), True) for capital in CAPITALS),
+    ("APN has no capitals", apn_in_capitals, True),
     ("octets after the APN are zero", after_apn, False),
     ("offset is from -720 to 840 minutes", all_zones, False),
     ("SGSN change is 0 or 1", simply("change", (2, 3, 128, 255)), False),

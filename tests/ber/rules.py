@@ -2,8 +2,8 @@
 
 `broken` works on the plain form; `broken_values` on the values that Erlang
 decoded, which can say more than the plain form holds. Written from document
-01, and from W1 of the requests for which container has its QoS, not from our
-program.
+01, and from the requests W1 for which container has its QoS and W5 for the
+letters of an APN, not from our program.
 """
 
 import values
@@ -12,7 +12,8 @@ from plain import BLANK
 LAST = 3_155_759_999
 NUMBERS = 10**15
 RELEASES = (0, 4, 18)
-LETTERS = frozenset(b"ABCDEFGHIJKLMNOPQRSTUVWXYZabcdefghijklmnopqrstuvwxyz0123456789.-")
+LETTERS = frozenset(b"abcdefghijklmnopqrstuvwxyz0123456789.-")
+CAPITALS = b"ABCDEFGHIJKLMNOPQRSTUVWXYZ"
 
 
 def halves(imsi):
@@ -48,7 +49,8 @@ def rules(r):
         ("network initiation is 0 or 1", r.network in (0, 1)),
         ("charging ID fits four octets", 0 <= r.charging_id < 2**32),
         ("APN has 1 to 63 characters", 1 <= r.apn_length <= 63),
-        ("APN is letters, digits, '.' and '-'", all(x in LETTERS for x in apn)),
+        ("APN is letters, digits, '.' and '-'", all(x in LETTERS or x in CAPITALS for x in apn)),
+        ("APN has no capitals", not any(x in CAPITALS for x in apn)),
         ("octets after the APN are zero", not any(after_apn)),
         ("SGSN change is 0 or 1", r.change in (0, 1)),
         ("cause is 0, 4, 16, 17, 18, 19 or 20", r.cause in (0, 4, 16, 17, 18, 19, 20)),
