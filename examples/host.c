@@ -21,7 +21,8 @@ static const uint8_t traffic[] = {
 /* time 6: release 0 */
 static const uint8_t release[] = { 0xC3, 0x5E, 5, 0, 0, 0, 6, 0, 0, 0, 1, 10, 0, 0, 2, 0 };
 
-/* time 7: activate the same again; and reports, uplink and downlink by turns: the second pair meets the volume limit, and so does the third */
+/* time 7: activate the same again, with its APN spelled "A": its records have "a"; and reports, uplink and downlink by turns: the second pair
+ * meets the volume limit, and so does the third */
 static uint8_t activate_again[sizeof activate];
 static const uint32_t reports[] = { 400, 599, 0, 1, 600, 400, 5 };
 /* time 60: release 0 */
@@ -67,7 +68,7 @@ int main(void) {
     step("release again", release, sizeof release, sizeof out);
     printf("clock %u, accepted %u\n", node.clock, (unsigned)node.accepted);
     for (size_t i = 0; i < sizeof activate; i++)
-        activate_again[i] = i == 6 ? 7 : activate[i];
+        activate_again[i] = i == 6 ? 7 : i == 36 ? 'A' : activate[i];
     step("activate again, at 7", activate_again, sizeof activate_again, sizeof out);
     batch("reports, a number too many", reports, 7, sizeof out);
     batch("no reports", reports, 0, sizeof out);

@@ -39,7 +39,7 @@ struct charging_context {
     uint8_t active, flags;
     struct charging_name name;
     uint8_t imsi[8];
-    uint8_t apn[63];
+    uint8_t apn[63]; /* letters in lower case, however the event spelled them: a capital makes the node unsound */
     size_t apnlen;
     uint16_t pdptype;
     uint32_t address;
