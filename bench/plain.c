@@ -90,11 +90,20 @@ static size_t imsi_size(const uint8_t *s) {
     return (digits + 1) / 2;
 }
 
+static uint8_t lower(uint8_t x) { return x >= 'A' && x <= 'Z' ? x + 32 : x; }
+
+static int apn_char(uint8_t x) { return (x >= 'a' && x <= 'z') || (x >= '0' && x <= '9') || x == '.' || x == '-'; }
+
+/* as a record and a node have it, and as an event may spell it */
 static int apn_chars(const uint8_t *s, size_t n) {
-    for (size_t i = 0; i < n; i++) {
-        uint8_t x = s[i];
-        if (!((x >= 'A' && x <= 'Z') || (x >= 'a' && x <= 'z') || (x >= '0' && x <= '9') || x == '.' || x == '-')) return 0;
-    }
+    for (size_t i = 0; i < n; i++)
+        if (!apn_char(s[i])) return 0;
+    return 1;
+}
+
+static int apn_spelled(const uint8_t *s, size_t n) {
+    for (size_t i = 0; i < n; i++)
+        if (!apn_char(lower(s[i]))) return 0;
     return 1;
 }
 
@@ -522,7 +531,7 @@ static int refusal(const uint8_t *e, size_t n) {
     switch (e[2]) {
     case 1:
         memcpy(&q, e + 30, 5);
-        return e[15] <= 3 && imsi_size(e + 16) && qos_ok(&q) && e[35] >= 1 && e[35] <= 63 && apn_chars(e + 36, e[35]) ? 0 : 5;
+        return e[15] <= 3 && imsi_size(e + 16) && qos_ok(&q) && e[35] >= 1 && e[35] <= 63 && apn_spelled(e + 36, e[35]) ? 0 : 5;
     case 3:
         memcpy(&q, e + 15, 5);
         return qos_ok(&q) ? 0 : 5;
@@ -677,7 +686,7 @@ static struct charging_answer activate(struct charging_node *n, uint32_t t, cons
     c->name = (struct charging_name){four(e + 7), four(e + 11)};
     memcpy(c->imsi, e + 16, 8);
     c->apnlen = e[35];
-    memcpy(c->apn, e + 36, c->apnlen);
+    for (size_t k = 0; k < c->apnlen; k++) c->apn[k] = lower(e[36 + k]);
     c->pdptype = (uint16_t)(e[24] << 8 | e[25]);
     c->address = four(e + 26);
     memcpy(&c->current.qos, e + 30, 5);
