@@ -95,7 +95,7 @@ fn imsi_of(event: &[u8]) -> [u8; 8]
     imsi
 }
 
-// The context that an activate opens.
+// The context that an activate opens. Its name was checked with the event; here the check is asked for what it hands back, the name in lower case.
 fn opening(p: Profile, t: u32, a: Activation, event: &[u8]) -> Context
     requires { ⌜ Activated (now event) a ⌝ }
     ensures { λ r. ⌜ r ≡ activated p t (a .name) (broughtBy a (now (event .entry))) ⌝ }

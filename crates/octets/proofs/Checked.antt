@@ -28,7 +28,7 @@ all-zero zero = refl
 all-zero (suc n) = all-zero n
 
 -- a name filled up with zeros is one of a record by its characters
-pub apn-filled : (xs : List ℕ) → apnOk (fillTo 63 0 xs) (length xs) ≡ (leb 1 (length xs) && leb (length xs) 63 && allOf apnChar xs)
+apn-filled : (xs : List ℕ) → apnOk (fillTo 63 0 xs) (length xs) ≡ (leb 1 (length xs) && leb (length xs) 63 && allOf apnChar xs)
 unfolding apnOk fillTo
 apn-filled xs =
     rw (take-fill 63 0 xs, drop-append-seam xs (replicate (63 - length xs) 0), all-zero (63 - length xs))

@@ -40,7 +40,7 @@ no-capital x h k =
       ne-eqb x 0x2D (λ e. omega arith),
     )
 
-pub lower-twice : (x : ℕ) → lower (lower x) ≡ lower x
+lower-twice : (x : ℕ) → lower (lower x) ≡ lower x
 lower-twice x =
     either 0x41 x
     (λ h. either x 0x5A
@@ -49,7 +49,7 @@ lower-twice x =
     (λ h. ap lower (lower-below x h))
 
 -- a character of a record is lowered already
-pub lower-char : (x : ℕ) → apnChar x ≡ true → lower x ≡ x
+lower-char : (x : ℕ) → apnChar x ≡ true → lower x ≡ x
 lower-char x e =
     either 0x41 x
     (λ h. either x 0x5A (λ k. absurd (subst T (sym e ∙ no-capital x h k) tt)) (λ k. lower-above x k))

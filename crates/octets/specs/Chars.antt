@@ -27,6 +27,7 @@ apnChar x = (leb 0x61 x && leb x 0x7A) || (leb 0x30 x && leb x 0x39) || eqb x 0x
 unfoldable pub lower : ℕ → ℕ
 lower x = cond (leb 0x41 x && leb x 0x5A) (x + 0x20) x
 
+-- a name with its letters lowered
 unfoldable pub lowered : List ℕ → List ℕ
 lowered s = map lower s
 

@@ -9,7 +9,8 @@ use Rattle.octets.proofs.names.check_apn.Tie as tie
 returns : tie.Need-returns
 returns c =
     let s = c .before .before .before .before .before .args .s .now in
-    rw (c .before .before .lowered .ensures) (sym (checked-apn s (found-apn s (c .before .before .lowered .ensures) (c .before .apn-ok .ensures) (c .if2 .taken))))
+    let is = found-apn s (c .before .before .lowered .ensures) (c .before .apn-ok .ensures) (c .if2 .taken) in
+    rw (c .before .before .lowered .ensures) (sym (checked-apn s is))
 
 returns-2 : tie.Need-returns-2
 returns-2 c =
