@@ -12,6 +12,9 @@ use borrow.Author.Tests.{ltb-true, leb-true, leb-false, eqb-true, le-leb, lt-leb
 use Rattle.format.proofs.Tests.{both, by}
 use Rattle.calendar.specs.declared.Stamp.{Stamp}
 use Rattle.calendar.specs.Stamp.{stampOk}
+use Rattle.limits.specs.declared.Limits.{Limits}
+use Rattle.limits.specs.Limits.{limitsOk, noLimits, blankLimits}
+use Rattle.limits.proofs.Ranges.{limits-hold, blank-limits}
 use Rattle.container.specs.declared.Qos.{Qos}
 use Rattle.container.specs.declared.Container.{Container}
 use Rattle.container.specs.declared.OpenRecord.{OpenRecord}
@@ -27,85 +30,94 @@ use Rattle.container.proofs.Opens.{below-left, volume-more, open-none, 
 
 -- ---- the rules one by one
 
-pub record SoundOpen (most limit z clock : ℕ) (o : OpenRecord) : Type 0 where
+pub record SoundOpen (z clock : ℕ) (o : OpenRecord) : Type 0 where
+  pub limits : limitsOk (o .limits) ≡ true
   pub qos : qosOk (o .qos) ≡ true
   pub unused : blanks (drop (o .count) (o .containers)) ≡ true
   pub count : o .count ≡ o .changes
-  pub changes : o .changes < limit
+  pub changes : o .changes < o .limits .changes
   pub zone : o .opening .zone ≡ z
   pub containers : openOk z (o .opening .seconds) (o .qos) clock (used o) ≡ true
-  pub volume : volumeOf (used o) + o .uplink + o .downlink < most
+  pub volume : volumeOf (used o) + o .uplink + o .downlink < o .limits .volume
 
-module _ (volume limit z clock : ℕ) (o : OpenRecord) where
-  pub sound-open : soundOpen volume limit z clock o ≡ true → SoundOpen volume limit z clock o
+module _ (z clock : ℕ) (o : OpenRecord) where
+  pub sound-open : soundOpen z clock o ≡ true → SoundOpen z clock o
   unfolding soundOpen unusedOk countOk containersOk volumeOk
   sound-open h =
+      let l = limitsOk (o .limits) in
       let q = qosOk (o .qos) in
       let u = unusedOk o in
-      let n = countOk limit o in
+      let n = countOk o in
       let k = containersOk z clock o in
-      let h₄ = both (q && u && n && k) (volumeOk volume o) h in
-      let h₃ = both (q && u && n) k (h₄ .0) in
-      let h₂ = both (q && u) n (h₃ .0) in
-      let h₁ = both q u (h₂ .0) in
-      let n₁ = both (eqb (o .count) (o .changes)) (ltb (o .changes) limit) (h₂ .1) in
+      let h₄ = both (l && q && u && n && k) (volumeOk o) h in
+      let h₃ = both (l && q && u && n) k (h₄ .0) in
+      let h₂ = both (l && q && u) n (h₃ .0) in
+      let h₁ = both (l && q) u (h₂ .0) in
+      let h₀ = both l q (h₁ .0) in
+      let n₁ = both (eqb (o .count) (o .changes)) (ltb (o .changes) (o .limits .changes)) (h₂ .1) in
       let k₁ = both (eqb (o .opening .zone) z) (openOk z (o .opening .seconds) (o .qos) clock (used o)) (h₃ .1) in
       record {
-        qos = h₁ .0;
+        limits = h₀ .0;
+        qos = h₀ .1;
         unused = h₁ .1;
         count = eqb-true (o .count) (o .changes) (n₁ .0);
-        changes = ltb-true (o .changes) limit (n₁ .1);
+        changes = ltb-true (o .changes) (o .limits .changes) (n₁ .1);
         zone = eqb-true (o .opening .zone) z (k₁ .0);
         containers = k₁ .1;
-        volume = ltb-true (volumeOf (used o) + o .uplink + o .downlink) volume (h₄ .1);
+        volume = ltb-true (volumeOf (used o) + o .uplink + o .downlink) (o .limits .volume) (h₄ .1);
       }
 
-  pub sound-open-is : SoundOpen volume limit z clock o → soundOpen volume limit z clock o ≡ true
+  pub sound-open-is : SoundOpen z clock o → soundOpen z clock o ≡ true
   unfolding soundOpen unusedOk countOk containersOk volumeOk
   sound-open-is g =
       rw (
+        g .limits,
         g .qos,
         g .unused,
         eq-eqb (o .count) (o .changes) (g .count),
-        lt-ltb (o .changes) limit (g .changes),
+        lt-ltb (o .changes) (o .limits .changes) (g .changes),
         eq-eqb (o .opening .zone) z (g .zone),
         g .containers,
-        lt-ltb (volumeOf (used o) + o .uplink + o .downlink) volume (g .volume),
+        lt-ltb (volumeOf (used o) + o .uplink + o .downlink) (o .limits .volume) (g .volume),
       )
 
 -- ---- how the code finds them
 
 -- what is left of the limit for the containers, once the running one is spent, suffices for them
-module _ (volume limit z clock : ℕ) (o : OpenRecord) where
-  volume-left : volumeOk volume o ≡ ltb (volumeOf (used o)) (volume - o .uplink - o .downlink)
+module _ (o : OpenRecord) where
+  abbrev volume : ℕ
+  volume = o .limits .volume
+
+  volume-left : volumeOk o ≡ ltb (volumeOf (used o)) (volume - o .uplink - o .downlink)
   unfolding volumeOk
   volume-left =
       let e : volumeOf (used o) + o .uplink + o .downlink ≡ volumeOf (used o) + (o .uplink + o .downlink) = omega arith in
       ap (λ (x : ℕ). ltb x volume) e ∙ below-left (volumeOf (used o)) (o .uplink) (o .downlink) volume
 
-  joined : (q n l z k u v : Bool) → (q && n && l && z && (k && u && v)) ≡ (q && u && (n && l) && (z && k) && v)
-  joined false n l z k u v = refl
-  joined true false l z k true v = refl
-  joined true false l z k false v = refl
-  joined true true false z k true v = refl
-  joined true true false z k false v = refl
-  joined true true true false k true v = refl
-  joined true true true false k false v = refl
-  joined true true true true k true v = ap (λ (b : Bool). b && v) (and-true k)
-  joined true true true true k false v = ap (λ (b : Bool). b && v) (and-false k)
+  joined : (m q n l z k u v : Bool) → (m && q && n && l && z && (k && u && v)) ≡ (m && q && u && (n && l) && (z && k) && v)
+  joined false q n l z k u v = refl
+  joined true false n l z k u v = refl
+  joined true true false l z k true v = refl
+  joined true true false l z k false v = refl
+  joined true true true false z k true v = refl
+  joined true true true false z k false v = refl
+  joined true true true true false k true v = refl
+  joined true true true true false k false v = refl
+  joined true true true true true k true v = ap (λ (b : Bool). b && v) (and-true k)
+  joined true true true true true k false v = ap (λ (b : Bool). b && v) (and-false k)
 
-  pub rules-found : {q r : Bool} {x y : ℕ} → q ≡ qosOk (o .qos) → x ≡ volume - o .uplink → y ≡ x - o .downlink
+  pub rules-found : (z clock : ℕ) {m q r : Bool} {x y : ℕ} → m ≡ limitsOk (o .limits) → q ≡ qosOk (o .qos) → x ≡ volume - o .uplink → y ≡ x - o .downlink
       → r ≡ heldOk z (o .opening .seconds) (o .qos) clock y (o .count) (o .containers)
-      → (q && eqb (o .count) (o .changes) && ltb (o .changes) limit && eqb (o .opening .zone) z && r) ≡ soundOpen volume limit z clock o
+      → (m && q && eqb (o .count) (o .changes) && ltb (o .changes) (o .limits .changes) && eqb (o .opening .zone) z && r) ≡ soundOpen z clock o
   unfolding heldOk soundOpen unusedOk countOk containersOk
-  rules-found a b d e =
-      rw (a, e, d, b, volume-left)
-      (joined (qosOk (o .qos)) (eqb (o .count) (o .changes)) (ltb (o .changes) limit) (eqb (o .opening .zone) z)
+  rules-found z clock m a b d e =
+      rw (m, a, e, d, b, volume-left)
+      (joined (limitsOk (o .limits)) (qosOk (o .qos)) (eqb (o .count) (o .changes)) (ltb (o .changes) (o .limits .changes)) (eqb (o .opening .zone) z)
       (openOk z (o .opening .seconds) (o .qos) clock (used o)) (blanks (drop (o .count) (o .containers)))
       (ltb (volumeOf (used o)) (volume - o .uplink - o .downlink)))
 
   -- what is left of a limit that is met is no more than the last counter
-  pub limit-met : {a b : ℕ} → a ≡ volume - volumeOf (used o) → b ≡ a - o .uplink → leb b (o .downlink) ≡ volumeMet volume o
+  pub limit-met : {a b : ℕ} → a ≡ volume - volumeOf (used o) → b ≡ a - o .uplink → leb b (o .downlink) ≡ volumeMet o
   limit-met {a} {b} p q =
       let sum = volumeOf (used o) + o .uplink + o .downlink in
       by (leb volume sum)
@@ -115,7 +127,7 @@ module _ (volume limit z clock : ℕ) (o : OpenRecord) where
 -- ---- a slot that is free holds none
 
 pub is-blank : blankOpen noOpen ≡ true
-unfolding blankOpen blanks isBlank sameQos noContainers
+unfolding blankOpen blanks isBlank sameQos noContainers blankLimits
 is-blank = refl
 
 pub blank-open : (o : OpenRecord) → length (o .containers) ≡ 15 → blankOpen o ≡ true → o ≡ noOpen
@@ -124,7 +136,8 @@ blank-open o size h =
     let a₁ = eqb (o .opening .seconds) 0 in
     let a₂ = a₁ && eqb (o .opening .zone) 0 in
     let a₃ = a₂ && sameQos (o .qos) noQos in
-    let a₄ = a₃ && eqb (o .uplink) 0 in
+    let a₃′ = a₃ && blankLimits (o .limits) in
+    let a₄ = a₃′ && eqb (o .uplink) 0 in
     let a₅ = a₄ && eqb (o .downlink) 0 in
     let a₆ = a₅ && eqb (o .changes) 0 in
     let a₇ = a₆ && blanks (o .containers) in
@@ -132,12 +145,14 @@ blank-open o size h =
     let h₆ = both a₆ (blanks (o .containers)) (h₇ .0) in
     let h₅ = both a₅ (eqb (o .changes) 0) (h₆ .0) in
     let h₄ = both a₄ (eqb (o .downlink) 0) (h₅ .0) in
-    let h₃ = both a₃ (eqb (o .uplink) 0) (h₄ .0) in
-    let h₂ = both a₂ (sameQos (o .qos) noQos) (h₃ .0) in
+    let h₃ = both a₃′ (eqb (o .uplink) 0) (h₄ .0) in
+    let h₃′ = both a₃ (blankLimits (o .limits)) (h₃ .0) in
+    let h₂ = both a₂ (sameQos (o .qos) noQos) (h₃′ .0) in
     let h₁ = both a₁ (eqb (o .opening .zone) 0) (h₂ .0) in
     let seconds = eqb-true (o .opening .seconds) 0 (h₁ .0) in
     let zone = eqb-true (o .opening .zone) 0 (h₁ .1) in
     let qos = same-qos (o .qos) noQos (h₂ .1) in
+    let none = blank-limits (o .limits) (h₃′ .1) in
     let uplink = eqb-true (o .uplink) 0 (h₃ .1) in
     let downlink = eqb-true (o .downlink) 0 (h₄ .1) in
     let changes = eqb-true (o .changes) 0 (h₅ .1) in
@@ -146,6 +161,7 @@ blank-open o size h =
     λ i. record {
       opening = record { seconds = seconds i; zone = zone i };
       qos = qos i;
+      limits = none i;
       uplink = uplink i;
       downlink = downlink i;
       changes = changes i;
@@ -155,10 +171,11 @@ blank-open o size h =
 
 -- ---- what becomes of it
 
-module _ (most limit z clock : ℕ) (o : OpenRecord) (g : SoundOpen most limit z clock o) (t : ℕ) (since : clock ≤ t) where
+module _ (z clock : ℕ) (o : OpenRecord) (g : SoundOpen z clock o) (t : ℕ) (since : clock ≤ t) where
   -- later, with other counters
-  pub counted-sound : (up down : ℕ) → volumeOf (used o) + (o .uplink + up) + (o .downlink + down) < most → SoundOpen most limit z t (reported o up down)
+  pub counted-sound : (up down : ℕ) → volumeOf (used o) + (o .uplink + up) + (o .downlink + down) < o .limits .volume → SoundOpen z t (reported o up down)
   counted-sound up down v = record {
+    limits = g .limits;
     qos = g .qos;
     unused = g .unused;
     count = g .count;
@@ -168,8 +185,9 @@ module _ (most limit z clock : ℕ) (o : OpenRecord) (g : SoundOpen most limit z
     volume = v;
   }
 
-  pub later-sound : SoundOpen most limit z t o
+  pub later-sound : SoundOpen z t o
   later-sound = record {
+    limits = g .limits;
     qos = g .qos;
     unused = g .unused;
     count = g .count;
@@ -181,12 +199,13 @@ module _ (most limit z clock : ℕ) (o : OpenRecord) (g : SoundOpen most limit z
 
   -- a change leaves it open: one container and one change more, both below the limit
   pub changed-sound : (size : length (used o) ≡ o .count) (k : ℕ) (q : Qos) → containerOk (running o k (record { seconds = t; zone = z })) ≡ true → k < 2
-      → qosOk q ≡ true → changes (running o k (record { seconds = t; zone = z })) q ≡ true → o .changes + 1 < limit
-      → SoundOpen most limit z t (changed o k (record { seconds = t; zone = z }) q)
+      → qosOk q ≡ true → changes (running o k (record { seconds = t; zone = z })) q ≡ true → o .changes + 1 < o .limits .changes
+      → SoundOpen z t (changed o k (record { seconds = t; zone = z }) q)
   changed-sound size k q ok h range e below =
       let x = running o k (record { seconds = t; zone = z }) in
       let cs = endedAll o k (record { seconds = t; zone = z }) in
       record {
+        limits = g .limits;
         qos = range;
         unused = padded-rest cs;
         count = omega (arith, length-append (used o) (x ∷ []), size, g .count);
@@ -217,19 +236,21 @@ unfolding containerOk stampOk
 running-ok o k t z h q u d l w =
     rw (q, lt-ltb (o .uplink) (2 ^ 40) u, lt-ltb (o .downlink) (2 ^ 40) d, le-leb k 2 h, lt-ltb t 3155760000 (omega arith), le-leb z 1560 w)
 
--- the next record, with nothing counted
-pub opened-sound : (most limit z t : ℕ) (q : Qos) → qosOk q ≡ true → 1 ≤ most → 1 ≤ limit
-    → SoundOpen most limit z t (opened (record { seconds = t; zone = z }) q)
+-- the next record, with nothing counted, under limits in range
+pub opened-sound : (z t : ℕ) (q : Qos) (l : Limits) → qosOk q ≡ true → limitsOk l ≡ true → SoundOpen z t (opened (record { seconds = t; zone = z }) q l)
 unfolding volumeOf
-opened-sound most limit z t q range some any = record {
-  qos = range;
-  unused = padded-rest [];
-  count = refl;
-  changes = any;
-  zone = refl;
-  containers = open-none z t q t (omega arith);
-  volume = some;
-}
+opened-sound z t q l range ok =
+    let k = limits-hold l ok in
+    record {
+      limits = ok;
+      qos = range;
+      unused = padded-rest [];
+      count = refl;
+      changes = k .some-changes;
+      zone = refl;
+      containers = open-none z t q t (omega arith);
+      volume = k .some-octets;
+    }
 
 -- ---- one container more, in its array
 

@@ -1,10 +1,13 @@
--- A record that is still open: what becomes of it, what the limits say of it (01, "What an event does"), and its rules (01, "A sound node").
+-- A record that is still open: what becomes of it, what its limits say of it (01, "What an event does"), and its rules (01, "A sound node"). "A
+-- record keeps the limits it opened with until it closes" (02, W6): it holds them.
 use mathlib.Core.Bool.{Bool, true, _&&_}
 use mathlib.Core.List.{List, [], _∷_, _++_}
 use Prim.Native.Nat.{ℕ, _+_, _-_, _^_}
 use lib.Dec.{leb, ltb, eqb}
 use lib.ListN.{length, take, drop}
 use Rattle.calendar.specs.declared.Stamp.{Stamp}
+use Rattle.limits.specs.declared.Limits.{Limits}
+use Rattle.limits.specs.Limits.{limitsOk, noLimits, blankLimits}
 use Rattle.container.specs.declared.Qos.{Qos}
 use Rattle.container.specs.declared.Container.{Container}
 use Rattle.container.specs.declared.OpenRecord.{OpenRecord}
@@ -19,18 +22,19 @@ abbrev pub used : OpenRecord → List Container
 used o = take (o .count) (o .containers)
 
 -- "opens a record now with empty counters, no containers, change count 0"
-abbrev pub opened : Stamp → Qos → OpenRecord
-opened now q = record { opening = now; qos = q; uplink = 0; downlink = 0; changes = 0; containers = padded []; count = 0 }
+abbrev pub opened : Stamp → Qos → Limits → OpenRecord
+opened now q l = record { opening = now; qos = q; limits = l; uplink = 0; downlink = 0; changes = 0; containers = padded []; count = 0 }
 
 -- no record: all zero
 abbrev pub noOpen : OpenRecord
-noOpen = opened noStamp noQos
+noOpen = opened noStamp noQos noLimits
 
 -- "Traffic adds both volumes; a report is never divided."
 abbrev pub reported : OpenRecord → ℕ → ℕ → OpenRecord
 reported o up down = record {
   opening = o .opening;
   qos = o .qos;
+  limits = o .limits;
   uplink = o .uplink + up;
   downlink = o .downlink + down;
   changes = o .changes;
@@ -51,6 +55,7 @@ abbrev pub ended : OpenRecord → ℕ → Stamp → OpenRecord
 ended o condition now = record {
   opening = o .opening;
   qos = o .qos;
+  limits = o .limits;
   uplink = 0;
   downlink = 0;
   changes = o .changes;
@@ -63,6 +68,7 @@ abbrev pub changed : OpenRecord → ℕ → Stamp → Qos → OpenRecord
 changed o condition now q = record {
   opening = o .opening;
   qos = q;
+  limits = o .limits;
   uplink = 0;
   downlink = 0;
   changes = o .changes + 1;
@@ -104,23 +110,23 @@ unfoldable pub volumeOf : List Container → ℕ
 volumeOf [] = 0
 volumeOf (c ∷ cs) = c .uplink + c .downlink + volumeOf cs
 
--- ---- what the limits say
+-- ---- what its limits say
 
 -- "uplink plus downlink since the record opened is at least the volume limit"
-abbrev pub volumeMet : ℕ → OpenRecord → Bool
-volumeMet limit o = leb limit (volumeOf (used o) + o .uplink + o .downlink)
+abbrev pub volumeMet : OpenRecord → Bool
+volumeMet o = leb (o .limits .volume) (volumeOf (used o) + o .uplink + o .downlink)
 
 -- what they leave of the limit: 0 where it is met
-abbrev pub volumeLeft : ℕ → OpenRecord → ℕ
-volumeLeft limit o = limit - (volumeOf (used o) + o .uplink + o .downlink)
+abbrev pub volumeLeft : OpenRecord → ℕ
+volumeLeft o = o .limits .volume - (volumeOf (used o) + o .uplink + o .downlink)
 
 -- "now minus opening is at least the time limit"
-abbrev pub timeMet : ℕ → ℕ → OpenRecord → Bool
-timeMet limit now o = leb limit (now - o .opening .seconds)
+abbrev pub timeMet : ℕ → OpenRecord → Bool
+timeMet now o = leb (o .limits .seconds) (now - o .opening .seconds)
 
 -- "the record's QoS and tariff changes reach the change limit", with one more
-abbrev pub changesMet : ℕ → OpenRecord → Bool
-changesMet limit o = leb limit (o .changes + 1)
+abbrev pub changesMet : OpenRecord → Bool
+changesMet o = leb (o .limits .changes) (o .changes + 1)
 
 -- ---- its rules in a sound node
 
@@ -129,8 +135,8 @@ unfoldable pub unusedOk : OpenRecord → Bool
 unusedOk o = blanks (drop (o .count) (o .containers))
 
 -- "container count equals change count and is below the change limit"
-unfoldable pub countOk : ℕ → OpenRecord → Bool
-countOk limit o = eqb (o .count) (o .changes) && ltb (o .changes) limit
+unfoldable pub countOk : OpenRecord → Bool
+countOk o = eqb (o .count) (o .changes) && ltb (o .changes) (o .limits .changes)
 
 -- "conditions 0 or 1; opening ≤ container times in order ≤ clock; QoS differs from one container to the next, or to the running one,
 -- exactly after condition 0"; each container's values in range; every stored time has the profile's offset
@@ -138,16 +144,16 @@ unfoldable pub containersOk : ℕ → ℕ → OpenRecord → Bool
 containersOk zone clock o = eqb (o .opening .zone) zone && openOk zone (o .opening .seconds) (o .qos) clock (used o)
 
 -- "all volumes of the open record sum below the volume limit"
-unfoldable pub volumeOk : ℕ → OpenRecord → Bool
-volumeOk limit o = ltb (volumeOf (used o) + o .uplink + o .downlink) limit
+unfoldable pub volumeOk : OpenRecord → Bool
+volumeOk o = ltb (volumeOf (used o) + o .uplink + o .downlink) (o .limits .volume)
 
--- under a volume limit and a change limit, with this offset, at this clock
-unfoldable pub soundOpen : ℕ → ℕ → ℕ → ℕ → OpenRecord → Bool
-soundOpen volume changes zone clock o =
-    qosOk (o .qos) && unusedOk o && countOk changes o && containersOk zone clock o && volumeOk volume o
+-- With this offset, at this clock: "the open record's own limits are in range, and the rules of its counters read those" (02, W6).
+unfoldable pub soundOpen : ℕ → ℕ → OpenRecord → Bool
+soundOpen zone clock o =
+    limitsOk (o .limits) && qosOk (o .qos) && unusedOk o && countOk o && containersOk zone clock o && volumeOk o
 
 -- every field zero
 unfoldable pub blankOpen : OpenRecord → Bool
 blankOpen o =
-    eqb (o .opening .seconds) 0 && eqb (o .opening .zone) 0 && sameQos (o .qos) noQos && eqb (o .uplink) 0 && eqb (o .downlink) 0
-    && eqb (o .changes) 0 && blanks (o .containers) && eqb (o .count) 0
+    eqb (o .opening .seconds) 0 && eqb (o .opening .zone) 0 && sameQos (o .qos) noQos && blankLimits (o .limits) && eqb (o .uplink) 0
+    && eqb (o .downlink) 0 && eqb (o .changes) 0 && blanks (o .containers) && eqb (o .count) 0

@@ -38,12 +38,14 @@ pub struct Container {
     pub time: calendar::Stamp,
 }
 
-// A record that is still open: when it opened, the QoS in force, what was counted under it since the last container ended, how many QoS
-// and tariff changes there were, and the containers that these ended. Places that are not used are zero.
+// A record that is still open: when it opened, the QoS in force, the limits that it opened with and keeps until it closes, what was counted
+// since the last container ended, how many QoS and tariff changes there were, and the containers that these ended. Places that are not used
+// are zero.
 #[repr(C)]
 pub struct OpenRecord {
     pub opening: calendar::Stamp,
     pub qos: Qos,
+    pub limits: limits::Limits,
     pub uplink: u64,
     pub downlink: u64,
     pub changes: u8,

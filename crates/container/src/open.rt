@@ -1,5 +1,5 @@
 // A record that is still open (01, "What an event does" and "A sound node"): what a report, a change and a closing make of it, what the
-// limits say of it, and its rules in a sound node. A context of the SGSN has one, and a gateway's will.
+// limits that it opened with say of it, and its rules in a sound node. A context of the SGSN has one, and a gateway's will.
 //
 // Where a number could not grow or a container has no place, the record is as it was: no sound node comes to that.
 use crate::Container;
@@ -10,21 +10,23 @@ use crate::one;
 use crate::qos_profile;
 use crate::unused;
 use calendar::Stamp;
+use limits::Limits;
 ghost use mathlib.Core.Path.{_≡_};
 ghost use mathlib.Core.Bool.{cond, _&&_};
 ghost use lib.Dec.{ltb};
 ghost use Rattle.container.specs.Open.{noOpen, opened, reported, running, ended, changed, ample, roomy};
 ghost use Rattle.container.specs.Open.{volumeMet, volumeLeft, timeMet, changesMet, soundOpen, blankOpen};
 
-// A record that opens now, with nothing counted.
-pub fn opened(now: Stamp, q: Qos) -> OpenRecord
-    ensures { λ r. ⌜ r ≡ opened now q ⌝ }
+// A record that opens now, with nothing counted, under these limits.
+pub fn opened(now: Stamp, q: Qos, limits: Limits) -> OpenRecord
+    ensures { λ r. ⌜ r ≡ opened now q limits ⌝ }
 {
     let blank = one::no_container();
     let containers = [blank; 15];
     OpenRecord {
         opening: now,
         qos: q,
+        limits,
         uplink: 0,
         downlink: 0,
         changes: 0,
@@ -42,7 +44,8 @@ pub fn no_open() -> OpenRecord
         zone: 0,
     };
     let none = qos_profile::no_qos();
-    opened(never, none)
+    let limits = limits::no_limits();
+    opened(never, none, limits)
 }
 
 // A report is added to both counters.
@@ -118,64 +121,74 @@ pub fn changed(o: OpenRecord, condition: u8, now: Stamp, q: Qos) -> OpenRecord
     n
 }
 
-// Is what was counted since the record opened at least the limit?
-pub fn volume_met(o: OpenRecord, limit: u64) -> bool
-    ensures { λ r. ⌜ r ≡ volumeMet limit o ⌝ }
+// Is what was counted since the record opened at least its limit?
+pub fn volume_met(o: OpenRecord) -> bool
+    ensures { λ r. ⌜ r ≡ volumeMet o ⌝ }
 {
     let v = o.containers;
-    let left = held::rest_of(held::left_after(v, o.count, limit), o.uplink);
+    let left = held::rest_of(held::left_after(v, o.count, o.limits.volume), o.uplink);
     left <= o.downlink
 }
 
-// What the octets counted since the record opened leave of the limit: 0 where it is met.
-pub fn volume_left(o: OpenRecord, limit: u64) -> u64
-    ensures { λ r. ⌜ r ≡ volumeLeft limit o ⌝ }
+// What the octets counted since the record opened leave of its limit: 0 where it is met.
+pub fn volume_left(o: OpenRecord) -> u64
+    ensures { λ r. ⌜ r ≡ volumeLeft o ⌝ }
 {
     let v = o.containers;
-    let left = held::rest_of(held::left_after(v, o.count, limit), o.uplink);
+    let left = held::rest_of(held::left_after(v, o.count, o.limits.volume), o.uplink);
     held::rest_of(left, o.downlink)
 }
 
-// Has it been open for at least the limit, at a time?
-pub fn time_met(o: OpenRecord, limit: u32, t: u32) -> bool
-    ensures { λ r. ⌜ r ≡ timeMet limit t o ⌝ }
+// Has it been open for at least its limit, at a time?
+pub fn time_met(o: OpenRecord, t: u32) -> bool
+    ensures { λ r. ⌜ r ≡ timeMet t o ⌝ }
 {
     let opening = o.opening;
-    limit as u64 <= held::rest_of(t as u64, opening.seconds as u64)
+    o.limits.seconds as u64 <= held::rest_of(t as u64, opening.seconds as u64)
 }
 
-// Does one change more reach the limit?
-pub fn changes_met(o: OpenRecord, limit: u8) -> bool
-    ensures { λ r. ⌜ r ≡ changesMet limit o ⌝ }
+// Does one change more reach its limit?
+pub fn changes_met(o: OpenRecord) -> bool
+    ensures { λ r. ⌜ r ≡ changesMet o ⌝ }
 {
-    limit as u32 <= o.changes as u32 + 1
+    o.limits.changes as u32 <= o.changes as u32 + 1
 }
 
-// Is it as it must be in a sound node, under these limits, with this offset, at this clock?
-pub fn is_sound(o: OpenRecord, volume: u64, changes: u8, zone: u16, clock: u32) -> bool
-    ensures { λ r. ⌜ r ≡ soundOpen volume changes zone clock o ⌝ }
+// Is it as it must be in a sound node, with this offset, at this clock? Its counters keep to its own limits.
+pub fn is_sound(o: OpenRecord, zone: u16, clock: u32) -> bool
+    ensures { λ r. ⌜ r ≡ soundOpen zone clock o ⌝ }
 {
+    let l = o.limits;
     let q = o.qos;
     let v = o.containers;
     let t = o.opening;
+    let limited = limits::limits_ok(l);
     let range = qos_profile::qos_ok(q);
-    let left = held::rest_of(held::rest_of(volume, o.uplink), o.downlink);
+    let left = held::rest_of(held::rest_of(l.volume, o.uplink), o.downlink);
     let kept = held::held_ok(v, o.count, zone, t.seconds, q, clock, left);
-    range & (o.count == o.changes as usize) & (o.changes < changes) & (t.zone == zone) & kept
+    limited
+        & range
+        & (o.count == o.changes as usize)
+        & (o.changes < l.changes)
+        & (t.zone == zone)
+        & kept
 }
 
 // Is every field zero?
 pub fn is_blank(o: OpenRecord) -> bool
     ensures { λ r. ⌜ r ≡ blankOpen o ⌝ }
 {
+    let l = o.limits;
     let q = o.qos;
     let v = o.containers;
+    let unlimited = limits::is_blank(l);
     let none = qos_profile::no_qos();
     let same = qos_profile::same_qos(q, none);
     let unused = unused::unused_blank(v, 0);
     (o.opening.seconds == 0)
         & (o.opening.zone == 0)
         & same
+        & unlimited
         & (o.uplink == 0)
         & (o.downlink == 0)
         & (o.changes == 0)

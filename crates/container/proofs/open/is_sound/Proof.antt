@@ -6,13 +6,13 @@ use Rattle.container.proofs.open.is_sound.Tie as tie
 
 returns : tie.Need-returns
 returns c =
-    let t = c .before .before .before .before in
-    let a = c .before .before .before .before .before .before .before .before .before .before .before .args in
-    rules-found (a .volume) (a .changes) (a .zone) (a .clock) (a .o) (t .before .before .before .qos-ok .ensures) (t .before .before .rest-of .ensures)
-    (t .before .rest-of2 .ensures) (t .held-ok .ensures)
+    let t = c .before .before .before .before .before in
+    let a = t .before .before .before .before .before .before .before .before .before .args in
+    rules-found (a .o) (a .zone) (a .clock) (t .before .before .before .before .limits-ok .ensures) (t .before .before .before .qos-ok .ensures)
+    (t .before .before .rest-of .ensures) (t .before .rest-of2 .ensures) (t .held-ok .ensures)
 
 pub is-sound-spec : {M : Type 1} → statement M
 is-sound-spec =
     tie.close
-    (tie.spec (λ c κs. search needs) (λ c κs. search needs) (λ c κs. search needs) (λ c κs. search needs)
+    (tie.spec (λ c κs. search needs) (λ c κs. search needs) (λ c κs. search needs) (λ c κs. search needs) (λ c κs. search needs)
     (λ c. search needs) returns)

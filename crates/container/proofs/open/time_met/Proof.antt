@@ -7,4 +7,4 @@ returns : tie.Need-returns
 returns c = rw (c .rest-of .ensures)
 
 pub time-met-spec : {M : Type 1} → statement M
-time-met-spec = tie.close (tie.spec (λ c. search needs) (λ c κs. search needs) returns)
+time-met-spec = tie.close (tie.spec (λ c. search needs) (λ c. search needs) (λ c κs. search needs) returns)

@@ -7,7 +7,7 @@ use Rattle.container.proofs.open.volume_met.Tie as tie
 returns : tie.Need-returns
 returns c =
     let a = c .before .before .before .before .args in
-    limit-met (a .limit) 0 0 0 (a .o) (c .before .before .left-after .ensures) (c .before .rest-of .ensures)
+    limit-met (a .o) (c .before .before .left-after .ensures) (c .before .rest-of .ensures)
 
 pub volume-met-spec : {M : Type 1} → statement M
 volume-met-spec = tie.close (tie.spec (λ c κs. search needs) (λ c κs. search needs) returns)
