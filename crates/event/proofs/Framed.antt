@@ -10,7 +10,7 @@ use borrow.Author.Tests.{leb-true}
 use Rattle.event.specs.Fields.{kindOf, countOf}
 use Rattle.event.specs.Kinds.{Kind, kinds, rowOf, theRow, wholeOf}
 use Rattle.event.specs.Kinds.{activateKind, trafficKind, qosKind, tariffKind, releaseKind, tickKind, managementKind, noKind}
-use Rattle.event.specs.Kinds.{attachKind, locationKind, subscriberKind, detachKind}
+use Rattle.event.specs.Kinds.{attachKind, locationKind, subscriberKind, detachKind, replaceKind}
 use Rattle.event.specs.Rows.{known}
 use Rattle.event.specs.Framing.{nextLength}
 use Rattle.event.specs.Private.Entries.{entryOf}
@@ -44,16 +44,16 @@ some false w n a b = b
 -- Of a kind's whole length: it is something, none is more than an activate's with 255 octets of name, and it goes by the octet of n alone.
 record Sized (k : Kind) : Type 0 where
   some : (s : List ℕ) → 1 ≤ k .whole s
-  most : (s : List ℕ) → countOf s < 256 → k .whole s ≤ 291
+  most : (s : List ℕ) → countOf s < 256 → k .whole s ≤ 292
   same : (s t : List ℕ) → countOf t ≡ countOf s → k .whole t ≡ k .whole s
 
 -- one length for every event of the kind
-fixed : (k : Kind) (n : ℕ) → ((s : List ℕ) → k .whole s ≡ n) → 1 ≤ n → n ≤ 291 → Sized k
+fixed : (k : Kind) (n : ℕ) → ((s : List ℕ) → k .whole s ≡ n) → 1 ≤ n → n ≤ 292 → Sized k
 fixed k n e a b =
     record { some = λ s. omega (arith, e s); most = λ s h. omega (arith, e s); same = λ s t h. e t ∙ sym (e s) }
 
 named : Sized activateKind
-named = record { some = λ s. omega arith; most = λ s h. omega arith; same = λ s t h. ap (λ (i : ℕ). 36 + i) h }
+named = record { some = λ s. omega arith; most = λ s h. omega arith; same = λ s t h. ap (λ (i : ℕ). 37 + i) h }
 
 sized : (s : List ℕ) → Sized (theRow (rowOf s))
 unfolding Every kinds
@@ -68,8 +68,9 @@ sized s =
     let i = fixed locationKind 18 (λ s. refl) (omega arith) (omega arith) in
     let j = fixed subscriberKind 15 (λ s. refl) (omega arith) (omega arith) in
     let k = fixed detachKind 16 (λ s. refl) (omega arith) (omega arith) in
+    let l = fixed replaceKind 23 (λ s. refl) (omega arith) (omega arith) in
     let z = fixed noKind 7 (λ s. refl) (omega arith) (omega arith) in
-    row-else Sized s (named, (b, (c, (d, (e, (f, (g, (h, (i, (j, (k, tt))))))))))) z
+    row-else Sized s (named, (b, (c, (d, (e, (f, (g, (h, (i, (j, (k, (l, tt)))))))))))) z
 
 -- never more than what is left
 pub next-within : (s : List ℕ) → nextLength s ≤ length s
@@ -87,6 +88,6 @@ pub whole-same : (s t : List ℕ) → kindOf t ≡ kindOf s → countOf t ≡ co
 unfolding wholeOf
 whole-same s t k n = rw (wholeOf, k) (sized s .same s t n)
 
-pub whole-most : (s : List ℕ) → countOf s < 256 → wholeOf s ≤ 291
+pub whole-most : (s : List ℕ) → countOf s < 256 → wholeOf s ≤ 292
 unfolding wholeOf
 whole-most s h = sized s .most s h

@@ -52,10 +52,10 @@ unfolding eventOf
 says-activate u e = ap (λ (k : Kind). k .says u) (row-of u e)
 
 module _ (s t : List ℕ) (o : OneSpelling s t) where
-  at-front : (i : ℕ) → i < 36 → getD s i 0 ≡ getD t i 0
+  at-front : (i : ℕ) → i < 37 → getD s i 0 ≡ getD t i 0
   at-front = front-at s t (o .front)
 
-  number-front : (k at : ℕ) → at + k ≤ 36 → numberIn k at s ≡ numberIn k at t
+  number-front : (k at : ℕ) → at + k ≤ 37 → numberIn k at s ≡ numberIn k at t
   number-front = front-number s t (o .front)
 
   pub kind-too : kindOf t ≡ 1
@@ -68,22 +68,22 @@ module _ (s t : List ℕ) (o : OneSpelling s t) where
   same-flags = at-front 15 (omega arith)
 
   pub same-imsi : imsiOf s ≡ imsiOf t
-  same-imsi = front-part {n = 36} s t (o .front) 8 16 (omega arith)
+  same-imsi = front-part {n = 37} s t (o .front) 8 16 (omega arith)
 
   pub same-length : length s ≡ length t
   same-length =
       omega (
         arith,
-        length-append (take 36 s) (spellingOf s),
-        length-append (take 36 t) (spellingOf t),
-        ap length (take-append-drop 36 s),
-        ap length (take-append-drop 36 t),
+        length-append (take 37 s) (spellingOf s),
+        length-append (take 37 t) (spellingOf t),
+        ap length (take-append-drop 37 s),
+        ap length (take-append-drop 37 t),
         ap length (o .front),
         spelled-length (spellingOf s) (spellingOf t) (o .name),
       )
 
   same-count : countOf s ≡ countOf t
-  same-count = at-front 35 (omega arith)
+  same-count = at-front 36 (omega arith)
 
   same-qos : qosAt 30 s ≡ qosAt 30 t
   same-qos =
@@ -104,6 +104,7 @@ module _ (s t : List ℕ) (o : OneSpelling s t) where
         number-front 2 24 (omega arith),
         number-front 4 26 (omega arith),
         same-qos,
+        at-front 35 (omega arith),
         same-count,
       )
 
@@ -121,7 +122,7 @@ module _ (s t : List ℕ) (o : OneSpelling s t) where
   same-marked = rw (at-front 0 (omega arith), at-front 1 (omega arith))
 
   pub same-known : known s ≡ known t
-  same-known = known-is s ∙ ap (λ (k : ℕ). leb 1 k && leb k 11) (at-front 2 (omega arith)) ∙ sym (known-is t)
+  same-known = known-is s ∙ ap (λ (k : ℕ). leb 1 k && leb k 12) (at-front 2 (omega arith)) ∙ sym (known-is t)
 
   pub same-measured : measured s ≡ measured t
   unfolding measured wholeOf

@@ -18,7 +18,7 @@ use Rattle.event.specs.declared.kinds.Entry.{Entry}
 
 -- ---- the numbers
 
-pub in-order : map (λ (k : Kind). k .number) kinds ≡ 1 ∷ 2 ∷ 3 ∷ 4 ∷ 5 ∷ 6 ∷ 7 ∷ 8 ∷ 9 ∷ 10 ∷ 11 ∷ []
+pub in-order : map (λ (k : Kind). k .number) kinds ≡ 1 ∷ 2 ∷ 3 ∷ 4 ∷ 5 ∷ 6 ∷ 7 ∷ 8 ∷ 9 ∷ 10 ∷ 11 ∷ 12 ∷ []
 unfolding kinds
 in-order = refl
 
@@ -43,16 +43,16 @@ known-from a n (k ∷ ks) r =
     (λ e. let d = eqb-true n a e in rw (e, le-leb a n (omega arith), lt-ltb n (a + suc (length ks)) (omega arith)))
     (λ e. rw e (known-from (suc a) n ks (r .1) ∙ moved a n (suc a + length ks) (eqb-false n a e) ∙ ap (λ (i : ℕ). leb a n && ltb n i) z)))
 
-below-12 : (n : ℕ) → ltb n 12 ≡ leb n 11
-below-12 n =
-    by (leb n 11) (λ e. rw (e, lt-ltb n 12 (omega (arith, leb-true n 11 e)))) (λ e. rw (e, le-ltb n 12 (omega (arith, leb-false n 11 e))))
+below-13 : (n : ℕ) → ltb n 13 ≡ leb n 12
+below-13 n =
+    by (leb n 12) (λ e. rw (e, lt-ltb n 13 (omega (arith, leb-true n 12 e)))) (λ e. rw (e, le-ltb n 13 (omega (arith, leb-false n 12 e))))
 
--- 01's words for a kind that there is, as W4 reads them: "kind not 1..11" is what the look-up does not find
-pub known-is : (s : List ℕ) → known s ≡ (leb 1 (kindOf s) && leb (kindOf s) 11)
+-- 01's words for a kind that there is, as W6 reads them: "kind not 1..12" is what the look-up does not find
+pub known-is : (s : List ℕ) → known s ≡ (leb 1 (kindOf s) && leb (kindOf s) 12)
 unfolding known kinds From
 known-is s =
-    known-from 1 (kindOf s) kinds (refl, (refl, (refl, (refl, (refl, (refl, (refl, (refl, (refl, (refl, (refl, tt)))))))))))
-    ∙ ap (λ (t : Bool). leb 1 (kindOf s) && t) (below-12 (kindOf s))
+    known-from 1 (kindOf s) kinds (refl, (refl, (refl, (refl, (refl, (refl, (refl, (refl, (refl, (refl, (refl, (refl, tt))))))))))))
+    ∙ ap (λ (t : Bool). leb 1 (kindOf s) && t) (below-13 (kindOf s))
 
 -- ---- every row
 
@@ -114,10 +114,10 @@ past zero o p h = h
 past (suc n) o p h = let g = past n o (p .0) h in let q = p .1 in omega arith
 
 -- o, the octet of the kind, is no row's number
-pub entry-none : (s : List ℕ) {o : ℕ} {r : Entry} → o ≡ kindOf s → Past 11 o → r ≡ entryBy false noKind s → r ≡ entryOf s
+pub entry-none : (s : List ℕ) {o : ℕ} {r : Entry} → o ≡ kindOf s → Past 12 o → r ≡ entryBy false noKind s → r ≡ entryOf s
 unfolding entryOf known
 entry-none s {o} p h x =
-    let g : (leb 1 o && leb o 11) ≡ false = by (leb 1 o) (λ a. rw (a, lt-leb o 11 (past 11 o h (leb-true 1 o a)))) (λ a. rw a) in
+    let g : (leb 1 o && leb o 12) ≡ false = by (leb 1 o) (λ a. rw (a, lt-leb o 12 (past 12 o h (leb-true 1 o a)))) (λ a. rw a) in
     let f : rowOf s ≡ none = none-of (rowOf s) (known-is s ∙ rw p at g) in
     rw f x
 

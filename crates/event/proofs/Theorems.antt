@@ -14,6 +14,7 @@ use Rattle.ber.proofs.Fixeds.{spelt-back}
 use Rattle.container.specs.declared.Qos.{Qos}
 use Rattle.container.specs.Qos.{qosOk}
 use Rattle.octets.specs.Names.{isApn}
+use Rattle.limits.specs.Limits.{limitsOk}
 use Rattle.octets.proofs.Lowered.{lowered-length}
 use Rattle.event.specs.Fields.{kindOf, timeOf, qosAt, flagsOf, imsiOf, countOf, spellingOf, causeOf, activationOf, activateOk, release}
 use Rattle.event.specs.Fields.{subscriberImsi, subscriberOf, lacOf, racOf, subscriberOk, detach}
@@ -23,9 +24,11 @@ use Rattle.event.specs.Event.{eventOf, saidBy, decoded}
 use Rattle.event.specs.Private.Activated.{Activated}
 use Rattle.event.specs.declared.Activation.{Activation}
 use Rattle.event.specs.declared.Name.{Name}
+use Rattle.event.specs.declared.Replacement.{Replacement}
 use Rattle.event.specs.declared.Event.{Event}
 use Rattle.event.specs.declared.Event.the-variants as E
-use Rattle.event.specs.declared.Event.the-variants.{Activate, Traffic, Tariff, Release, Tick, Management, Attach, Location, ManageSubscriber, Detach}
+use Rattle.event.specs.declared.Event.the-variants.{Activate, Traffic, Tariff, Release, Tick, Management}
+use Rattle.event.specs.declared.Event.the-variants.{Attach, Location, ManageSubscriber, Detach, Replace}
 use Rattle.event.specs.declared.Decoded.the-variants.{Said, Refused}
 use Rattle.event.proofs.Firsts.{passed}
 use Rattle.event.proofs.Numbers.{number-part}
@@ -49,7 +52,7 @@ pub record Heard (s : List ℕ) (t : ℕ) (e : Event) : Type 0 where
   pub mark : marked s ≡ true
   pub kind : known s ≡ true
   pub least : 1 ≤ kindOf s
-  pub most : kindOf s ≤ 11
+  pub most : kindOf s ≤ 12
   pub long : length s ≡ wholeOf s
   pub fields : fieldsOk s ≡ true
 
@@ -110,15 +113,15 @@ heard s {t} {e} h =
       head = c .head;
       mark = c .mark;
       kind = c .kind;
-      least = leb-true 1 k (and-left (leb 1 k) (leb k 11) n);
-      most = leb-true k 11 (and-right (leb 1 k) (leb k 11) n);
+      least = leb-true 1 k (and-left (leb 1 k) (leb k 12) n);
+      most = leb-true k 12 (and-right (leb 1 k) (leb k 12) n);
       long = eqb-true (length s) (wholeOf s) (c .long);
       fields = c .fields;
     }
 
 -- ---- an activate
 
-activation-in : (s : List ℕ) → length s ≡ 36 + countOf s → activateOk s ≡ true → Activated s (activationOf s)
+activation-in : (s : List ℕ) → length s ≡ 37 + countOf s → activateOk s ≡ true → Activated s (activationOf s)
 unfolding activateOk
 activation-in s l h =
     let a = leb (flagsOf s) 3 in
@@ -127,7 +130,7 @@ activation-in s l h =
     let d = isApn (spellingOf s) in
     let h3 = and-left (a && b && c) d h in
     let h2 = and-left (a && b) c h3 in
-    let size : length (spellingOf s) ≡ countOf s = omega (arith, length-drop 36 s) in
+    let size : length (spellingOf s) ≡ countOf s = omega (arith, length-drop 37 s) in
     record {
       is = refl;
       long = l;
@@ -168,6 +171,7 @@ Fine s (Attach m l r) = Attached s m l r
 Fine s (Location m l r) = (l ≡ lacOf s) × (r ≡ racOf s)
 Fine s (ManageSubscriber m) = Unit {0}
 Fine s (Detach m c) = detach c ≡ true
+Fine s (Replace r) = limitsOk (r .limits) ≡ true
 
 -- of the row k
 abbrev FineBy : List ℕ → Kind → Type 0
@@ -192,7 +196,7 @@ fine s h =
                 (λ l i. tt),
                 (
                   (λ l i. tt),
-                  ((λ l i. attached-in s l i), ((λ l i. (refl, refl)), ((λ l i. tt), ((λ l i. and-right (subscriberOk s) (detach (causeOf s)) i), tt)))),
+                  ((λ l i. attached-in s l i), ((λ l i. (refl, refl)), ((λ l i. tt), ((λ l i. and-right (subscriberOk s) (detach (causeOf s)) i), ((λ l i. i), tt))))),
                 ),
               ),
             ),
@@ -228,6 +232,10 @@ located s h = fine s h
 -- a detach has cause 0 or 4
 pub detached : (s : List ℕ) {t m c : ℕ} → decoded s ≡ Said t (Detach m c) → detach c ≡ true
 detached s h = fine s h
+
+-- a replacement has limits in range
+pub replaced : (s : List ℕ) {t : ℕ} {r : Replacement} → decoded s ≡ Said t (Replace r) → limitsOk (r .limits) ≡ true
+replaced s h = fine s h
 
 -- ---- the name of a subscriber
 

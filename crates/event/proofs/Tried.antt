@@ -30,10 +30,10 @@ and-false false = refl
 
 -- ---- an activate's fields
 
-pub activate-short : (s : List ℕ) → length s < 36 → false ≡ activateOk s
+pub activate-short : (s : List ℕ) → length s < 37 → false ≡ activateOk s
 unfolding activateOk
 activate-short s h =
-    let f : isApn (spellingOf s) ≡ false = no-name (spellingOf s) (omega (arith, length-drop 36 s)) in
+    let f : isApn (spellingOf s) ≡ false = no-name (spellingOf s) (omega (arith, length-drop 37 s)) in
     rw (f, and-false)
 
 pub activate-is : (s : List ℕ) {f d : ℕ} {q : Bool} {a : Checked} → f ≡ flagsOf s → d ≡ imsiRoom (imsiOf s) → q ≡ qosOk (qosAt 30 s)

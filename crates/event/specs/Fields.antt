@@ -9,10 +9,12 @@ use Rattle.ber.specs.Imsi.{imsiOk}
 use Rattle.ber.specs.Int.{numberIn}
 use Rattle.container.specs.declared.Qos.{Qos}
 use Rattle.container.specs.Qos.{qosOk}
+use Rattle.limits.specs.declared.Limits.{Limits}
 use Rattle.octets.specs.Chars.{lowered}
 use Rattle.octets.specs.Names.{isApn}
 use Rattle.event.specs.declared.Name.{Name}
 use Rattle.event.specs.declared.Activation.{Activation}
+use Rattle.event.specs.declared.Replacement.{Replacement}
 
 -- ---- where they stand
 
@@ -38,19 +40,22 @@ qosAt at s =
       mean = getD s (at + 4) 0;
     }
 
--- an activate after its name: flags 1, IMSI 8, PDP type 2, PDP address 4, QoS 5, n 1, APN n
+-- an activate after its name: flags 1, IMSI 8, PDP type 2, PDP address 4, QoS 5, and then "one octet naming its set, before n" (02, W6), n 1, APN n
 abbrev pub flagsOf : List ℕ → ℕ
 flagsOf s = getD s 15 0
 
 abbrev pub imsiOf : List ℕ → List ℕ
 imsiOf s = take 8 (drop 16 s)
 
+abbrev pub setOf : List ℕ → ℕ
+setOf s = getD s 35 0
+
 abbrev pub countOf : List ℕ → ℕ
-countOf s = getD s 35 0
+countOf s = getD s 36 0
 
 -- the access point name as the event spells it, and as it is stored and written: "hand back the name with letters in lower case" (02, W5)
 abbrev pub spellingOf : List ℕ → List ℕ
-spellingOf s = drop 36 s
+spellingOf s = drop 37 s
 
 abbrev pub apnOf : List ℕ → List ℕ
 apnOf s = lowered (spellingOf s)
@@ -65,6 +70,7 @@ activationOf s =
       pdptype = numberIn 2 24 s;
       address = numberIn 4 26 s;
       qos = qosAt 30 s;
+      set = setOf s;
       apnlen = countOf s;
     }
 
@@ -87,10 +93,17 @@ lacOf s = numberIn 2 15 s
 abbrev pub racOf : List ℕ → ℕ
 racOf s = getD s 17 0
 
+-- Kind 12 (02, W6) replaces a set of limits: set 1, edition 2, volume 8, time 4, changes 1
+abbrev pub limitsAt : List ℕ → Limits
+limitsAt s = record { volume = numberIn 8 10 s; seconds = numberIn 4 18 s; changes = getD s 22 0 }
+
+abbrev pub replacementOf : List ℕ → Replacement
+replacementOf s = record { set = getD s 7 0; edition = numberIn 2 8 s; limits = limitsAt s }
+
 -- ---- what is in range
 
--- flags 0..3; IMSI; QoS; n 1..63; APN letters, digits, '.', '-'. The PDP type and the PDP address are any. The name is all that follows n, which is n
--- octets where row 4 does not fit: so its own length is looked at.
+-- flags 0..3; IMSI; QoS; n 1..63; APN letters, digits, '.', '-'. The PDP type, the PDP address and the set are any here. The name is all that follows
+-- n, which is n octets where row 4 does not fit: so its own length is looked at.
 unfoldable pub activateOk : List ℕ → Bool
 activateOk s =
     leb (flagsOf s) 3

@@ -6,10 +6,12 @@ use Prim.Native.Nat.{ℕ, _+_}
 use lib.Dec.{eqb}
 use Rattle.ber.specs.Int.{numberIn}
 use Rattle.container.specs.Qos.{qosOk}
+use Rattle.limits.specs.Limits.{limitsOk}
 use Rattle.event.specs.Fields.{kindOf, nameOf, qosAt, activationOf, countOf, causeOf, activateOk, release}
-use Rattle.event.specs.Fields.{subscriberOf, lacOf, racOf, subscriberOk, detach}
+use Rattle.event.specs.Fields.{subscriberOf, lacOf, racOf, subscriberOk, detach, limitsAt, replacementOf}
 use Rattle.event.specs.declared.Event.{Event}
-use Rattle.event.specs.declared.Event.the-variants.{Activate, Traffic, Qos, Tariff, Release, Tick, Management, Attach, Location, ManageSubscriber, Detach}
+use Rattle.event.specs.declared.Event.the-variants.{Activate, Traffic, Qos, Tariff, Release, Tick, Management}
+use Rattle.event.specs.declared.Event.the-variants.{Attach, Location, ManageSubscriber, Detach, Replace}
 
 -- A row: the kind's number; of an event's octets, whatever they are, how long such an event is as a whole, whether its fields are in
 -- range, and what it says.
@@ -19,10 +21,10 @@ pub record Kind : Type 0 where
   pub inRange : List ℕ → Bool
   pub says : List ℕ → Event
 
--- "1 activate | charging ID 4, GGSN 4, flags 1 .., IMSI 8, PDP type 2, PDP address 4, QoS 5, n 1, APN n | 36 + n". One under 36 octets
--- has no n, which then counts as 0: it is not 36 octets long.
+-- "1 activate | charging ID 4, GGSN 4, flags 1 .., IMSI 8, PDP type 2, PDP address 4, QoS 5, n 1, APN n | 36 + n", and with W6 its set before n, 37 + n.
+-- One under 37 octets has no n, which then counts as 0: it is not 37 octets long.
 abbrev pub activateKind : Kind
-activateKind = record { number = 1; whole = λ s. 36 + countOf s; inRange = λ s. activateOk s; says = λ s. Activate (activationOf s) }
+activateKind = record { number = 1; whole = λ s. 37 + countOf s; inRange = λ s. activateOk s; says = λ s. Activate (activationOf s) }
 
 -- "2 traffic | ID 4, GGSN 4, uplink 4, downlink 4 | 23"
 abbrev pub trafficKind : Kind
@@ -64,11 +66,15 @@ subscriberKind = record { number = 10; whole = λ s. 15; inRange = λ s. subscri
 abbrev pub detachKind : Kind
 detachKind = record { number = 11; whole = λ s. 16; inRange = λ s. subscriberOk s && detach (causeOf s); says = λ s. Detach (subscriberOf s) (causeOf s) }
 
+-- 02, W6: "12 replace a set | set 1, edition 2, volume 8, time 4, changes 1 | 23". "Its limits have the profile's ranges."
+abbrev pub replaceKind : Kind
+replaceKind = record { number = 12; whole = λ s. 23; inRange = λ s. limitsOk (limitsAt s); says = λ s. Replace (replacementOf s) }
+
 -- the table
 unfoldable pub kinds : List Kind
 kinds =
     activateKind ∷ trafficKind ∷ qosKind ∷ tariffKind ∷ releaseKind ∷ tickKind ∷ managementKind
-    ∷ attachKind ∷ locationKind ∷ subscriberKind ∷ detachKind ∷ []
+    ∷ attachKind ∷ locationKind ∷ subscriberKind ∷ detachKind ∷ replaceKind ∷ []
 
 -- ---- looked up
 

@@ -8,5 +8,5 @@ use Rattle.event.specs.Fields.{kindOf, apnOf}
 -- activates that are the same up to the case of the letters in the name
 pub record OneSpelling (s t : List ℕ) : Type 0 where
   pub kind : kindOf s ≡ 1
-  pub front : take 36 s ≡ take 36 t
+  pub front : take 37 s ≡ take 37 t
   pub name : apnOf s ≡ apnOf t

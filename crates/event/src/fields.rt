@@ -1,14 +1,16 @@
 // The fields of an event: where they stand, and what is in range.
 use crate::Activation;
 use crate::Name;
+use crate::Replacement;
 use crate::number;
 use ber::imsi;
 use container::Qos;
 use container::qos_profile;
+use limits::Limits;
 use octets::names;
 ghost use mathlib.Core.Path.{_≡_};
 ghost use Prim.Native.Nat.{_<_};
-ghost use Rattle.event.specs.Fields.{nameOf, qosAt, activationOf, activateOk, release, subscriberOk, detach};
+ghost use Rattle.event.specs.Fields.{nameOf, qosAt, activationOf, activateOk, release, subscriberOk, detach, limitsAt, replacementOf};
 ghost use Rattle.event.specs.Rows.{marked};
 
 // The mark C3 5E.
@@ -55,7 +57,8 @@ pub fn activation_of(s: &[u8]) -> Activation
     let pdptype = number::two(s, 24);
     let address = number::four(s, 26);
     let qos = qos_at(s, 30);
-    let apnlen = number::size(octets::octet(s, 35));
+    let set = octets::octet(s, 35);
+    let apnlen = number::size(octets::octet(s, 36));
     Activation {
         name,
         network: flags % 2 == 1,
@@ -63,22 +66,23 @@ pub fn activation_of(s: &[u8]) -> Activation
         pdptype,
         address,
         qos,
+        set,
         apnlen,
     }
 }
 
-// The fields of an activate in range. One under 36 octets has no n.
+// The fields of an activate in range. One under 37 octets has no n. (Whether the node has its set is the node's to look at.)
 pub fn activate_ok(s: &[u8]) -> bool
     ensures { λ r. ⌜ r ≡ activateOk (now (s .entry)) ⌝ }
 {
-    if s.len() < 36 {
+    if s.len() < 37 {
         return false;
     }
     let flags = octets::octet(s, 15);
     let digits = imsi::imsi_size(&s[16..24]);
     let q = qos_at(s, 30);
     let qos = qos_profile::qos_ok(q);
-    let name = names::check_apn(&s[36..]);
+    let name = names::check_apn(&s[37..]);
     (flags <= 3) & !(digits == 0) & qos & !(name.n == 0)
 }
 
@@ -104,4 +108,32 @@ pub fn is_detach(cause: u8) -> bool
     ensures { λ r. ⌜ r ≡ detach cause ⌝ }
 {
     (cause == 0) | (cause == 4)
+}
+
+// The limits that a replacement brings.
+pub fn limits_at(s: &[u8]) -> Limits
+    ensures { λ r. ⌜ r ≡ limitsAt (now (s .entry)) ⌝ }
+{
+    let volume = number::eight(s, 10);
+    let seconds = number::four(s, 18);
+    let changes = octets::octet(s, 22);
+    Limits {
+        volume,
+        seconds,
+        changes,
+    }
+}
+
+// What a replacement of a set of limits says.
+pub fn replacement_of(s: &[u8]) -> Replacement
+    ensures { λ r. ⌜ r ≡ replacementOf (now (s .entry)) ⌝ }
+{
+    let set = octets::octet(s, 7);
+    let edition = number::two(s, 8);
+    let limits = limits_at(s);
+    Replacement {
+        set,
+        edition,
+        limits,
+    }
 }

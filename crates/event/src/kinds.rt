@@ -6,7 +6,7 @@ use container::qos_profile;
 ghost use mathlib.Core.Path.{_≡_};
 ghost use mathlib.Core.Bool.{true, false};
 ghost use Rattle.event.specs.Kinds.{activateKind, trafficKind, qosKind, tariffKind, releaseKind, tickKind, managementKind, noKind};
-ghost use Rattle.event.specs.Kinds.{attachKind, locationKind, subscriberKind, detachKind};
+ghost use Rattle.event.specs.Kinds.{attachKind, locationKind, subscriberKind, detachKind, replaceKind};
 ghost use Rattle.event.specs.Private.Entries.{entryBy, entryOf};
 
 // What the table says of an event's octets, whatever they are: that a kind has their number, how long such an event is as a whole, whether its
@@ -18,16 +18,16 @@ pub struct Entry {
     pub event: Event,
 }
 
-// 36 octets, and n more of name.
+// 37 octets, and n more of name.
 fn activate(s: &[u8]) -> Entry
     ensures { λ r. ⌜ r ≡ entryBy true activateKind (now (s .entry)) ⌝ }
 {
-    let n = octets::octet(s, 35);
+    let n = octets::octet(s, 36);
     let right = fields::activate_ok(s);
     let a = fields::activation_of(s);
     Entry {
         known: true,
-        whole: 36 + number::size(n),
+        whole: 37 + number::size(n),
         right,
         event: Event::Activate(a),
     }
@@ -160,6 +160,19 @@ fn detach(s: &[u8]) -> Entry
     }
 }
 
+fn replace(s: &[u8]) -> Entry
+    ensures { λ r. ⌜ r ≡ entryBy true replaceKind (now (s .entry)) ⌝ }
+{
+    let r = fields::replacement_of(s);
+    let l = fields::limits_at(s);
+    Entry {
+        known: true,
+        whole: 23,
+        right: limits::limits_ok(l),
+        event: Event::Replace(r),
+    }
+}
+
 // Octets of no kind.
 fn unknown(s: &[u8]) -> Entry
     ensures { λ r. ⌜ r ≡ entryBy false noKind (now (s .entry)) ⌝ }
@@ -188,6 +201,7 @@ pub fn entry_of(s: &[u8]) -> Entry
         9 => return location(s),
         10 => return subscriber(s),
         11 => return detach(s),
+        12 => return replace(s),
         _ => return unknown(s),
     }
 }

@@ -21,7 +21,7 @@ pub struct Name {
     pub ggsn: u32,
 }
 
-// What an activate says. The IMSI is octets 16 to 23 of the event, and the access point name its octets from 36 on.
+// What an activate says. The IMSI is octets 16 to 23 of the event, and the access point name its octets from 37 on.
 pub struct Activation {
     pub name: Name,
     // initiated by the network
@@ -31,7 +31,16 @@ pub struct Activation {
     pub pdptype: u16,
     pub address: u32,
     pub qos: container::Qos,
+    // the number of its set of limits
+    pub set: u8,
     pub apnlen: usize,
+}
+
+// What a replacement of a set of limits says: the set's number, its edition from now on, and its limits.
+pub struct Replacement {
+    pub set: u8,
+    pub edition: u16,
+    pub limits: limits::Limits,
 }
 
 pub enum Event {
@@ -53,6 +62,8 @@ pub enum Event {
     ManageSubscriber(u64),
     // the cause
     Detach(u64, u8),
+    // a set of limits is replaced whole
+    Replace(Replacement),
 }
 
 // The time and the event, or the number of the first refusal that fits.

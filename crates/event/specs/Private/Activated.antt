@@ -13,7 +13,7 @@ use Rattle.event.specs.declared.Activation.{Activation}
 -- its flags, IMSI, QoS and access point name, which stand where the table of kinds has them
 pub record Activated (s : List ℕ) (a : Activation) : Type 0 where
   pub is : a ≡ activationOf s
-  pub long : length s ≡ 36 + a .apnlen
+  pub long : length s ≡ 37 + a .apnlen
   pub flags : flagsOf s ≤ 3
   pub imsi : imsiOk (imsiOf s) ≡ true
   pub qos : qosOk (a .qos) ≡ true

@@ -19,7 +19,7 @@ returns-2 c =
     (c .before .before .before .before .before .before .before .octet .ensures)
     (c .before .before .before .before .before .imsi-size .ensures)
     (c .before .before .before .qos-ok .ensures ∙ ap qosOk (c .before .before .before .before .qos-at .ensures))
-    (c .before .check-apn .ensures ∙ ap checkedApn (rest-all s (length s) 36 refl))
+    (c .before .check-apn .ensures ∙ ap checkedApn (rest-all s (length s) 37 refl))
 
 pub activate-ok-spec : {M : Type 1} → statement M
 activate-ok-spec =

@@ -3,7 +3,7 @@ use mathlib.Core.Path.{refl}
 use native.Mathlib.Omega.{arith}
 use borrow.Author.Needs.{needs}
 use Rattle.event.specs.Kinds.{activateKind, trafficKind, qosKind, tariffKind, releaseKind, tickKind, managementKind, kinds, kindIn}
-use Rattle.event.specs.Kinds.{attachKind, locationKind, subscriberKind, detachKind}
+use Rattle.event.specs.Kinds.{attachKind, locationKind, subscriberKind, detachKind, replaceKind}
 use Rattle.event.proofs.Table.{entry-row, entry-none, Past}
 use Rattle.event.proofs.kinds.entry_of.Statement.{statement}
 use Rattle.event.proofs.kinds.entry_of.Tie as tie
@@ -25,4 +25,5 @@ entry-of-spec =
     (λ c κs. search needs) (λ c. entry-row _ locationKind (c .before .before .octet .ensures) (omega arith) refl (c .location .ensures))
     (λ c κs. search needs) (λ c. entry-row _ subscriberKind (c .before .before .octet .ensures) (omega arith) refl (c .subscriber .ensures))
     (λ c κs. search needs) (λ c. entry-row _ detachKind (c .before .before .octet .ensures) (omega arith) refl (c .detach .ensures))
+    (λ c κs. search needs) (λ c. entry-row _ replaceKind (c .before .before .octet .ensures) (omega arith) refl (c .replace .ensures))
     (λ c κs. search needs) (λ c. entry-none _ (c .before .before .octet .ensures) (c .before .match .rest) (c .unknown .ensures)))
