@@ -44,26 +44,32 @@ static size_t load(const char *path) {
     return n;
 }
 
-/* The six lines of a profile, in their order. */
+/* The lines of a profile, in their order: sgsn, one to eight times limits, offset, node-id. */
 static void fresh_node(const char *path, struct charging_node *n) {
-    unsigned a, b, c, d, changes;
-    int offset;
+    unsigned a, b, c, d;
+    int offset, used = 0;
     char id[32] = "";
+    const char *at = (const char *)held;
     held[load(path) % HELD] = 0;
     memset(n, 0, sizeof *n);
-    if (sscanf((const char *)held, "sgsn %u.%u.%u.%u volume-limit %lu time-limit %u change-limit %u offset %d node-id%*1[ ]%20[^\n]", &a, &b,
-               &c, &d, &n->profile.limits.volume, &n->profile.limits.seconds, &changes, &offset, id) < 8)
-        stop(2, "plain: no profile\n");
-    n->profile.sgsn = a << 24 | b << 16 | c << 8 | d;
-    n->profile.limits.changes = (uint8_t)changes;
-    n->profile.zone = (uint16_t)(offset + 720);
-    n->profile.nodelen = strlen(id);
-    memcpy(n->profile.nodeid, id, n->profile.nodelen);
+    struct charging_profile *p = &n->profile;
+    if (sscanf(at, "sgsn %u.%u.%u.%u%n", &a, &b, &c, &d, &used) < 4) stop(2, "plain: no profile\n");
+    for (at += used; p->sets < CHARGING_SETS; p->sets++, at += used) {
+        struct charging_limits l = {0};
+        if (sscanf(at, " limits %lu %u %hhu%n", &l.volume, &l.seconds, &l.changes, &used) < 3) break;
+        p->limits[p->sets] = l;
+        n->settings.sets[p->sets] = (struct charging_limit_set){1, l};
+    }
+    if (p->sets == 0 || sscanf(at, " offset %d node-id%*1[ ]%20[^\n]", &offset, id) < 1) stop(2, "plain: no profile\n");
+    p->sgsn = a << 24 | b << 16 | c << 8 | d;
+    p->zone = (uint16_t)(offset + 720);
+    p->nodelen = strlen(id);
+    memcpy(p->nodeid, id, p->nodelen);
 }
 
 static size_t event_length(const uint8_t *e) {
-    static const uint8_t lengths[8] = {7, 36, 23, 20, 7, 16, 7, 15};
-    return e[2] == 1 ? 36u + e[35] : lengths[e[2] & 7];
+    static const uint8_t lengths[16] = {7, 37, 23, 20, 7, 16, 7, 15, 7, 7, 7, 7, 23, 7, 7, 7};
+    return e[2] == 1 ? 37u + e[36] : lengths[e[2] & 15];
 }
 
 /* Events one after another, from a fresh node on again after the last. */

@@ -450,11 +450,27 @@ int plain_read(const uint8_t *s, size_t n, struct plain_record *r) {
 
 /* ---- a sound node ---- */
 
-static int profile_ok(const struct charging_profile *p) {
-    const struct charging_limits *l = &p->limits;
-    return l->volume >= 1 && l->volume <= 1000000000000u && l->seconds >= 1 && l->seconds <= 604800 && l->changes >= 1 && l->changes <= 15
-        && p->zone <= 1560 && node_ok(p->nodeid, p->nodelen);
+static int limits_ok(const struct charging_limits *l) {
+    return l->volume >= 1 && l->volume <= 1000000000000u && l->seconds >= 1 && l->seconds <= 604800 && l->changes >= 1 && l->changes <= 15;
 }
+
+static int no_limits(const struct charging_limits *l) { return l->volume == 0 && l->seconds == 0 && l->changes == 0; }
+
+static int profile_ok(const struct charging_profile *p) {
+    if (p->sets < 1 || p->sets > CHARGING_SETS || p->zone > 1560 || !node_ok(p->nodeid, p->nodelen)) return 0;
+    for (size_t i = 0; i < CHARGING_SETS; i++)
+        if (i < p->sets ? !limits_ok(&p->limits[i]) : !no_limits(&p->limits[i])) return 0;
+    return 1;
+}
+
+/* Of the sets in force as many are used as the profile has. */
+static int sets_ok(const struct charging_limit_set *s, size_t used) {
+    for (size_t i = 0; i < CHARGING_SETS; i++)
+        if (i < used ? s[i].edition < 1 || !limits_ok(&s[i].limits) : s[i].edition || !no_limits(&s[i].limits)) return 0;
+    return 1;
+}
+
+static int has_set(const struct charging_node *n, uint8_t set) { return set >= 1 && set <= n->profile.sets; }
 
 /* All octets that the open record has counted, or the limit where they reach it. */
 static uint64_t counted(const struct charging_context *c, uint64_t limit) {
@@ -474,8 +490,10 @@ static uint64_t counted(const struct charging_context *c, uint64_t limit) {
 
 static int active_ok(const struct charging_node *n, const struct charging_context *c) {
     const struct charging_profile *p = &n->profile;
+    const struct charging_limits *l = &c->current.limits; /* those that the record opened with */
+    if (!has_set(n, c->set) || !limits_ok(l)) return 0;
     if (c->flags > 3 || !imsi_size(c->imsi) || !apn_ok(c->apn, c->apnlen) || !qos_ok(&c->current.qos)) return 0;
-    if (c->closed >= n->accepted || c->current.count != c->current.changes || c->current.changes >= p->limits.changes || c->current.opening.zone != p->zone) return 0;
+    if (c->closed >= n->accepted || c->current.count != c->current.changes || c->current.changes >= l->changes || c->current.opening.zone != p->zone) return 0;
     uint32_t from = c->current.opening.seconds;
     for (size_t i = 0; i < c->current.count; i++) {
         const struct charging_container *x = &c->current.containers[i];
@@ -486,11 +504,11 @@ static int active_ok(const struct charging_node *n, const struct charging_contex
     if (from > n->clock) return 0;
     for (size_t i = c->current.count; i < CHARGING_CONTAINERS; i++)
         if (!blank(&c->current.containers[i])) return 0;
-    return counted(c, p->limits.volume) < p->limits.volume;
+    return counted(c, l->volume) < l->volume;
 }
 
 static int free_ok(const struct charging_context *c) {
-    if (c->active || c->flags || c->name.id || c->name.ggsn || !zeros(c->imsi, 8) || !zeros(c->apn, 63) || c->apnlen || c->pdptype
+    if (c->active || c->flags || c->set || !no_limits(&c->current.limits) || c->name.id || c->name.ggsn || !zeros(c->imsi, 8) || !zeros(c->apn, 63) || c->apnlen || c->pdptype
         || c->address || c->current.qos.reliability || c->current.qos.delay || c->current.qos.precedence || c->current.qos.peak || c->current.qos.mean || c->current.uplink || c->current.downlink
         || c->current.opening.seconds || c->current.opening.zone || c->current.changes || c->current.count || c->closed)
         return 0;
@@ -500,7 +518,7 @@ static int free_ok(const struct charging_context *c) {
 }
 
 static int sound(const struct charging_node *n) {
-    if (!profile_ok(&n->profile) || n->clock > latest || n->accepted > most_accepted) return 0;
+    if (!profile_ok(&n->profile) || !sets_ok(n->settings.sets, n->profile.sets) || n->clock > latest || n->accepted > most_accepted) return 0;
     for (int i = 0; i < CHARGING_CONTEXTS; i++) {
         const struct charging_context *c = &n->contexts[i];
         if (c->active != 1) {
@@ -520,44 +538,54 @@ static int sound(const struct charging_node *n) {
 
 static uint32_t four(const uint8_t *p) { return (uint32_t)p[0] << 24 | (uint32_t)p[1] << 16 | (uint32_t)p[2] << 8 | p[3]; }
 
-/* The first of the refusals 1 to 5 that fits, or 0. */
+/* The limits that a replacement of a set brings. */
+static struct charging_limits new_limits(const uint8_t *e) {
+    return (struct charging_limits){(uint64_t)four(e + 10) << 32 | four(e + 14), four(e + 18), e[22]};
+}
+
+/* The first of the refusals 1 to 5 that fits, or 0. The kinds of subscribers' events are unknown here. */
 static int refusal(const uint8_t *e, size_t n) {
-    static const uint8_t lengths[8] = {0, 36, 23, 20, 7, 16, 7, 15};
+    static const uint8_t lengths[13] = {0, 37, 23, 20, 7, 16, 7, 15, 0, 0, 0, 0, 23};
     struct charging_qos q;
+    struct charging_limits l;
     if (n < 7) return 1;
     if (e[0] != 0xC3 || e[1] != 0x5E) return 2;
-    if (e[2] < 1 || e[2] > 7) return 3;
-    if (e[2] == 1 ? n < 36 || n != 36u + e[35] : n != lengths[e[2]]) return 4;
+    if (e[2] > 12 || lengths[e[2]] == 0) return 3;
+    if (e[2] == 1 ? n < 37 || n != 37u + e[36] : n != lengths[e[2]]) return 4;
     switch (e[2]) {
     case 1:
         memcpy(&q, e + 30, 5);
-        return e[15] <= 3 && imsi_size(e + 16) && qos_ok(&q) && e[35] >= 1 && e[35] <= 63 && apn_spelled(e + 36, e[35]) ? 0 : 5;
+        return e[15] <= 3 && imsi_size(e + 16) && qos_ok(&q) && e[36] >= 1 && e[36] <= 63 && apn_spelled(e + 37, e[36]) ? 0 : 5;
     case 3:
         memcpy(&q, e + 15, 5);
         return qos_ok(&q) ? 0 : 5;
     case 5:
         return is_release(e[15]) ? 0 : 5;
+    case 12:
+        l = new_limits(e);
+        return limits_ok(&l) ? 0 : 5;
     default:
         return 0;
     }
 }
 
-/* The cause with which an event closes a context's record, or -1. */
-static int closing(const struct charging_profile *p, const struct charging_context *c, uint32_t t, const uint8_t *e) {
+/* The cause with which an event closes a context's record, or -1: by the limits that the record opened with. */
+static int closing(const struct charging_context *c, uint32_t t, const uint8_t *e) {
+    const struct charging_limits *l = &c->current.limits;
     switch (e[2]) {
     case 2: {
-        uint64_t all = counted(c, p->limits.volume) + four(e + 15) + four(e + 19);
-        return all >= p->limits.volume ? 16 : -1;
+        uint64_t all = counted(c, l->volume) + four(e + 15) + four(e + 19);
+        return all >= l->volume ? 16 : -1;
     }
     case 3:
         if (memcmp(&c->current.qos, e + 15, 5) == 0) return -1;
-        return c->current.changes + 1 >= p->limits.changes ? 19 : -1;
+        return c->current.changes + 1 >= l->changes ? 19 : -1;
     case 4:
-        return c->current.changes + 1 >= p->limits.changes ? 19 : -1;
+        return c->current.changes + 1 >= l->changes ? 19 : -1;
     case 5:
         return e[15];
     case 6:
-        return t - c->current.opening.seconds >= p->limits.seconds ? 17 : -1;
+        return t - c->current.opening.seconds >= l->seconds ? 17 : -1;
     default:
         return 20;
     }
@@ -602,10 +630,11 @@ static uint8_t *put_marked(uint8_t *p, const struct plain_record *r) {
     return put_record(p, r);
 }
 
-/* The next record of a context opens. */
-static void reopen(const struct charging_profile *p, struct charging_context *c, uint32_t t) {
+/* The next record of a context opens, with the limits that are in force now. */
+static void reopen(const struct charging_node *n, struct charging_context *c, uint32_t t) {
     c->current.uplink = c->current.downlink = 0;
-    c->current.opening = (struct charging_stamp){t, p->zone};
+    c->current.opening = (struct charging_stamp){t, n->profile.zone};
+    c->current.limits = n->settings.sets[c->set - 1].limits;
     c->current.changes = 0;
     memset(c->current.containers, 0, sizeof c->current.containers);
     c->current.count = 0;
@@ -613,13 +642,13 @@ static void reopen(const struct charging_profile *p, struct charging_context *c,
 }
 
 /* What stands of a context that wrote its record. */
-static void next_record(const struct charging_profile *p, struct charging_context *c, uint32_t t, const uint8_t *e) {
+static void next_record(const struct charging_node *n, struct charging_context *c, uint32_t t, const uint8_t *e) {
     if (e[2] == 5) {
         memset(c, 0, sizeof *c);
         return;
     }
     if (e[2] == 3) memcpy(&c->current.qos, e + 15, 5);
-    reopen(p, c, t);
+    reopen(n, c, t);
 }
 
 /* What an event that closes nothing does to a context. */
@@ -646,7 +675,7 @@ static struct charging_answer hear(struct charging_node *n, int from, int to, ui
     for (int i = from; i < to; i++) {
         struct charging_context *c = &n->contexts[i];
         if (c->active != 1) continue;
-        causes[i] = closing(&n->profile, c, t, e);
+        causes[i] = closing(c, t, e);
         if (causes[i] < 0) continue;
         record_of(&n->profile, c, t, up, down, causes[i], &r);
         size += 2 + record_size(&r);
@@ -662,7 +691,7 @@ static struct charging_answer hear(struct charging_node *n, int from, int to, ui
         }
         record_of(&n->profile, c, t, up, down, causes[i], &r);
         p = put_marked(p, &r);
-        next_record(&n->profile, c, t, e);
+        next_record(n, c, t, e);
     }
     n->clock = t;
     n->accepted++;
@@ -676,6 +705,7 @@ static int find(const struct charging_node *n, uint32_t id, uint32_t ggsn) {
 }
 
 static struct charging_answer activate(struct charging_node *n, uint32_t t, const uint8_t *e) {
+    if (!has_set(n, e[35])) return refused(18);
     if (find(n, four(e + 7), four(e + 11)) >= 0) return refused(9);
     int i = 0;
     while (i < CHARGING_CONTEXTS && n->contexts[i].active == 1) i++;
@@ -683,14 +713,28 @@ static struct charging_answer activate(struct charging_node *n, uint32_t t, cons
     struct charging_context *c = &n->contexts[i];
     c->active = 1;
     c->flags = e[15];
+    c->set = e[35];
     c->name = (struct charging_name){four(e + 7), four(e + 11)};
     memcpy(c->imsi, e + 16, 8);
-    c->apnlen = e[35];
-    for (size_t k = 0; k < c->apnlen; k++) c->apn[k] = lower(e[36 + k]);
+    c->apnlen = e[36];
+    for (size_t k = 0; k < c->apnlen; k++) c->apn[k] = lower(e[37 + k]);
     c->pdptype = (uint16_t)(e[24] << 8 | e[25]);
     c->address = four(e + 26);
     memcpy(&c->current.qos, e + 30, 5);
     c->current.opening = (struct charging_stamp){t, n->profile.zone};
+    c->current.limits = n->settings.sets[c->set - 1].limits;
+    n->clock = t;
+    n->accepted++;
+    return refused(0);
+}
+
+/* A set of limits is replaced by its next edition. No open record hears of it. */
+static struct charging_answer replace(struct charging_node *n, uint32_t t, const uint8_t *e) {
+    if (!has_set(n, e[7])) return refused(18);
+    struct charging_limit_set *s = &n->settings.sets[e[7] - 1];
+    if (e[8] * 256u + e[9] != s->edition + 1u) return refused(19);
+    s->edition++;
+    s->limits = new_limits(e);
     n->clock = t;
     n->accepted++;
     return refused(0);
@@ -710,6 +754,7 @@ struct charging_answer plain_step(struct charging_node *n, const uint8_t *e, siz
     k = untimely(n, t);
     if (k) return refused((uint8_t)k);
     if (e[2] == 1) return activate(n, t, e);
+    if (e[2] == 12) return replace(n, t, e);
     if (e[2] == 4 || e[2] == 6) return hear(n, 0, CHARGING_CONTEXTS, t, e, out, out_len);
     int i = find(n, four(e + 7), four(e + 11));
     if (i < 0) return refused(8);
@@ -718,11 +763,11 @@ struct charging_answer plain_step(struct charging_node *n, const uint8_t *e, siz
 
 /* ---- a minute of reports ---- */
 
-/* The reports of one context, where it lies. What its open record has left up to the limit is worked out once, and kept. */
+/* The reports of one context, where it lies. What its open record has left up to its own limit is worked out once, and kept. */
 static struct charging_batched count_pairs(struct charging_node *n, struct charging_context *c, uint32_t t, const uint32_t *volumes, size_t pairs,
                                            uint8_t *out, size_t out_len) {
     struct plain_record r;
-    uint64_t limit = n->profile.limits.volume, left = limit - counted(c, limit);
+    uint64_t limit = c->current.limits.volume, left = limit - counted(c, limit);
     size_t written = 0;
     for (size_t i = 0; i < pairs; i++) {
         uint32_t up = volumes[2 * i], down = volumes[2 * i + 1];
@@ -736,8 +781,8 @@ static struct charging_batched count_pairs(struct charging_node *n, struct charg
             record_of(&n->profile, c, t, up, down, 16, &r);
             if (2 + record_size(&r) > out_len - written) return (struct charging_batched){11, i, written};
             written = (size_t)(put_marked(out + written, &r) - out);
-            reopen(&n->profile, c, t);
-            left = limit;
+            reopen(n, c, t);
+            left = c->current.limits.volume;
         }
         n->clock = t;
         n->accepted++;
