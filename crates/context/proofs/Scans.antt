@@ -6,7 +6,6 @@ use Prim.Native.Nat.{ℕ}
 use native.Mathlib.Omega.{arith}
 use Rattle.history.proofs.Scans as S
 use Rattle.history.proofs.Scans.{Asks}
-use Rattle.profile.specs.declared.Limits.{Limits}
 use Rattle.context.specs.declared.slots.Slot.{Slot}
 use Rattle.context.specs.declared.slots.Found.the-variants.{At, Nothing}
 use Rattle.context.specs.Slots.{naming, bears, foundAt, distinct}
@@ -20,9 +19,9 @@ alone-asks s = S.alone-asks naming s
 pub distinct-asks : Asks distinct (S.alone naming)
 distinct-asks = S.distinct-asks naming
 
-pub slots-ask : (limits : Limits) (zone clock accepted : ℕ) → Asks (slotsOk limits zone clock accepted) (λ c cs. slotOk limits zone clock accepted c)
+pub slots-ask : (count zone clock accepted : ℕ) → Asks (slotsOk count zone clock accepted) (λ c cs. slotOk count zone clock accepted c)
 unfolding slotsOk
-slots-ask limits zone clock accepted = record { step = λ c cs. refl; none = refl }
+slots-ask count zone clock accepted = record { step = λ c cs. refl; none = refl }
 
 pub found-at : (o : Option ℕ) {i : ℕ} → foundAt o ≡ At i → o ≡ some i
 found-at none {i} e = let f : Nothing ≡ At i = e in absurd (let z : _≡_ {A = ℕ} 0 1 = cc in omega arith)

@@ -14,7 +14,7 @@ use Rattle.octets.specs.Chars.{allOf, isZero}
 use Rattle.octets.specs.Names.{apnOk}
 use Rattle.octets.specs.Filled.{fillTo}
 use Rattle.octets.proofs.Filled.{zeros-are}
-use Rattle.profile.specs.declared.Limits.{Limits}
+use Rattle.limits.specs.Sets.{hasSet}
 use Rattle.context.specs.declared.Context.{Context}
 use Rattle.context.specs.Context.{noContext}
 use Rattle.context.specs.Sound.{fieldsOk, closedOk, contextOk, zeroOk, slotOk}
@@ -22,42 +22,47 @@ use Rattle.context.specs.Sound.{fieldsOk, closedOk, contextOk, zeroOk, s
 -- ---- an active context
 
 -- all that holds of one that is as it must be
-pub record Good (limits : Limits) (z clock accepted : ℕ) (c : Context) : Type 0 where
+pub record Good (count z clock accepted : ℕ) (c : Context) : Type 0 where
   pub flags : c .flags ≤ 3
   pub imsi : imsiOk (c .imsi) ≡ true
   pub apn : apnOk (c .apn) (c .apnlen) ≡ true
+  pub set : hasSet count (c .set) ≡ true
   pub closed : c .closed < accepted
-  pub current : SoundOpen (limits .volume) (limits .changes) z clock (c .current)
+  pub current : SoundOpen z clock (c .current)
 
-module _ (limits : Limits) (zone clock accepted : ℕ) (c : Context) where
-  pub good : contextOk limits zone clock accepted c ≡ true → Good limits zone clock accepted c
+module _ (count zone clock accepted : ℕ) (c : Context) where
+  pub good : contextOk count zone clock accepted c ≡ true → Good count zone clock accepted c
   unfolding contextOk fieldsOk closedOk
   good h =
       let f = fieldsOk c in
+      let s = hasSet count (c .set) in
       let d = closedOk accepted c in
-      let h₂ = both (f && d) (soundOpen (limits .volume) (limits .changes) zone clock (c .current)) h in
-      let h₁ = both f d (h₂ .0) in
+      let h₂ = both (f && s && d) (soundOpen zone clock (c .current)) h in
+      let h₁ = both (f && s) d (h₂ .0) in
+      let h₀ = both f s (h₁ .0) in
       let a = leb (c .flags) 3 in
       let b = imsiOk (c .imsi) in
-      let f₂ = both (a && b) (apnOk (c .apn) (c .apnlen)) (h₁ .0) in
+      let f₂ = both (a && b) (apnOk (c .apn) (c .apnlen)) (h₀ .0) in
       let f₁ = both a b (f₂ .0) in
       record {
         flags = leb-true (c .flags) 3 (f₁ .0);
         imsi = f₁ .1;
         apn = f₂ .1;
+        set = h₀ .1;
         closed = ltb-true (c .closed) accepted (h₁ .1);
-        current = sound-open (limits .volume) (limits .changes) zone clock (c .current) (h₂ .1);
+        current = sound-open zone clock (c .current) (h₂ .1);
       }
 
-  pub good-is : Good limits zone clock accepted c → contextOk limits zone clock accepted c ≡ true
+  pub good-is : Good count zone clock accepted c → contextOk count zone clock accepted c ≡ true
   unfolding contextOk fieldsOk closedOk
   good-is g =
       rw (
         le-leb (c .flags) 3 (g .flags),
         g .imsi,
         g .apn,
+        g .set,
         lt-ltb (c .closed) accepted (g .closed),
-        sound-open-is (limits .volume) (limits .changes) zone clock (c .current) (g .current),
+        sound-open-is zone clock (c .current) (g .current),
       )
 
 -- ---- a free slot
@@ -72,7 +77,8 @@ module _ (c : Context) where
   zero-is h k l m =
       let a₁ = eqb (c .active) 0 in
       let a₂ = a₁ && eqb (c .flags) 0 in
-      let a₃ = a₂ && eqb (c .name .id) 0 in
+      let a₂′ = a₂ && eqb (c .set) 0 in
+      let a₃ = a₂′ && eqb (c .name .id) 0 in
       let a₄ = a₃ && eqb (c .name .ggsn) 0 in
       let a₅ = a₄ && allOf isZero (c .imsi) in
       let a₆ = a₅ && allOf isZero (c .apn) in
@@ -87,10 +93,12 @@ module _ (c : Context) where
       let g₅ = both a₅ (allOf isZero (c .apn)) (g₆ .0) in
       let g₄ = both a₄ (allOf isZero (c .imsi)) (g₅ .0) in
       let g₃ = both a₃ (eqb (c .name .ggsn) 0) (g₄ .0) in
-      let g₂ = both a₂ (eqb (c .name .id) 0) (g₃ .0) in
-      let g₁ = both a₁ (eqb (c .flags) 0) (g₂ .0) in
+      let g₂ = both a₂′ (eqb (c .name .id) 0) (g₃ .0) in
+      let g₂′ = both a₂ (eqb (c .set) 0) (g₂ .0) in
+      let g₁ = both a₁ (eqb (c .flags) 0) (g₂′ .0) in
       let active = eqb-true (c .active) 0 (g₁ .0) in
       let flags = eqb-true (c .flags) 0 (g₁ .1) in
+      let set = eqb-true (c .set) 0 (g₂′ .1) in
       let id = eqb-true (c .name .id) 0 (g₂ .1) in
       let ggsn = eqb-true (c .name .ggsn) 0 (g₃ .1) in
       let imsi : c .imsi ≡ replicate 8 0 = zeros-are (c .imsi) (true-T (allOf isZero (c .imsi)) (g₄ .1)) ∙ ap (λ (n : ℕ). replicate n 0) k in
@@ -103,6 +111,7 @@ module _ (c : Context) where
       λ i. record {
         active = active i;
         flags = flags i;
+        set = set i;
         name = record { id = id i; ggsn = ggsn i };
         imsi = imsi i;
         apn = apn i;
@@ -115,12 +124,12 @@ module _ (c : Context) where
 
 -- ---- a slot
 
-module _ (limits : Limits) (zone clock accepted : ℕ) where
+module _ (count zone clock accepted : ℕ) where
   module _ (c : Context) where
-    pub slot-active : c .active ≡ 1 → slotOk limits zone clock accepted c ≡ contextOk limits zone clock accepted c
+    pub slot-active : c .active ≡ 1 → slotOk count zone clock accepted c ≡ contextOk count zone clock accepted c
     unfolding slotOk
     slot-active e = rw (eq-eqb (c .active) 1 e)
 
-    pub slot-free : (c .active ≡ 1 → ⊥) → slotOk limits zone clock accepted c ≡ zeroOk c
+    pub slot-free : (c .active ≡ 1 → ⊥) → slotOk count zone clock accepted c ≡ zeroOk c
     unfolding slotOk
     slot-free e = rw (ne-eqb (c .active) 1 e)

@@ -15,6 +15,7 @@ abbrev pub noContext : Context
 noContext = record {
   active = 0;
   flags = 0;
+  set = 0;
   name = record { id = 0; ggsn = 0 };
   imsi = fillTo 8 0 [];
   apn = fillTo 63 0 [];

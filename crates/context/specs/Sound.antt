@@ -7,7 +7,7 @@ use Rattle.ber.specs.Imsi.{imsiOk}
 use Rattle.container.specs.Open.{soundOpen, blankOpen}
 use Rattle.octets.specs.Chars.{allOf, isZero}
 use Rattle.octets.specs.Names.{apnOk}
-use Rattle.profile.specs.declared.Limits.{Limits}
+use Rattle.limits.specs.Sets.{hasSet}
 use Rattle.context.specs.declared.Context.{Context}
 
 -- "stored fields in range", and unused octets zero. PDP type and address are any; what is counted is bounded below.
@@ -18,22 +18,22 @@ fieldsOk c = leb (c .flags) 3 && imsiOk (c .imsi) && apnOk (c .apn) (c .apnlen)
 unfoldable pub closedOk : ℕ → Context → Bool
 closedOk accepted c = ltb (c .closed) accepted
 
--- and of the open record what `soundOpen` says: QoS in range, unused places zero, container count, conditions, times, QoS rule, volumes
-unfoldable pub contextOk : Limits → ℕ → ℕ → ℕ → Context → Bool
-contextOk limits zone clock accepted c =
-    fieldsOk c && closedOk accepted c && soundOpen (limits .volume) (limits .changes) zone clock (c .current)
+-- "each context's set is one that the node has" (02, W6), of so many; and of the open record what `soundOpen` says: its limits and its QoS in range,
+-- unused places zero, container count, conditions, times, QoS rule, volumes
+unfoldable pub contextOk : ℕ → ℕ → ℕ → ℕ → Context → Bool
+contextOk count zone clock accepted c = fieldsOk c && hasSet count (c .set) && closedOk accepted c && soundOpen zone clock (c .current)
 
 -- "free slots .. all zero"
 unfoldable pub zeroOk : Context → Bool
 zeroOk c =
-    eqb (c .active) 0 && eqb (c .flags) 0 && eqb (c .name .id) 0 && eqb (c .name .ggsn) 0 && allOf isZero (c .imsi) && allOf isZero (c .apn)
-    && eqb (c .apnlen) 0 && eqb (c .pdptype) 0 && eqb (c .address) 0 && blankOpen (c .current) && eqb (c .closed) 0
+    eqb (c .active) 0 && eqb (c .flags) 0 && eqb (c .set) 0 && eqb (c .name .id) 0 && eqb (c .name .ggsn) 0 && allOf isZero (c .imsi)
+    && allOf isZero (c .apn) && eqb (c .apnlen) 0 && eqb (c .pdptype) 0 && eqb (c .address) 0 && blankOpen (c .current) && eqb (c .closed) 0
 
 -- a slot: an active context, or a free one
-unfoldable pub slotOk : Limits → ℕ → ℕ → ℕ → Context → Bool
-slotOk limits zone clock accepted c = cond (eqb (c .active) 1) (contextOk limits zone clock accepted c) (zeroOk c)
+unfoldable pub slotOk : ℕ → ℕ → ℕ → ℕ → Context → Bool
+slotOk count zone clock accepted c = cond (eqb (c .active) 1) (contextOk count zone clock accepted c) (zeroOk c)
 
 -- every slot of the table
-unfoldable pub slotsOk : Limits → ℕ → ℕ → ℕ → List Context → Bool
-slotsOk limits zone clock accepted [] = true
-slotsOk limits zone clock accepted (c ∷ cs) = slotOk limits zone clock accepted c && slotsOk limits zone clock accepted cs
+unfoldable pub slotsOk : ℕ → ℕ → ℕ → ℕ → List Context → Bool
+slotsOk count zone clock accepted [] = true
+slotsOk count zone clock accepted (c ∷ cs) = slotOk count zone clock accepted c && slotsOk count zone clock accepted cs

@@ -20,6 +20,8 @@ pub struct Context {
     pub active: u8,
     // as an activate has them: bit 0 initiated by the network, bit 1 arrived by a change of SGSN
     pub flags: u8,
+    // the number of its set of limits: each of its records opens with the edition that is then in force
+    pub set: u8,
     pub name: Name,
     pub imsi: [u8; 8],
     pub apn: [u8; 63],
@@ -42,6 +44,7 @@ pub fn no_context() -> Context
     Context {
         active: 0,
         flags: 0,
+        set: 0,
         name: Name { id: 0, ggsn: 0 },
         imsi,
         apn,

@@ -2,9 +2,9 @@
 use crate::Context;
 use ber::imsi;
 use container::open;
+use limits::sets;
 use octets::chars;
 use octets::names;
-use profile::Limits;
 ghost use mathlib.Core.Path.{_≡_};
 ghost use Rattle.context.specs.Sound.{fieldsOk, closedOk, contextOk, zeroOk, slotOk, slotsOk};
 
@@ -26,15 +26,16 @@ pub fn closed_ok(accepted: u64, c: Context) -> bool
     c.closed < accepted
 }
 
-// Is an active context as it must be?
-pub fn context_ok(limits: Limits, zone: u16, clock: u32, accepted: u64, c: Context) -> bool
-    ensures { λ r. ⌜ r ≡ contextOk limits zone clock accepted c ⌝ }
+// Is an active context as it must be, in a node that has so many sets of limits?
+pub fn context_ok(count: usize, zone: u16, clock: u32, accepted: u64, c: Context) -> bool
+    ensures { λ r. ⌜ r ≡ contextOk count zone clock accepted c ⌝ }
 {
     let o = c.current;
     let a = fields_ok(c);
+    let s = sets::has(count, c.set);
     let b = closed_ok(accepted, c);
-    let d = open::is_sound(o, limits.volume, limits.changes, zone, clock);
-    a & b & d
+    let d = open::is_sound(o, zone, clock);
+    a & s & b & d
 }
 
 // Is every field of a slot zero?
@@ -49,6 +50,7 @@ pub fn zero_ok(c: Context) -> bool
     let d = open::is_blank(o);
     (c.active == 0)
         & (c.flags == 0)
+        & (c.set == 0)
         & (c.name.id == 0)
         & (c.name.ggsn == 0)
         & a
@@ -61,23 +63,23 @@ pub fn zero_ok(c: Context) -> bool
 }
 
 // Is a slot as it must be: an active context, or a free one?
-pub fn slot_ok(limits: Limits, zone: u16, clock: u32, accepted: u64, c: Context) -> bool
-    ensures { λ r. ⌜ r ≡ slotOk limits zone clock accepted c ⌝ }
+pub fn slot_ok(count: usize, zone: u16, clock: u32, accepted: u64, c: Context) -> bool
+    ensures { λ r. ⌜ r ≡ slotOk count zone clock accepted c ⌝ }
 {
     if c.active == 1 {
-        return context_ok(limits, zone, clock, accepted, c);
+        return context_ok(count, zone, clock, accepted, c);
     }
     zero_ok(c)
 }
 
 // Is every slot of the table?
-pub fn slots_ok(limits: Limits, zone: u16, clock: u32, accepted: u64, cs: [Context; 16]) -> bool
-    ensures { λ r. ⌜ r ≡ slotsOk limits zone clock accepted cs ⌝ }
+pub fn slots_ok(count: usize, zone: u16, clock: u32, accepted: u64, cs: [Context; 16]) -> bool
+    ensures { λ r. ⌜ r ≡ slotsOk count zone clock accepted cs ⌝ }
 {
     let mut i: usize = 0;
     while i < 16 {
         let c = cs[i];
-        if !slot_ok(limits, zone, clock, accepted, c) {
+        if !slot_ok(count, zone, clock, accepted, c) {
             return false;
         }
         i += 1;

@@ -13,10 +13,10 @@ use Rattle.context.proofs.sound.slots_ok.Statement.{statement}
 use Rattle.context.proofs.sound.slots_ok.Tie as tie
 
 abbrev Inv-loop : tie.InvT-loop
-Inv-loop limits zone clock accepted cs i₀ i = Rest (slotsOk limits zone clock accepted) cs 0 i
+Inv-loop count zone clock accepted cs i₀ i = Rest (slotsOk count zone clock accepted) cs 0 i
 
 abbrev μ-loop : tie.MeasureT-loop
-μ-loop limits zone clock accepted cs i₀ i = 16 - i
+μ-loop count zone clock accepted cs i₀ i = 16 - i
 
 long : (c : tie.Start Inv-loop μ-loop) → length (c .args .t5) ≡ 16
 long c = search (needs, length-of-map)
@@ -28,20 +28,20 @@ returns : tie.Need-returns Inv-loop μ-loop
 returns c =
     let s = c .before .before .before .before in
     let l = long (s .before) in
-    rest-no (slots-ask (s .before .args .limits) (s .before .args .zone) (s .before .args .clock) (s .before .args .accepted)) (s .loop .inv) _ (omega arith)
+    rest-no (slots-ask (s .before .args .count) (s .before .args .zone) (s .before .args .clock) (s .before .args .accepted)) (s .loop .inv) _ (omega arith)
     (c .before .slot-ok .ensures) (not-true _ (c .if1 .taken))
 
 loop-again : tie.Need-loop-again Inv-loop μ-loop
 loop-again c =
     let s = c .before .before .before .before in
     let l = long (s .before) in
-    rest-next (slots-ask (s .before .args .limits) (s .before .args .zone) (s .before .args .clock) (s .before .args .accepted)) (s .loop .inv) _
+    rest-next (slots-ask (s .before .args .count) (s .before .args .zone) (s .before .args .clock) (s .before .args .accepted)) (s .loop .inv) _
     (omega arith) (c .before .slot-ok .ensures) (not-false _ (c .if1 .left))
 
 returns-2 : tie.Need-returns-2 Inv-loop μ-loop
 returns-2 c =
     let l = long (c .before .before) in
-    rest-end (slots-ask (c .before .before .args .limits) (c .before .before .args .zone) (c .before .before .args .clock)
+    rest-end (slots-ask (c .before .before .args .count) (c .before .before .args .zone) (c .before .before .args .clock)
     (c .before .before .args .accepted)) (c .before .loop .inv) (omega arith)
 
 pub slots-ok-spec : {M : Type 1} → statement M

@@ -13,7 +13,7 @@ slice-aggregate-zeros-2 c = search needs
 returns : tie.Need-returns
 unfolding zeroOk
 returns c =
-    let t = c .before .before .before .before .before .before .before .before in rw
+    let t = c .before .before .before .before .before .before .before .before .before in rw
     (t .is-blank .ensures, t .before .zeros2 .ensures, t .before .before .before .zeros .ensures)
 
 pub zero-ok-spec : {M : Type 1} → statement M
