@@ -5,10 +5,10 @@ use mathlib.Core.List.{List, [], _∷_, _++_}
 use Prim.Native.Nat.{ℕ, zero, suc, _+_, _-_, _≤_, _<_}
 use native.Mathlib.Numerals.{add-one, unary-clauses}
 use native.Mathlib.Omega.{arith}
-use lib.Dec.{leb, ltb}
+use lib.Dec.{leb, ltb, eqb}
 use lib.ListN.{length, take, drop, getD, set, length-set, drop-of-length-le}
 use lib.Seq.{drop-cons, take-suc, take-suc-set}
-use borrow.Author.Tests.{lt-ltb, le-ltb, leb-true, le-leb}
+use borrow.Author.Tests.{lt-ltb, le-ltb, leb-true, le-leb, lt-leb, eqb-true, eq-eqb}
 use Rattle.format.proofs.Tests.{both, either}
 use Rattle.limits.specs.declared.Limits.{Limits}
 use Rattle.limits.specs.declared.LimitSet.{LimitSet}
@@ -66,7 +66,7 @@ module _ (n : ℕ) (ss : List LimitSet) (i : ℕ) (d : LimitSet) (h : i < length
   pub looked-more : cond (ltb i n) (setOk (getD ss i d)) (blankSet (getD ss i d)) ≡ true → usedOk (n - (i + 1)) (drop (i + 1) ss) ≡ usedOk (n - i) (drop i ss)
   looked-more e = sym (here ∙ rw e)
 
-pub looked-end : (n : ℕ) (ss : List LimitSet) (i : ℕ) → length ss ≤ i → usedOk (n - i) (drop i ss) ≡ true
+pub looked-end : (n : ℕ) (ss : List LimitSet) (i : ℕ) → length ss ≤ i → usedOk (n - i) (drop i ss) ≡ eqb (n - i) 0
 unfolding usedOk
 looked-end n ss i h = rw (drop-of-length-le ss h)
 
@@ -79,13 +79,20 @@ never-ok n ss e = rw e (sym (and-false (leb 1 n && leb n 8)))
     and-false true = refl
     and-false false = refl
 
-pub as-many : (n : ℕ) (ss : List LimitSet) → usedOk n ss ≡ true → (leb 1 n && leb n 8) ≡ setsOk n ss
+pub as-many : (n : ℕ) (ss : List LimitSet) (i : ℕ) → 8 ≤ i → usedOk n ss ≡ eqb (n - i) 0 → (leb 1 n && leb n 8) ≡ setsOk n ss
 unfolding setsOk
-as-many n ss e = rw e (sym (and-true (leb 1 n && leb n 8)))
+as-many n ss i k e =
+    rw e (either n 8
+    (λ h. let z : n - i ≡ 0 = omega arith in rw (eq-eqb (n - i) 0 z) (sym (and-true (leb 1 n && leb n 8))))
+    (λ h. rw (lt-leb n 8 h) (sym (and-nothing (leb 1 n) (eqb (n - i) 0)))))
   where
     and-true : (b : Bool) → (b && true) ≡ b
     and-true true = refl
     and-true false = refl
+
+    and-nothing : (b d : Bool) → (b && false && d) ≡ (b && false)
+    and-nothing true d = refl
+    and-nothing false d = refl
 
 -- ---- the sets that are given, one place after another
 
@@ -132,16 +139,16 @@ module _ {n : ℕ} {ls : List Limits} {r : List LimitSet} {i : ℕ} (g : Given n
 -- ---- what a sound node may count on
 
 -- the places of the sets that are used
-used-at : (n : ℕ) (ss : List LimitSet) (i : ℕ) → i < n → i < length ss → usedOk n ss ≡ true → setOk (getD ss i noSet) ≡ true
+used-at : (n : ℕ) (ss : List LimitSet) (i : ℕ) → i < n → usedOk n ss ≡ true → setOk (getD ss i noSet) ≡ true
 unfolding usedOk
-used-at n [] i h k e = absurd (omega arith)
-used-at zero (s ∷ ss) i h k e = absurd (omega arith)
-used-at (suc n) (s ∷ ss) zero h k e = both (setOk s) (usedOk n ss) e .0
-used-at (suc n) (s ∷ ss) (suc i) h k e = used-at n ss i (omega arith) (omega arith) (both (setOk s) (usedOk n ss) e .1)
+used-at n [] i h e = absurd (omega (arith, eqb-true n 0 e))
+used-at zero (s ∷ ss) i h e = absurd (omega arith)
+used-at (suc n) (s ∷ ss) zero h e = both (setOk s) (usedOk n ss) e .0
+used-at (suc n) (s ∷ ss) (suc i) h e = used-at n ss i (omega arith) (both (setOk s) (usedOk n ss) e .1)
 
 used-set : (n : ℕ) (ss : List LimitSet) (i : ℕ) (s : LimitSet) → i < n → setOk s ≡ true → usedOk n ss ≡ true → usedOk n (set ss i s) ≡ true
 unfolding usedOk
-used-set n [] i s h o e = refl
+used-set n [] i s h o e = e
 used-set zero (x ∷ ss) i s h o e = absurd (omega arith)
 used-set (suc n) (x ∷ ss) zero s h o e = rw (o, both (setOk x) (usedOk n ss) e .1)
 used-set (suc n) (x ∷ ss) (suc i) s h o e =
@@ -170,13 +177,13 @@ unfolding hasSet
 numbered n number e = let (a, b) = both (leb 1 number) (leb number n) e in record { some = leb-true 1 number a; few = leb-true number n b }
 
 -- the limits of a set that the node has are in range
-pub limits-in-range : (n : ℕ) (ss : List LimitSet) (number : ℕ) → length ss ≡ 8 → setsOk n ss ≡ true → hasSet n number ≡ true
+pub limits-in-range : (n : ℕ) (ss : List LimitSet) (number : ℕ) → setsOk n ss ≡ true → hasSet n number ≡ true
     → limitsOk (limitsOf number ss) ≡ true
 unfolding limitsOf setOk
-limits-in-range n ss number l e h =
+limits-in-range n ss number e h =
     let s = sets-hold n ss e in
     let k = numbered n number h in
-    let o = used-at n ss (number - 1) (omega (arith, k .some, k .few)) (omega (arith, k .few, s .few, k .some)) (s .used) in
+    let o = used-at n ss (number - 1) (omega (arith, k .some, k .few)) (s .used) in
     let (a, b) = both (leb 1 (getD ss (number - 1) noSet .edition)) (limitsOk (getD ss (number - 1) noSet .limits)) o in
     ap (λ (s : LimitSet). limitsOk (s .limits)) (at-number number ss (k .some)) ∙ b
 

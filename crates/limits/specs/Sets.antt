@@ -37,9 +37,9 @@ setOk s = leb 1 (s .edition) && limitsOk (s .limits)
 unfoldable pub blankSet : LimitSet → Bool
 blankSet s = eqb (s .edition) 0 && blankLimits (s .limits)
 
--- The first so many are as they must be, and the others are zero.
+-- So many are there, and as they must be, and the others are zero.
 unfoldable pub usedOk : ℕ → List LimitSet → Bool
-usedOk n [] = true
+usedOk n [] = eqb n 0
 usedOk zero (s ∷ ss) = blankSet s && usedOk zero ss
 usedOk (suc n) (s ∷ ss) = setOk s && usedOk n ss
 

@@ -12,7 +12,8 @@ use Rattle.octets.specs.Names.{nodeOk}
 use Rattle.ber.specs.Imsi.{imsiOk}
 use Rattle.calendar.specs.Stamp.{stampOk}
 use Rattle.profile.specs.declared.Profile.{Profile}
-use Rattle.profile.specs.Profile.{limitsOk, profileOk}
+use Rattle.limits.specs.Sets.{firstEditions, setsOk}
+use Rattle.profile.specs.Profile.{profileOk}
 use Rattle.mcdr.specs.declared.Place.{Place}
 use Rattle.mcdr.specs.Change.{samePlace}
 use Rattle.mcdr.specs.Changes.{lastTime}
@@ -37,8 +38,8 @@ record Fit (p : Profile) : Type 0 where
 fit : (p : Profile) → profileOk p ≡ true → Fit p
 unfolding profileOk
 fit p h =
-    let (a, node) = both (limitsOk (p .limits) && leb (p .zone) 1560) (nodeOk (p .nodeid) (p .nodelen)) h in
-    let (b, zone) = both (limitsOk (p .limits)) (leb (p .zone) 1560) a in
+    let (a, node) = both (setsOk (p .sets) (firstEditions (p .sets) (p .limits)) && leb (p .zone) 1560) (nodeOk (p .nodeid) (p .nodelen)) h in
+    let (b, zone) = both (setsOk (p .sets) (firstEditions (p .sets) (p .limits))) (leb (p .zone) 1560) a in
     record { zone = leb-true (p .zone) 1560 zone; node = node }
 
 -- ---- the number

@@ -44,7 +44,7 @@ returns-2 c =
     let s = c .before .before in
     let l = c .before .loop in
     let z = long s in
-    as-many (s .args .count) (s .args .t1) (sym (l .inv) ∙ looked-end (s .args .count) (s .args .t1) (l .i) (omega arith))
+    as-many (s .args .count) (s .args .t1) (l .i) (omega arith) (sym (l .inv) ∙ looked-end (s .args .count) (s .args .t1) (l .i) (omega arith))
 
 pub sets-ok-spec : {M : Type 1} → statement M
 sets-ok-spec =
