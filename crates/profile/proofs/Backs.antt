@@ -8,20 +8,22 @@ use lib.Dec.{leb, eqb}
 use lib.ListN.{length, take, drop, getD, replicate, length-append}
 use lib.Seq.{take-at, take-take}
 use borrow.Author.Tests.{leb-true, leb-false, le-leb, lt-leb, eqb-true, eqb-false, ne-eqb, not-true}
-use Rattle.profile.specs.Fault.{isNone, unless}
-use Rattle.profile.specs.Cut.{has, upTo, past}
+use Rattle.profile.specs.Fault.{isNone, unless, first}
+use Rattle.profile.specs.Cut.{space, has, upTo, past}
 use Rattle.profile.specs.Number.{digits, numberFault, numeral, atMost}
 use Rattle.profile.specs.Address.{dot, octetOk, octetOf, addressOk, addressOf}
+use Rattle.profile.specs.Three.{volumeIn, secondsIn, changesIn, threeFault, limitsOf}
 use Rattle.profile.specs.Offset.{westFault, offsetFault, east, west, zoneOf}
 use Rattle.profile.specs.Node.{nodeOctets}
-use Rattle.profile.specs.Line.{space, restSpace}
-use Rattle.profile.specs.Print.{numberText, addressText, offsetText, nodeText}
-use Rattle.profile.specs.declared.line.Kind.the-variants.{Dotted, Digits, Signed, Rest}
+use Rattle.profile.specs.Line.{restSpace}
+use Rattle.profile.specs.Print.{numberText, addressText, limitsText, limitsTail, offsetText, nodeText}
+use Rattle.profile.specs.declared.line.Kind.the-variants.{Dotted, Three, Signed, Rest}
 use Rattle.profile.specs.declared.text.Fault.the-variants.{None, Number, Zero, Address}
-use Rattle.profile.proofs.Firsts.{clash, both, is-none, met-unless}
+use Rattle.profile.proofs.Firsts.{clash, both, is-none, met-unless, none-first}
 use Rattle.profile.proofs.Numbers.{by, most-is, most-over}
 use Rattle.profile.proofs.Marks.{cut-is, past-some}
 use Rattle.profile.proofs.Digits.{digits-plain, fault-plain, numeral-some, number-back}
+use Rattle.profile.proofs.Ranges.{Low}
 use Rattle.profile.proofs.Lines.{Tail, spaced-back}
 
 -- ---- addresses
@@ -80,6 +82,23 @@ capped-back m v e k h =
     by (leb (numeral 0 v) m)
     (λ t. let l = leb-true (numeral 0 v) m t in ap numberText (sym (most-is m (numeral 0 v) l)) ∙ number-back v (fault-plain v e) (omega arith))
     (λ t. let l = leb-false (numeral 0 v) m t in let o = most-over m (numeral 0 v) (omega arith) in absurd (omega arith))
+
+-- ---- the three limits of a set
+
+three-back : (v : List ℕ) → threeFault v ≡ None → Low (limitsOf v) → limitsText (limitsOf v) ≡ v
+unfolding threeFault limitsOf limitsText
+three-back v e h =
+    let w = past space v in
+    let (a, f) = none-first (numberFault (volumeIn v)) (first (numberFault (secondsIn v)) (numberFault (changesIn v))) e in
+    let (b, c) = none-first (numberFault (secondsIn v)) (numberFault (changesIn v)) f in
+    let hw = past-some space w (fault-plain (changesIn v) c .some) in
+    let hv = past-some space v (cut-long space w hw) in
+    rw (
+      capped-back (2 ^ 64 - 1) (volumeIn v) a (omega arith) (omega (arith, h .volume)),
+      capped-back (2 ^ 32 - 1) (secondsIn v) b (omega arith) (omega (arith, h .seconds)),
+      capped-back 255 (changesIn v) c (omega arith) (omega (arith, h .changes)),
+    )
+    (ap (λ (l : List ℕ). upTo space v ++ space ∷ l) (sym (cut-is space w hw)) ∙ sym (cut-is space v hv))
 
 -- ---- offsets
 
@@ -141,12 +160,12 @@ module _ (v t : List ℕ) (e : v ≡ past space t) where
       spaced-back (λ (w : List ℕ). addressText (addressOf w)) v t (f .lead) e
       (address-back (past space t) (met-unless (addressOk (past space t)) Address None refl (f .fault) .0))
 
-  pub digits-back : (m : ℕ) → Tail Digits t → m < 10 ^ 20 → atMost m (numeral 0 v) < m → space ∷ numberText (atMost m (numeral 0 v)) ≡ t
-  digits-back m f k h =
-      spaced-back (λ (w : List ℕ). numberText (atMost m (numeral 0 w))) v t (f .lead) e (capped-back m (past space t) (f .fault) k (rw e at h))
-
   pub signed-back : Tail Signed t → zoneOf v ≤ 1560 → space ∷ offsetText (zoneOf v) ≡ t
   signed-back f h = spaced-back (λ (w : List ℕ). offsetText (zoneOf w)) v t (f .lead) e (offset-back (past space t) (f .fault) (rw e at h))
 
   pub node-back : Tail Rest t → length v ≤ 20 → nodeText (nodeOctets v) (length v) ≡ t
   node-back f h = rw e (rest-back t (f .lead) (rw e at h))
+
+pub limits-back : (t : List ℕ) → Tail Three t → Low (limitsOf (past space t)) → limitsTail (limitsOf (past space t)) ≡ t
+limits-back t f h =
+    spaced-back (λ (w : List ℕ). limitsText (limitsOf w)) (past space t) t (f .lead) refl (three-back (past space t) (f .fault) h)

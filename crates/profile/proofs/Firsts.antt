@@ -3,7 +3,7 @@ use mathlib.Core.Path.{_≡_, refl, ap}
 use mathlib.Core.Bool.{Bool, true, false, _&&_}
 use Prim.Native.Nat.{ℕ, _≤_}
 use native.Mathlib.Omega.{arith}
-use Rattle.profile.specs.Fault.{isNone, unless, orBad}
+use Rattle.profile.specs.Fault.{isNone, unless, first, orBad}
 use Rattle.profile.specs.Text.{noBad}
 use Rattle.profile.specs.declared.text.Fault.{Fault}
 use Rattle.profile.specs.declared.text.Fault.the-variants.{None, Missing, End, Name, Space, Number, Zero, Address, More}
@@ -44,6 +44,14 @@ pub met-unless : (t : Bool) (f g : Fault) → isNone f ≡ false → unless t f 
 unfolding unless
 met-unless true f g n e = (refl, e)
 met-unless false f g n e = clash (ap isNone e) n
+
+-- where two have no first fault, neither has one
+pub none-first : (f g : Fault) → first f g ≡ None → (f ≡ None) × (g ≡ None)
+unfolding unless
+none-first f g e =
+    by (isNone f)
+    (λ t. (is-none f t, rw t at e))
+    (λ t. let z : f ≡ None = rw t at e in clash (ap isNone z) t)
 
 pub none-bad : (n : ℕ) (f : Fault) (b : Bad) → 1 ≤ n → orBad n f b .line ≡ 0 → (f ≡ None) × (b .line ≡ 0)
 unfolding orBad

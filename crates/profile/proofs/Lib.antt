@@ -1,11 +1,14 @@
 pub mod Firsts
 pub mod Numbers
 pub mod Nodes
+pub mod Places
 pub mod Readings
 pub mod Digits
 pub mod Marks
 pub mod Lines
+pub mod Ranges
 pub mod Values
 pub mod Backs
+pub mod SetLines
 pub mod Theorems
 pub mod Printed

@@ -8,9 +8,9 @@ use lib.Dec.{leb, eqb}
 use lib.ListN.{length, drop, getD, length-append}
 use lib.Seq.{drop-append-seam}
 use borrow.Author.Tests.{le-leb, eqb-true, ne-eqb, not-true}
-use Rattle.profile.specs.Cut.{has, upTo, past, begins}
+use Rattle.profile.specs.Cut.{feed, space, has, upTo, past, begins}
 use Rattle.profile.specs.Fault.{unless, orBad}
-use Rattle.profile.specs.Line.{feed, space, linesPast, tailOf, valueOf, valueAt, oneSpace, spaced, valueFault, lineFault}
+use Rattle.profile.specs.Line.{linesPast, tailOf, valueOf, valueAt, oneSpace, spaced, valueFault, lineFault}
 use Rattle.profile.specs.Text.{Row, noBad, firstBad}
 use Rattle.profile.specs.Print.{linesOf}
 use Rattle.profile.specs.declared.line.Kind.{Kind}

@@ -10,19 +10,22 @@ use lib.Seq.{take-at, length-take-le}
 use borrow.Author.Tests.{leb-true, leb-false, le-leb, eqb-true, eqb-false, ne-eqb}
 use Rattle.octets.specs.Chars.{allOf, digit, nodeChar, isZero}
 use Rattle.octets.specs.Names.{nodeOk}
-use Rattle.profile.specs.Cut.{has, past}
+use Rattle.limits.specs.declared.Limits.{Limits}
+use Rattle.profile.specs.Cut.{feed, space, has, past}
+use Rattle.profile.specs.Fault.{unless}
 use Rattle.profile.specs.Number.{numeral, atMost}
 use Rattle.profile.specs.Address.{dot, octetOk, octetOf, addressOk, addressOf}
+use Rattle.profile.specs.Three.{threeFault, limitsOf}
 use Rattle.profile.specs.Offset.{westFault, offsetFault, east, west, zoneOf}
 use Rattle.profile.specs.Node.{nodeOctets}
-use Rattle.profile.specs.Line.{feed, space}
-use Rattle.profile.specs.Print.{numberText, addressText, offsetText, nodeText}
+use Rattle.profile.specs.Print.{numberText, addressText, limitsText, offsetText, nodeText}
 use Rattle.profile.specs.declared.line.Kind.the-variants.{Rest}
 use Rattle.profile.specs.declared.text.Fault.the-variants.{None, Number, Zero}
 use Rattle.profile.proofs.Firsts.{clash, both, unless-met}
 use Rattle.profile.proofs.Numbers.{by, most-is}
 use Rattle.profile.proofs.Marks.{absent, absent-both, up-to-here, past-here}
 use Rattle.profile.proofs.Digits.{Plain, plain-digits, plain-fault, Spells, number-spells}
+use Rattle.profile.proofs.Ranges.{Low}
 use Rattle.profile.proofs.Lines.{Value, Tail}
 
 -- ---- digits have no mark among them
@@ -95,6 +98,44 @@ address-is n h =
     dotted n (number-spells (n / 2 ^ 24) (omega arith)) (number-spells (n / 2 ^ 16 % 256) (omega arith))
     (number-spells (n / 2 ^ 8 % 256) (omega arith)) (number-spells (n % 256) (omega arith))
     (omega arith) (omega arith) (omega arith) (omega arith) (omega arith)
+
+-- ---- the three limits of a set
+
+pub record Three (l : Limits) (v : List ℕ) : Type 0 where
+  pub fault : threeFault v ≡ None
+  pub same : limitsOf v ≡ l
+  pub value : Value v
+
+module _ (l : Limits) {p q r : List ℕ} (fp : Spells p (l .volume)) (fq : Spells q (l .seconds)) (fr : Spells r (l .changes)) where
+  apart : Low l → Three l (p ++ space ∷ (q ++ space ∷ r))
+  unfolding threeFault limitsOf unless has
+  apart h =
+      let w = q ++ space ∷ r in
+      let p1 = past-here space w p (no-mark (fp .plain) space refl) in
+      let p2 = past-here space r q (no-mark (fq .plain) space refl) in
+      let u1 = up-to-here space w p (no-mark (fp .plain) space refl) in
+      let u2 = up-to-here space r q (no-mark (fq .plain) space refl) in
+      let first = List·getD-append p (space ∷ w) 0 0 (fp .plain .some) in
+      let volume = number-same fp (2 ^ 64 - 1) (omega (arith, h .volume)) in
+      let seconds = number-same fq (2 ^ 32 - 1) (omega (arith, h .seconds)) in
+      let changes = number-same fr 255 (omega (arith, h .changes)) in
+      record {
+        fault = rw (p1, p2, u1, u2, plain-fault (fp .plain), plain-fault (fq .plain), plain-fault (fr .plain));
+        same = rw (p1, p2, u1, u2, volume, seconds, changes);
+        value =
+            record {
+              clear =
+                  absent-both feed p (space ∷ w) (no-mark (fp .plain) feed refl)
+                  (absent-both feed q (space ∷ r) (no-mark (fq .plain) feed refl) (no-mark (fr .plain) feed refl));
+              first = λ g. first-is-not (fp .plain) space refl (sym first ∙ g);
+            };
+      }
+
+pub three-is : (l : Limits) → Low l → Three l (limitsText l)
+unfolding limitsText
+three-is l h =
+    apart l (number-spells (l .volume) (omega (arith, h .volume))) (number-spells (l .seconds) (omega (arith, h .seconds)))
+    (number-spells (l .changes) (omega (arith, h .changes))) h
 
 -- ---- offsets
 

@@ -4,6 +4,13 @@ use mathlib.Core.List.{List, [], _∷_}
 use Prim.Native.Nat.{ℕ}
 use lib.Dec.{eqb}
 
+-- the marks: a line feed after a line, a space before a value and between the numbers of one
+abbrev pub feed : ℕ
+feed = 10
+
+abbrev pub space : ℕ
+space = 32
+
 -- is there an x?
 unfoldable pub has : ℕ → List ℕ → Bool
 has x [] = false

@@ -20,6 +20,10 @@ isNone More = false
 unfoldable pub unless : Bool → Fault → Fault → Fault
 unless met f g = cond met g f
 
+-- what is wrong first, of two
+abbrev pub first : Fault → Fault → Fault
+first f g = unless (isNone f) f g
+
 -- the line of that number where something is wrong with it, and otherwise what is bad after it
 unfoldable pub orBad : ℕ → Fault → Bad → Bad
 orBad n f b = cond (isNone f) b (record { line = n; fault = f })

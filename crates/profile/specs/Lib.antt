@@ -4,8 +4,10 @@ pub mod Cut
 pub mod Number
 pub mod Address
 pub mod Offset
+pub mod Three
 pub mod Node
 pub mod Line
+pub mod Sets
 pub mod Text
 pub mod Print
 pub mod Sample

@@ -4,21 +4,15 @@ use mathlib.Core.List.{List}
 use Prim.Native.Nat.{ℕ, zero, suc}
 use lib.Dec.{leb, eqb}
 use lib.ListN.{length, getD, drop}
-use Rattle.profile.specs.Cut.{has, upTo, past, begins}
+use Rattle.profile.specs.Cut.{feed, space, has, upTo, past, begins}
 use Rattle.profile.specs.Fault.{unless}
-use Rattle.profile.specs.Number.{numberFault}
+use Rattle.profile.specs.Three.{threeFault}
 use Rattle.profile.specs.Address.{addressOk}
 use Rattle.profile.specs.Offset.{offsetFault}
 use Rattle.profile.specs.declared.line.Kind.{Kind}
-use Rattle.profile.specs.declared.line.Kind.the-variants.{Dotted, Digits, Signed, Rest}
+use Rattle.profile.specs.declared.line.Kind.the-variants.{Dotted, Three, Signed, Rest}
 use Rattle.profile.specs.declared.text.Fault.{Fault}
 use Rattle.profile.specs.declared.text.Fault.the-variants.{None, Missing, End, Name, Space, Address}
-
-abbrev pub feed : ℕ
-feed = 10
-
-abbrev pub space : ℕ
-space = 32
 
 -- what follows the name in the line; and its value, which follows the first space: no name has one
 abbrev pub tailOf : List ℕ → List ℕ → List ℕ
@@ -38,13 +32,13 @@ restSpace t = eqb (length t) 0 || (eqb (getD t 0 0) space && leb 2 (length t))
 -- the space before a value of each kind, and what is wrong with the value
 abbrev pub spaced : Kind → List ℕ → Bool
 spaced Dotted t = oneSpace t
-spaced Digits t = oneSpace t
+spaced Three t = oneSpace t
 spaced Signed t = oneSpace t
 spaced Rest t = restSpace t
 
 abbrev pub valueFault : Kind → List ℕ → Fault
 valueFault Dotted v = unless (addressOk v) Address None
-valueFault Digits v = numberFault v
+valueFault Three v = threeFault v
 valueFault Signed v = offsetFault v
 valueFault Rest v = None
 

@@ -1,12 +1,13 @@
 -- The text of a profile.
 use mathlib.Core.Bool.{cond}
-use mathlib.Core.List.{List, [], _∷_, _++_}
+use mathlib.Core.List.{List, [], _∷_, _++_, map}
 use Prim.Native.Nat.{ℕ, zero, suc, _+_, _-_, _/_, _%_, _^_}
 use lib.Dec.{leb, ltb, eqb}
 use lib.ListN.{take}
+use Rattle.limits.specs.declared.Limits.{Limits}
+use Rattle.profile.specs.Cut.{feed, space}
 use Rattle.profile.specs.Address.{dot}
-use Rattle.profile.specs.Line.{feed, space}
-use Rattle.profile.specs.Text.{Row, rows}
+use Rattle.profile.specs.Text.{Row, rowsOf}
 use Rattle.profile.specs.declared.Profile.{Profile}
 
 -- the decimal digits of a number below 10 ^ k, without leading zeros
@@ -25,6 +26,10 @@ addressText a =
     ++ dot ∷ (numberText (a / 2 ^ 8 % 256)
     ++ dot ∷ numberText (a % 256)))
 
+-- the three limits of a set
+unfoldable pub limitsText : Limits → List ℕ
+limitsText l = numberText (l .volume) ++ space ∷ (numberText (l .seconds) ++ space ∷ numberText (l .changes))
+
 -- the offset is kept as 720 more
 unfoldable pub offsetText : ℕ → List ℕ
 offsetText z = cond (leb 720 z) (numberText (z - 720)) (45 ∷ numberText (720 - z))
@@ -39,15 +44,18 @@ linesOf [] ts = []
 linesOf (r ∷ rs) [] = []
 linesOf (r ∷ rs) (t ∷ ts) = (r .name ++ t) ++ feed ∷ linesOf rs ts
 
+-- what follows the name in the line of a set
+abbrev pub limitsTail : Limits → List ℕ
+limitsTail l = space ∷ limitsText l
+
+-- and in every line: a line for each set that the profile has
 abbrev pub tailsOf : Profile → List (List ℕ)
 tailsOf p =
     (space ∷ addressText (p .sgsn))
-    ∷ (space ∷ numberText (p .limits .volume))
-    ∷ (space ∷ numberText (p .limits .seconds))
-    ∷ (space ∷ numberText (p .limits .changes))
-    ∷ (space ∷ offsetText (p .zone))
+    ∷ (map limitsTail (take (p .sets) (p .limits))
+    ++ (space ∷ offsetText (p .zone))
     ∷ nodeText (p .nodeid) (p .nodelen)
-    ∷ []
+    ∷ [])
 
 unfoldable pub textOf : Profile → List ℕ
-textOf p = linesOf rows (tailsOf p)
+textOf p = linesOf (rowsOf (p .sets)) (tailsOf p)

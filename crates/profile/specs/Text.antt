@@ -1,21 +1,21 @@
--- The text of a profile: exactly six lines, in this order.
+-- The text of a profile: these lines, in this order (02, W6: one to eight are sets of limits).
 use mathlib.Core.Bool.{cond}
-use mathlib.Core.List.{List, [], _∷_}
-use Prim.Native.Nat.{ℕ, suc, _-_, _^_}
+use mathlib.Core.List.{List, [], _∷_, _++_}
+use Prim.Native.Nat.{ℕ, suc, _+_}
 use lib.Dec.{eqb}
-use lib.ListN.{length}
+use lib.ListN.{length, replicate}
 use Rattle.profile.specs.Profile.{noProfile}
-use Rattle.profile.specs.Cut.{past}
+use Rattle.profile.specs.Cut.{feed, past}
 use Rattle.profile.specs.Fault.{unless, orBad}
-use Rattle.profile.specs.Number.{numeral, atMost}
 use Rattle.profile.specs.Address.{addressOf}
 use Rattle.profile.specs.Offset.{zoneOf}
 use Rattle.profile.specs.Node.{nodeOctets}
-use Rattle.profile.specs.Line.{feed, valueAt, lineFault}
+use Rattle.profile.specs.Line.{linesPast, valueAt, lineFault}
+use Rattle.profile.specs.Sets.{limitsName, setsIn, limitsIn}
 use Rattle.profile.specs.declared.Profile.{Profile}
 use Rattle.profile.specs.declared.fault.Bad.{Bad}
 use Rattle.profile.specs.declared.line.Kind.{Kind}
-use Rattle.profile.specs.declared.line.Kind.the-variants.{Dotted, Digits, Signed, Rest}
+use Rattle.profile.specs.declared.line.Kind.the-variants.{Dotted, Three, Signed, Rest}
 use Rattle.profile.specs.declared.text.Fault.the-variants.{None, More}
 use Rattle.profile.specs.declared.text.Read.{Read}
 
@@ -24,18 +24,6 @@ use Rattle.profile.specs.declared.text.Read.{Read}
 -- sgsn
 abbrev pub sgsnName : List ℕ
 sgsnName = 0x73 ∷ 0x67 ∷ 0x73 ∷ 0x6E ∷ []
-
--- volume-limit
-abbrev pub volumeName : List ℕ
-volumeName = 0x76 ∷ 0x6F ∷ 0x6C ∷ 0x75 ∷ 0x6D ∷ 0x65 ∷ 0x2D ∷ 0x6C ∷ 0x69 ∷ 0x6D ∷ 0x69 ∷ 0x74 ∷ []
-
--- time-limit
-abbrev pub timeName : List ℕ
-timeName = 0x74 ∷ 0x69 ∷ 0x6D ∷ 0x65 ∷ 0x2D ∷ 0x6C ∷ 0x69 ∷ 0x6D ∷ 0x69 ∷ 0x74 ∷ []
-
--- change-limit
-abbrev pub changeName : List ℕ
-changeName = 0x63 ∷ 0x68 ∷ 0x61 ∷ 0x6E ∷ 0x67 ∷ 0x65 ∷ 0x2D ∷ 0x6C ∷ 0x69 ∷ 0x6D ∷ 0x69 ∷ 0x74 ∷ []
 
 -- offset
 abbrev pub offsetName : List ℕ
@@ -54,15 +42,15 @@ pub record Row : Type 0 where
 abbrev row : List ℕ → Kind → Row
 row n k = record { name = n; kind = k }
 
-abbrev pub rows : List Row
-rows =
-    row sgsnName Dotted
-    ∷ row volumeName Digits
-    ∷ row timeName Digits
-    ∷ row changeName Digits
-    ∷ row offsetName Signed
-    ∷ row nodeName Rest
-    ∷ []
+abbrev pub setRow : Row
+setRow = row limitsName Three
+
+abbrev pub endRows : List Row
+endRows = row offsetName Signed ∷ row nodeName Rest ∷ []
+
+-- with so many sets of limits
+abbrev pub rowsOf : ℕ → List Row
+rowsOf k = row sgsnName Dotted ∷ (replicate k setRow ++ endRows)
 
 -- ---- the first bad line, and what is wrong there
 
@@ -76,20 +64,20 @@ firstBad (r ∷ rs) n s = orBad n (lineFault (r .name) (r .kind) s) (firstBad rs
 
 -- ---- the profile
 
-unfoldable pub profileOf : List ℕ → Profile
-profileOf s =
+-- with so many sets: the first line has the address, the next have the sets, and after them come the offset and the node ID
+unfoldable pub profileBy : ℕ → List ℕ → Profile
+profileBy k s =
     record {
       sgsn = addressOf (valueAt 0 s);
-      limits =
-          record {
-            volume = atMost (2 ^ 64 - 1) (numeral 0 (valueAt 1 s));
-            seconds = atMost (2 ^ 32 - 1) (numeral 0 (valueAt 2 s));
-            changes = atMost 255 (numeral 0 (valueAt 3 s));
-          };
-      zone = zoneOf (valueAt 4 s);
-      nodeid = nodeOctets (valueAt 5 s);
-      nodelen = length (valueAt 5 s);
+      limits = limitsIn 8 k (linesPast 1 s);
+      sets = k;
+      zone = zoneOf (valueAt (k + 1) s);
+      nodeid = nodeOctets (valueAt (k + 2) s);
+      nodelen = length (valueAt (k + 2) s);
     }
+
+unfoldable pub profileOf : List ℕ → Profile
+profileOf s = profileBy (setsIn s) s
 
 -- ---- what the text says: a profile, or the first bad line and what is wrong there
 
@@ -97,4 +85,4 @@ unfoldable pub readBy : Bad → Profile → Read
 readBy b p = record { line = b .line; fault = b .fault; profile = cond (eqb (b .line) 0) p noProfile }
 
 unfoldable pub readOf : List ℕ → Read
-readOf s = readBy (firstBad rows 1 s) (profileOf s)
+readOf s = readBy (firstBad (rowsOf (setsIn s)) 1 s) (profileOf s)

@@ -1,7 +1,7 @@
 // The first fault.
 use crate::text::Fault;
 ghost use mathlib.Core.Path.{_≡_};
-ghost use Rattle.profile.specs.Fault.{isNone, unless};
+ghost use Rattle.profile.specs.Fault.{isNone, unless, first};
 
 // A line's number and what is wrong there; 0 where no line is bad.
 pub struct Bad {
@@ -34,4 +34,11 @@ pub fn unless(met: bool, f: Fault, g: Fault) -> Fault
         return g;
     }
     f
+}
+
+// The fault f, unless that is none, and then g.
+pub fn first(f: Fault, g: Fault) -> Fault
+    ensures { λ r. ⌜ r ≡ first f g ⌝ }
+{
+    unless(is_none(f), f, g)
 }

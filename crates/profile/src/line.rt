@@ -2,9 +2,9 @@
 use crate::address;
 use crate::cut;
 use crate::fault;
-use crate::number;
 use crate::offset;
 use crate::text::Fault;
+use crate::three;
 ghost use mathlib.Core.Path.{_≡_};
 ghost use Rattle.profile.specs.Line.{linesPast, valueAt, spaced, valueFault, lineFault};
 
@@ -12,8 +12,8 @@ ghost use Rattle.profile.specs.Line.{linesPast, valueAt, spaced, valueFa
 pub enum Kind {
     // four numbers with dots between them
     Dotted,
-    // a number
-    Digits,
+    // three numbers with one space between them
+    Three,
     // a number, with a minus sign where it is below zero
     Signed,
     // the rest of the line, any octets
@@ -49,7 +49,7 @@ fn spaced(kind: Kind, t: &[u8]) -> bool
     let second = octets::octet(t, 1) == b' ';
     match kind {
         Kind::Dotted => return first & !second,
-        Kind::Digits => return first & !second,
+        Kind::Three => return first & !second,
         Kind::Signed => return first & !second,
         Kind::Rest => return (t.len() == 0) | (first & (2 <= t.len())),
     }
@@ -61,7 +61,7 @@ fn value_fault(kind: Kind, v: &[u8]) -> Fault
 {
     match kind {
         Kind::Dotted => return fault::unless(address::address_ok(v), Fault::Address, Fault::None),
-        Kind::Digits => return number::number_fault(v),
+        Kind::Three => return three::three_fault(v),
         Kind::Signed => return offset::offset_fault(v),
         Kind::Rest => return Fault::None,
     }

@@ -1,5 +1,4 @@
-// The text of a profile: six lines in this order, each a name, one space, a value and a line feed.
-use crate::Limits;
+// The text of a profile: lines in this order, each a name, one space, a value and a line feed. One to eight of them are sets of limits.
 use crate::Profile;
 use crate::address;
 use crate::cut;
@@ -7,11 +6,12 @@ use crate::fault;
 use crate::fault::Bad;
 use crate::line;
 use crate::line::Kind;
-use crate::number;
 use crate::offset;
+use crate::sets;
 ghost use mathlib.Core.Path.{_≡_};
 ghost use Rattle.profile.specs.Node.{nodeOctets};
-ghost use Rattle.profile.specs.Text.{rows, firstBad, profileOf, readOf};
+ghost use Rattle.profile.specs.Sets.{setsIn};
+ghost use Rattle.profile.specs.Text.{rowsOf, firstBad, profileOf, readOf};
 ghost use Rattle.profile.specs.Private.Rows.{rowFault};
 
 // What is wrong with a line.
@@ -32,11 +32,11 @@ pub enum Fault {
     Zero,
     // not an address
     Address,
-    // something after the sixth line
+    // something after the last line
     More,
 }
 
-// A profile; or the first bad line, 1 to 7, and what is wrong there, with a profile that is all zero.
+// A profile; or the first bad line, 1 to 12, and what is wrong there, with a profile that is all zero.
 pub struct Read {
     pub line: u8,
     pub fault: Fault,
@@ -52,28 +52,31 @@ fn node_octets(v: &[u8]) -> [u8; 20]
     out
 }
 
-// What is wrong with the line of row i at the front of s: its name, and the kind of its value.
-fn row_fault(s: &[u8], i: u8) -> Fault
-    ensures { λ r. ⌜ r ≡ rowFault i (now (s .entry)) ⌝ }
+// What is wrong with the line of row i at the front of s, where there are so many sets: its name, and the kind of its value.
+fn row_fault(s: &[u8], sets: u8, i: u8) -> Fault
+    ensures { λ r. ⌜ r ≡ rowFault sets i (now (s .entry)) ⌝ }
 {
-    match i {
-        0 => return line::line_fault(s, b"sgsn", Kind::Dotted),
-        1 => return line::line_fault(s, b"volume-limit", Kind::Digits),
-        2 => return line::line_fault(s, b"time-limit", Kind::Digits),
-        3 => return line::line_fault(s, b"change-limit", Kind::Digits),
-        4 => return line::line_fault(s, b"offset", Kind::Signed),
-        _ => return line::line_fault(s, b"node-id", Kind::Rest),
+    if i == 0 {
+        return line::line_fault(s, b"sgsn", Kind::Dotted);
     }
+    if i <= sets {
+        return line::line_fault(s, b"limits", Kind::Three);
+    }
+    if i - sets == 1 {
+        return line::line_fault(s, b"offset", Kind::Signed);
+    }
+    line::line_fault(s, b"node-id", Kind::Rest)
 }
 
 // The first bad line.
 fn first_bad(s: &[u8]) -> Bad
-    ensures { λ r. ⌜ r ≡ firstBad rows 1 (now (s .entry)) ⌝ }
+    ensures { λ r. ⌜ r ≡ firstBad (rowsOf (setsIn (now (s .entry)))) 1 (now (s .entry)) ⌝ }
 {
+    let sets = sets::sets_in(s);
     let mut t = s;
     let mut i: u8 = 0;
-    while i < 6 {
-        let f = row_fault(t, i);
+    while i < sets + 3 {
+        let f = row_fault(t, sets, i);
         if !fault::is_none(f) {
             return Bad {
                 line: i + 1,
@@ -91,30 +94,25 @@ fn first_bad(s: &[u8]) -> Bad
         };
     }
     Bad {
-        line: 7,
+        line: sets + 4,
         fault: Fault::More,
     }
 }
 
-// The profile of six lines.
+// The profile of a text that has no bad line.
 fn profile_of(s: &[u8]) -> Profile
     ensures { λ r. ⌜ r ≡ profileOf (now (s .entry)) ⌝ }
 {
+    let sets = sets::sets_in(s);
     let sgsn = address::address(line::value(s, 0));
-    let volume = number::number(line::value(s, 1));
-    let seconds = number::number(line::value(s, 2));
-    let changes = number::number(line::value(s, 3));
-    let zone = offset::zone(line::value(s, 4));
-    let id = line::value(s, 5);
+    let limits = sets::limits_in(line::lines_past(s, 1), sets);
+    let zone = offset::zone(line::value(s, sets + 1));
+    let id = line::value(s, sets + 2);
     let nodeid = node_octets(id);
-    let limits = Limits {
-        volume,
-        seconds: number::at_most(4294967295, seconds) as u32,
-        changes: number::at_most(255, changes) as u8,
-    };
     Profile {
         sgsn,
         limits,
+        sets: sets as usize,
         zone,
         nodeid,
         nodelen: id.len(),

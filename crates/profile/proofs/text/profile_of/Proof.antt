@@ -1,49 +1,37 @@
 -- `profile::text::profile_of` meets its contract.
-use Prim.Native.Nat.{_-_, _^_}
 use native.Mathlib.Omega.{arith}
-use Rattle.profile.specs.Number.{numeral}
-use Rattle.profile.specs.Line.{valueAt}
-use Rattle.profile.specs.Text.{profileOf}
-use Rattle.profile.proofs.Numbers.{most-most, most-le}
 use borrow.Author.Needs.{needs}
+use Rattle.profile.specs.Text.{profileBy, profileOf}
+use Rattle.profile.proofs.Places.{sets-few}
 use Rattle.profile.proofs.text.profile_of.Statement.{statement}
 use Rattle.profile.proofs.text.profile_of.Tie as tie
 
+add-value : tie.Need-add-value
+add-value c = let c4 = c .before .before .before .before in omega (arith, c4 .sets-in .ensures, sets-few (c4 .before .before .args .s .now))
+
+add-value-2 : tie.Need-add-value-2
+add-value-2 c =
+    let c6 = c .before .before .before .before .before .before in
+    omega (arith, c6 .sets-in .ensures, sets-few (c6 .before .before .args .s .now))
+
 returns : tie.Need-returns
-unfolding profileOf
+unfolding profileOf profileBy
 returns c =
     let c4 = c .before .before .before .before in
-    let c8 = c4 .before .before .before .before in
-    let c12 = c8 .before .before .before .before in
-    let s = c12 .before .before .before .args .s .now in
-    let a = most-most (2 ^ 32 - 1) (2 ^ 64 - 1) (numeral 0 (valueAt 2 s)) (omega arith) in
-    let b = most-most 255 (2 ^ 64 - 1) (numeral 0 (valueAt 3 s)) (omega arith) in
     rw (
-      c .at-most2 .ensures,
-      c .before .at-most .ensures,
-      c .before .before .node-octets .ensures,
-      c .before .before .before .value6 .ensures,
-      c4 .zone .ensures,
-      c4 .before .value5 .ensures,
-      c4 .before .before .number3 .ensures,
-      c4 .before .before .before .value4 .ensures,
-      c8 .number2 .ensures,
-      c8 .before .value3 .ensures,
-      c8 .before .before .number .ensures,
-      c8 .before .before .before .value2 .ensures,
-      c12 .address .ensures,
-      c12 .before .value .ensures,
-      a,
-      b,
+      c .node-octets .ensures,
+      c .before .value3 .ensures,
+      c .before .before .zone .ensures,
+      c .before .before .before .value2 .ensures,
+      c4 .limits-in .ensures,
+      c4 .before .lines-past .ensures,
+      c4 .before .before .address .ensures,
+      c4 .before .before .before .value .ensures,
+      c4 .before .before .before .before .sets-in .ensures,
     )
 
 pub profile-of-spec : {M : Type 1} → statement M
 profile-of-spec =
     tie.close
-    (tie.spec
-    (λ c κs. search needs) (λ c κs. search needs) (λ c κs. search needs) (λ c κs. search needs) (λ c κs. search needs)
-    (λ c κs. search needs) (λ c κs. search needs) (λ c κs. search needs) (λ c κs. search needs) (λ c κs. search needs)
-    (λ c κs. search needs) (λ c κs. search needs) (λ c κs. search needs)
-    (λ c. omega (arith, c .at-most .ensures, most-le (2 ^ 32 - 1) (c .before .before .before .before .before .before .before .number2 .result)))
-    (λ c κs. search needs) (λ c. omega (arith, c .at-most2 .ensures, most-le 255 (c .before .before .before .before .before .before .number3 .result)))
-    returns)
+    (tie.spec (λ c κs. search needs) (λ c κs. search needs) (λ c κs. search needs) (λ c κs. search needs) (λ c κs. search needs) add-value
+    (λ c κs. search needs) (λ c κs. search needs) add-value-2 (λ c κs. search needs) (λ c κs. search needs) (λ c. search needs) returns)
