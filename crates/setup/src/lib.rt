@@ -69,16 +69,16 @@ fn number_of(f: Fault) -> u64 {
 // Says what is wrong with a profile that is out of range, or has a fault in a line.
 fn say_fault(command: &[u8], line: u8, fault: u64) {
     say(
-        b"%a: %Mrefused 12: the profile is out of range: volume-limit 1 to 1000000000000, time-limit 1 to 604800, \
-change-limit 1 to 15, offset -720 to 840, node-id of up to 20 characters from space to ~%;profile line %k: %.%L\
-%;the line is missing: write all six lines (sgsn, volume-limit, time-limit, change-limit, offset, node-id)\
+        b"%a: %Mrefused 12: the profile is out of range: limits of 1 to 1000000000000 octets, 1 to 604800 seconds and \
+1 to 15 changes, offset -720 to 840, node-id of up to 20 characters from space to ~%;profile line %k: %.%L\
+%;the line is missing: write all lines (sgsn, one to eight times limits, offset, node-id)\
 %;no line feed at the end of the line\
-%;the line does not begin with its name: sgsn, volume-limit, time-limit, change-limit, offset, node-id stand in this order\
+%;the line does not begin with its name: sgsn, limits (one to eight lines), offset, node-id stand in this order\
 %;one space must follow the name (and node-id stands alone where the node ID is empty)\
-%;the value is not a whole number: digits only\
+%;the value is not a whole number: digits only (and limits has three, with one space between them)\
 %;a number begins with a zero\
 %;not an address: four numbers 0 to 255 with dots\
-%;something follows the sixth line%.\n",
+%;something follows the last line%.\n",
         &four(line as u64, fault, (line != 0) as u64, 0),
         command,
     );
