@@ -1,6 +1,8 @@
 //! "Events (integers big-endian)": layout and the ranges of the fields. The
-//! kinds from 8 on are request W4's: "new events take the next free kinds".
+//! kinds from 8 on are request W4's, "new events take the next free kinds", and
+//! kind 12 is W6's.
 
+use crate::limits::{Limits, Set};
 use crate::subscriber::{Imsi, Place};
 
 pub const MARK: [u8; 2] = [0xC3, 0x5E];
@@ -18,6 +20,7 @@ pub const ATTACH: u8 = 8;
 pub const LOCATION: u8 = 9;
 pub const SUBSCRIBER_MANAGEMENT: u8 = 10;
 pub const DETACH: u8 = 11;
+pub const REPLACE: u8 = 12;
 
 /// Reliability, delay, precedence, peak, mean.
 pub type Qos = [u8; 5];
@@ -42,6 +45,9 @@ pub enum What {
     Location(Imsi, Place),
     SubscriberManagement(Imsi),
     Detach(Imsi, u8),
+    /// "an event that names the set and the next edition": the set's number,
+    /// and what stands in its place.
+    Replace(u8, Set),
 }
 
 #[derive(Clone, Debug, PartialEq, Eq)]
@@ -51,6 +57,8 @@ pub struct Start {
     pub pdp_type: [u8; 2],
     pub address: [u8; 4],
     pub qos: Qos,
+    /// W6: "Activation gains one octet naming its set, before n"
+    pub set: u8,
     /// As the event spells it; lowered in a context.
     pub apn: Vec<u8>,
 }
@@ -75,9 +83,9 @@ pub fn name(event: &[u8]) -> Name {
     Name { charging_id: number(event, 7), ggsn: four(event, 11) }
 }
 
-/// The kinds of an event: refusal 3 as W4 reads it.
+/// The kinds of an event: refusal 3 as W4 and W6 read it.
 pub fn is_kind(kind: u8) -> bool {
-    (1..=11).contains(&kind)
+    (1..=12).contains(&kind)
 }
 
 /// Kinds 1, 2, 3, 5 and 7 name a context.
@@ -95,6 +103,34 @@ pub fn subscriber(event: &[u8]) -> Imsi {
     event[7..15].try_into().unwrap()
 }
 
+/// Kinds 1 and 12 name a set of limits.
+pub fn has_set(kind: u8) -> bool {
+    matches!(kind, ACTIVATE | REPLACE)
+}
+
+/// The set of an event that names one; any octet may stand there.
+pub fn set(event: &[u8]) -> u8 {
+    if kind(event) == ACTIVATE {
+        event[35]
+    } else {
+        event[7]
+    }
+}
+
+/// The edition of a replacement; any two octets may stand there.
+pub fn edition(event: &[u8]) -> u16 {
+    u16::from_be_bytes([event[8], event[9]])
+}
+
+fn replacement(event: &[u8]) -> Set {
+    let limits = Limits {
+        volume: u64::from_be_bytes(event[10..18].try_into().unwrap()),
+        time: number(event, 18),
+        changes: event[22],
+    };
+    Set { edition: edition(event), limits }
+}
+
 /// LAC and RAC, which may be any.
 fn place(event: &[u8]) -> Place {
     Place { lac: u16::from_be_bytes([event[15], event[16]]), rac: event[17] }
@@ -104,7 +140,7 @@ fn place(event: &[u8]) -> Place {
 /// n counts as it stands here, its range comes under 5.
 pub fn whole_length(event: &[u8]) -> Option<usize> {
     match kind(event) {
-        ACTIVATE => event.get(35).map(|n| 36 + usize::from(*n)),
+        ACTIVATE => event.get(36).map(|n| 37 + usize::from(*n)),
         TRAFFIC => Some(23),
         QOS => Some(20),
         TARIFF | TICK => Some(7),
@@ -113,6 +149,7 @@ pub fn whole_length(event: &[u8]) -> Option<usize> {
         ATTACH | LOCATION => Some(18),
         SUBSCRIBER_MANAGEMENT => Some(15),
         DETACH => Some(16),
+        REPLACE => Some(23),
         _ => None,
     }
 }
@@ -176,7 +213,8 @@ pub fn detach_cause_in_range(cause: u8) -> bool {
 }
 
 /// All fields but the time, which has a row of its own. "PDP type any"; names,
-/// addresses, volumes and places may be anything.
+/// addresses, volumes and places may be anything. Sets and editions have rows
+/// of their own too: "a limit out of range is 5".
 pub fn fields_in_range(event: &[u8]) -> bool {
     match what(event) {
         What::Activate(_, start) => {
@@ -192,11 +230,12 @@ pub fn fields_in_range(event: &[u8]) -> bool {
         What::Location(imsi, _) => imsi_in_range(&imsi),
         What::SubscriberManagement(imsi) => imsi_in_range(&imsi),
         What::Detach(imsi, cause) => imsi_in_range(&imsi) && detach_cause_in_range(cause),
+        What::Replace(_, next) => next.limits.in_range(),
     }
 }
 
-/// "An event is one of these seven", or of W4's four: of an event of the right
-/// length.
+/// "An event is one of these seven", of W4's four, or W6's: of an event of the
+/// right length.
 pub fn what(event: &[u8]) -> What {
     match kind(event) {
         ACTIVATE => What::Activate(
@@ -207,7 +246,8 @@ pub fn what(event: &[u8]) -> What {
                 pdp_type: [event[24], event[25]],
                 address: four(event, 26),
                 qos: event[30..35].try_into().unwrap(),
-                apn: event[36..].to_vec(),
+                set: set(event),
+                apn: event[37..].to_vec(),
             }),
         ),
         TRAFFIC => What::Traffic(name(event), number(event, 15), number(event, 19)),
@@ -220,6 +260,7 @@ pub fn what(event: &[u8]) -> What {
         LOCATION => What::Location(subscriber(event), place(event)),
         SUBSCRIBER_MANAGEMENT => What::SubscriberManagement(subscriber(event)),
         DETACH => What::Detach(subscriber(event), event[15]),
+        REPLACE => What::Replace(set(event), replacement(event)),
         other => panic!("kind {other} after row 3"),
     }
 }
@@ -237,6 +278,7 @@ fn kind_of(what: &What) -> u8 {
         What::Location(..) => LOCATION,
         What::SubscriberManagement(_) => SUBSCRIBER_MANAGEMENT,
         What::Detach(..) => DETACH,
+        What::Replace(..) => REPLACE,
     }
 }
 
@@ -255,7 +297,7 @@ fn put_name(event: &mut Vec<u8>, what: &What) {
         | What::Location(imsi, _)
         | What::SubscriberManagement(imsi)
         | What::Detach(imsi, _) => event.extend_from_slice(imsi),
-        What::Tariff | What::Tick => {}
+        What::Tariff | What::Tick | What::Replace(..) => {}
     }
 }
 
@@ -265,8 +307,17 @@ fn put_start(event: &mut Vec<u8>, start: &Start) {
     event.extend_from_slice(&start.pdp_type);
     event.extend_from_slice(&start.address);
     event.extend_from_slice(&start.qos);
+    event.push(start.set);
     event.push(start.apn.len() as u8);
     event.extend_from_slice(&start.apn);
+}
+
+fn put_replacement(event: &mut Vec<u8>, set: u8, next: &Set) {
+    event.push(set);
+    event.extend_from_slice(&next.edition.to_be_bytes());
+    event.extend_from_slice(&next.limits.volume.to_be_bytes());
+    event.extend_from_slice(&next.limits.time.to_be_bytes());
+    event.push(next.limits.changes);
 }
 
 /// The octets of an event, whatever its fields.
@@ -287,6 +338,7 @@ pub fn octets(time: u32, what: &What) -> Vec<u8> {
             event.extend_from_slice(&place.lac.to_be_bytes());
             event.push(place.rac);
         }
+        What::Replace(set, next) => put_replacement(&mut event, *set, next),
         What::Tariff | What::Tick | What::Management(_) | What::SubscriberManagement(_) => {}
     }
     event

@@ -7,6 +7,7 @@ pub mod calls;
 pub mod cdr;
 pub mod clock;
 pub mod event;
+pub mod limits;
 pub mod mcdr;
 pub mod node;
 pub mod profile;

@@ -1,8 +1,9 @@
-//! The node: profile, clock, accepted events, 16 slots and, by W4, 16 places for
-//! subscribers.
+//! The node: profile, sets of limits (W6), clock, accepted events, 16 slots and,
+//! by W4, 16 places for subscribers.
 
 use crate::clock::LAST_SECOND;
 use crate::event::{self, Name, Qos, Start};
+use crate::limits::{Limits, Set};
 use crate::profile::Profile;
 use crate::subscriber::{Subscriber, SUBSCRIBERS};
 
@@ -34,8 +35,10 @@ pub struct Context {
     pub start: Start,
     /// Records of this activation closed so far.
     pub closed: u64,
-    /// The open record: when it opened, its ended containers, its change count.
+    /// The open record: when it opened, "the limits it opened with", its ended
+    /// containers, its change count.
     pub opened: u32,
+    pub limits: Limits,
     pub containers: Vec<Container>,
     pub changes: u32,
     /// The running container: the QoS in force and the volumes.
@@ -47,6 +50,8 @@ pub struct Context {
 #[derive(Clone, Debug, PartialEq, Eq)]
 pub struct Node {
     pub profile: Profile,
+    /// The sets of limits in force, from number 1 on.
+    pub sets: Vec<Set>,
     pub clock: u32,
     pub accepted: u64,
     pub slots: Vec<Option<Context>>,
@@ -55,9 +60,21 @@ pub struct Node {
 
 impl Node {
     /// "Fresh node: clock 0, no contexts, no accepted events"; no subscribers.
+    /// W6: "given all it has, 1 to 8 numbered from 1, edition 1"
     pub fn fresh(profile: Profile) -> Node {
+        let sets = profile.limits.iter().map(|limits| Set::first(*limits)).collect();
         let subscribers = vec![None; SUBSCRIBERS];
-        Node { profile, clock: 0, accepted: 0, slots: vec![None; SLOTS], subscribers }
+        Node { profile, sets, clock: 0, accepted: 0, slots: vec![None; SLOTS], subscribers }
+    }
+
+    /// The set of a number; nothing where the node does not have it.
+    pub fn set(&self, number: u8) -> Option<&Set> {
+        self.sets.get(usize::from(number).checked_sub(1)?)
+    }
+
+    /// "the current edition" of a set that the node has.
+    pub fn limits_of(&self, number: u8) -> Limits {
+        self.set(number).unwrap().limits
     }
 
     pub fn find(&self, name: Name) -> Option<usize> {
@@ -82,6 +99,7 @@ impl Node {
         let names: Vec<Name> = self.slots.iter().flatten().map(|c| c.name).collect();
         // "Profile in range; clock and accepted count in range"
         self.profile.in_range()
+            && self.sets_sound()
             && self.clock <= LAST_SECOND
             && self.accepted <= MOST_ACCEPTED
             && self.slots.len() == SLOTS
@@ -91,8 +109,17 @@ impl Node {
             && self.subscribers_sound()
     }
 
+    /// As many sets as the node was given, "each with an edition from 1", each
+    /// limit in range.
+    fn sets_sound(&self) -> bool {
+        self.sets.len() == self.profile.limits.len() && self.sets.iter().all(Set::in_range)
+    }
+
     fn context_sound(&self, context: &Context) -> bool {
         let start = &context.start;
+        // W6: "the open record holds its limits, the sound-node rules read those
+        // and want each context's set to be one the node has"
+        let limits = context.limits.in_range() && self.set(start.set).is_some();
         // "stored fields in range"
         let fields = event::flags_in_range(start.flags)
             && event::imsi_in_range(&start.imsi)
@@ -103,7 +130,7 @@ impl Node {
         let closed = context.closed < self.accepted;
         // "container count equals change count and is below the change limit"
         let changes = context.containers.len() == context.changes as usize
-            && context.changes < self.profile.change_limit;
+            && context.changes < u32::from(context.limits.changes);
         // "conditions 0 or 1"
         let conditions =
             context.containers.iter().all(|c| matches!(c.condition, QOS_CHANGE | TARIFF_TIME));
@@ -121,8 +148,8 @@ impl Node {
             .zip(following)
             .all(|(c, next)| (c.qos != next) == (c.condition == QOS_CHANGE));
         // "all volumes of the open record sum below the volume limit"
-        let volumes = context.record_volume() < self.profile.volume_limit;
-        fields && closed && changes && conditions && in_order && qos && volumes
+        let volumes = context.record_volume() < context.limits.volume;
+        fields && limits && closed && changes && conditions && in_order && qos && volumes
     }
 }
 

@@ -1,23 +1,23 @@
 //! The profile and its text form.
 
+use crate::limits::{Limits, SETS};
+
 #[derive(Clone, Debug, PartialEq, Eq)]
 pub struct Profile {
     pub sgsn: [u8; 4],
-    pub volume_limit: u64,
-    pub time_limit: u32,
-    pub change_limit: u32,
+    /// The sets of limits that a fresh node has, from number 1 on.
+    pub limits: Vec<Limits>,
     pub offset: i32,
     pub node_id: Vec<u8>,
 }
 
 impl Profile {
-    /// "SGSN address (4 octets); volume limit 1..1,000,000,000,000 octets; time
-    /// limit 1..604,800 s; change limit 1..15; offset from universal time
-    /// −720..840 minutes; node ID of 0..20 characters 0x20..0x7E"
+    /// "SGSN address (4 octets); .. offset from universal time −720..840
+    /// minutes; node ID of 0..20 characters 0x20..0x7E"; and W6: "A fresh node
+    /// is given all it has, 1 to 8 numbered from 1"
     pub fn in_range(&self) -> bool {
-        (1..=1_000_000_000_000).contains(&self.volume_limit)
-            && (1..=604_800).contains(&self.time_limit)
-            && (1..=15).contains(&self.change_limit)
+        (1..=SETS).contains(&self.limits.len())
+            && self.limits.iter().all(Limits::in_range)
             && (-720..=840).contains(&self.offset)
             && self.node_id.len() <= 20
             && self.node_id.iter().all(|c| (0x20..=0x7E).contains(c))
@@ -25,11 +25,12 @@ impl Profile {
 
     pub fn text(&self) -> Vec<u8> {
         let [a, b, c, d] = self.sgsn;
-        let mut text = format!(
-            "sgsn {a}.{b}.{c}.{d}\nvolume-limit {}\ntime-limit {}\nchange-limit {}\noffset {}\nnode-id",
-            self.volume_limit, self.time_limit, self.change_limit, self.offset
-        )
-        .into_bytes();
+        let mut text = format!("sgsn {a}.{b}.{c}.{d}\n");
+        for Limits { volume, time, changes } in &self.limits {
+            text += &format!("limits {volume} {time} {changes}\n");
+        }
+        text += &format!("offset {}\nnode-id", self.offset);
+        let mut text = text.into_bytes();
         if !self.node_id.is_empty() {
             text.push(b' ');
             text.extend_from_slice(&self.node_id);
@@ -41,9 +42,9 @@ impl Profile {
     /// Nothing for a text that is not exactly the form above, or out of range.
     pub fn read(text: &[u8]) -> Option<Profile> {
         let lines: Vec<&[u8]> = text.split(|c| *c == b'\n').collect();
-        if lines.len() != 7 {
-            return None;
-        }
+        // the sets' lines are those that three others leave; after the last
+        // line feed there is nothing
+        let sets = lines.len().checked_sub(4)?;
         let value = |line: usize, name: &str| -> Option<&str> {
             let line = std::str::from_utf8(lines[line]).ok()?;
             line.strip_prefix(name)
@@ -52,11 +53,9 @@ impl Profile {
             value(0, "sgsn ")?.split('.').map(|p| p.parse().ok()).collect::<Option<_>>()?;
         let profile = Profile {
             sgsn: parts.try_into().ok()?,
-            volume_limit: value(1, "volume-limit ")?.parse().ok()?,
-            time_limit: value(2, "time-limit ")?.parse().ok()?,
-            change_limit: value(3, "change-limit ")?.parse().ok()?,
-            offset: value(4, "offset ")?.parse().ok()?,
-            node_id: match value(5, "node-id")? {
+            limits: (1..=sets).map(|at| limits(value(at, "limits ")?)).collect::<Option<_>>()?,
+            offset: value(sets + 1, "offset ")?.parse().ok()?,
+            node_id: match value(sets + 2, "node-id")? {
                 "" => Vec::new(),
                 rest => rest.strip_prefix(' ')?.as_bytes().to_vec(),
             },
@@ -64,4 +63,15 @@ impl Profile {
         // Leading zeros, plus signs and the like fall here.
         (profile.in_range() && profile.text() == text).then_some(profile)
     }
+}
+
+/// "three numbers, one space before each"
+fn limits(value: &str) -> Option<Limits> {
+    let numbers: Vec<&str> = value.split(' ').collect();
+    let [volume, time, changes] = numbers[..] else { return None };
+    Some(Limits {
+        volume: volume.parse().ok()?,
+        time: time.parse().ok()?,
+        changes: changes.parse().ok()?,
+    })
 }

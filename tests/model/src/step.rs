@@ -3,6 +3,7 @@
 use crate::cdr::Cdr;
 use crate::clock::LAST_SECOND;
 use crate::event::{self, Name, Qos, Start, What};
+use crate::limits::Set;
 use crate::mcdr::Mcdr;
 use crate::node::*;
 use crate::record::Record;
@@ -23,8 +24,10 @@ pub const INTERVENTION: u8 = 20;
 pub type Row = (u8, fn(&Node, &[u8], usize) -> bool);
 
 /// Each row may rely on the rows before it. W4: "15 attached already, 16 not
-/// attached, 17 no free place, where 9, 8 and 10 stand for contexts".
-pub const TABLE: [Row; 15] = [
+/// attached, 17 no free place, where 9, 8 and 10 stand for contexts". W6: "18
+/// for an unknown set, 19 for an edition not one higher .., both after 7 and
+/// before 8".
+pub const TABLE: [Row; 17] = [
     (13, node_unsound),
     (1, under_seven),
     (2, wrong_mark),
@@ -33,6 +36,8 @@ pub const TABLE: [Row; 15] = [
     (5, field_out_of_range),
     (6, time_out_of_range),
     (7, count_exhausted),
+    (18, unknown_set),
+    (19, edition_not_next),
     (8, name_not_active),
     (9, name_active),
     (10, all_slots_taken),
@@ -57,12 +62,13 @@ pub fn wrong_mark(_: &Node, event: &[u8], _: usize) -> bool {
     event[..2] != event::MARK
 }
 
-/// 3 "kind not 1..7"; with the kinds of W4 "refusals 3 and 4 read so": 1..11
+/// 3 "kind not 1..7"; with the kinds of W4 and W6 "refusals 3 and 4 read so":
+/// 1..12
 pub fn wrong_kind(_: &Node, event: &[u8], _: usize) -> bool {
     !event::is_kind(event::kind(event))
 }
 
-/// 4 "length not the kind's; activate under 36"
+/// 4 "length not the kind's; activate under 36", which are 37 with W6
 pub fn wrong_length(_: &Node, event: &[u8], _: usize) -> bool {
     event::whole_length(event) != Some(event.len())
 }
@@ -81,6 +87,20 @@ pub fn time_out_of_range(node: &Node, event: &[u8], _: usize) -> bool {
 /// 7 "1,000,000,000,000,000 events accepted already"
 pub fn count_exhausted(node: &Node, _: &[u8], _: usize) -> bool {
     node.accepted >= MOST_ACCEPTED
+}
+
+/// 18 "an unknown set": kinds 1 and 12
+pub fn unknown_set(node: &Node, event: &[u8], _: usize) -> bool {
+    event::has_set(event::kind(event)) && node.set(event::set(event)).is_none()
+}
+
+/// 19 "an edition not one higher, or with none above 65,535": kind 12
+pub fn edition_not_next(node: &Node, event: &[u8], _: usize) -> bool {
+    if event::kind(event) != event::REPLACE {
+        return false;
+    }
+    let next = node.set(event::set(event)).and_then(Set::next_edition);
+    next != Some(event::edition(event))
 }
 
 /// 8 "kinds 2, 3, 5, 7: name not active"
@@ -183,7 +203,7 @@ pub fn accept(node: &Node, event: &[u8]) -> (Node, Vec<Cdr>) {
     (node, records)
 }
 
-/// The events of 01. They do nothing to subscribers.
+/// The events of 01, and of W6. They do nothing to subscribers.
 fn of_contexts(node: &mut Node, what: What, now: u32) -> Vec<Record> {
     match what {
         What::Activate(name, start) => {
@@ -208,6 +228,10 @@ fn of_contexts(node: &mut Node, what: What, now: u32) -> Vec<Record> {
             let slot = node.find(name).unwrap();
             vec![close_and_open(node, slot, INTERVENTION, now)]
         }
+        What::Replace(set, next) => {
+            replace(node, set, next);
+            Vec::new()
+        }
         other => panic!("an event of a subscriber: {other:?}"),
     }
 }
@@ -228,16 +252,17 @@ fn of_subscriber(node: &mut Node, what: What, now: u32) -> Option<Mcdr> {
 
 /// "Activation takes the lowest free slot, opens a record now with empty
 /// counters, no containers, change count 0." W5: "the stored context, the
-/// record .. use that name", the lowered one.
+/// record .. use that name", the lowered one. W6: with the limits of its set.
 fn activate(node: &mut Node, name: Name, start: Start, now: u32) {
     let slot = node.lowest_free().unwrap();
     let start = Start { apn: event::lowered(&start.apn), ..start };
-    let qos = start.qos;
+    let (qos, limits) = (start.qos, node.limits_of(start.set));
     node.slots[slot] = Some(Context {
         name,
         start,
         closed: 0,
         opened: now,
+        limits,
         containers: Vec::new(),
         changes: 0,
         qos,
@@ -246,13 +271,19 @@ fn activate(node: &mut Node, name: Name, start: Start, now: u32) {
     });
 }
 
+/// W6: a set is "replaced whole"; that "cuts nothing and closes nothing".
+fn replace(node: &mut Node, set: u8, next: Set) {
+    node.sets[usize::from(set) - 1] = next;
+}
+
 /// "Traffic adds both volumes; a report is never divided." Then condition 16.
+/// W6: "A record keeps the limits it opened with until it closes", for each of
+/// the conditions.
 fn traffic(node: &mut Node, slot: usize, uplink: u32, downlink: u32, now: u32) -> Vec<Record> {
-    let limit = node.profile.volume_limit;
     let context = node.slots[slot].as_mut().unwrap();
     context.uplink += u64::from(uplink);
     context.downlink += u64::from(downlink);
-    if !volume_met(context, limit) {
+    if !volume_met(context, context.limits.volume) {
         return Vec::new();
     }
     vec![close_and_open(node, slot, VOLUME, now)]
@@ -287,11 +318,11 @@ fn tariff(node: &mut Node, now: u32) -> Vec<Record> {
 
 /// "(17) at a tick, now minus opening is at least the time limit"
 fn tick(node: &mut Node, now: u32) -> Vec<Record> {
-    let limit = node.profile.time_limit;
     let mut records = Vec::new();
     for slot in in_slot_order(node) {
-        let open = now - node.slots[slot].as_ref().unwrap().opened;
-        if open >= limit {
+        let context = node.slots[slot].as_ref().unwrap();
+        let open = now - context.opened;
+        if open >= context.limits.time {
             records.push(close_and_open(node, slot, TIME, now));
         }
     }
@@ -306,10 +337,9 @@ fn in_slot_order(node: &Node) -> Vec<usize> {
 /// the record: "(19) the record's QoS and tariff changes reach the change
 /// limit". The closed container holds the old QoS, the next record the new.
 fn change(node: &mut Node, slot: usize, condition: u8, qos: Qos, now: u32) -> Option<Record> {
-    let limit = node.profile.change_limit;
     let context = node.slots[slot].as_mut().unwrap();
     context.changes += 1;
-    if context.changes >= limit {
+    if context.changes >= u32::from(context.limits.changes) {
         let record = close_and_open(node, slot, CHANGES, now);
         node.slots[slot].as_mut().unwrap().qos = qos;
         return Some(record);
@@ -340,12 +370,14 @@ fn release(node: &mut Node, slot: usize, cause: u8, now: u32) -> Record {
 }
 
 /// "Except at release, the next record opens at the same time with the QoS now
-/// in force."
+/// in force." W6: "the next takes the current edition"
 fn close_and_open(node: &mut Node, slot: usize, cause: u8, now: u32) -> Record {
     let record = close(node, slot, cause, now);
+    let limits = node.limits_of(node.slots[slot].as_ref().unwrap().start.set);
     let context = node.slots[slot].as_mut().unwrap();
     context.closed += 1;
     context.opened = now;
+    context.limits = limits;
     context.containers.clear();
     context.changes = 0;
     record

@@ -3,6 +3,7 @@
 
 use charging_model::batch::{batch, Batch, Batched};
 use charging_model::event::{octets, Name, Start, What};
+use charging_model::limits::{Limits, Set};
 use charging_model::node::{Node, MOST_ACCEPTED};
 use charging_model::profile::Profile;
 use charging_model::random::Random;
@@ -15,9 +16,7 @@ const NAME: Name = Name { charging_id: 1, ggsn: [10, 0, 0, 2] };
 fn active() -> Node {
     let profile = Profile {
         sgsn: [10, 0, 0, 1],
-        volume_limit: 1000,
-        time_limit: 60,
-        change_limit: 2,
+        limits: vec![Limits { volume: 1000, time: 60, changes: 2 }],
         offset: 0,
         node_id: Vec::new(),
     };
@@ -27,6 +26,7 @@ fn active() -> Node {
         pdp_type: [0xF1, 0x21],
         address: [10, 0, 0, 3],
         qos: [1, 3, 2, 4, 0],
+        set: 1,
         apn: b"a".to_vec(),
     };
     said(&Node::fresh(profile), 0, What::Activate(NAME, Box::new(start))).0
@@ -192,21 +192,28 @@ fn volume(random: &mut Random, limit: u64) -> u32 {
     part.min(u32::MAX.into()) as u32
 }
 
+fn limits(random: &mut Random) -> Limits {
+    let volume = random.pick(&[1, 2, 1000, 70_000, 1 << 33, 1_000_000_000_000]);
+    Limits { volume, time: 60, changes: random.between(1, 15) as u8 }
+}
+
 /// Some event of a session, such as a sound node takes or refuses.
 fn event(random: &mut Random, node: &Node, name: Name) -> Vec<u8> {
     let qos = [random.below(6) as u8, 0, 0, 0, 0];
-    let limit = node.profile.volume_limit;
-    let what = match random.below(8) {
+    let limit = node.sets[0].limits.volume;
+    let what = match random.below(9) {
         0 | 1 => {
             let imsi = [0x21, 0x43, 0x65, 0xF7, 0xFF, 0xFF, 0xFF, 0xFF];
             let (flags, apn) = (random.below(4) as u8, b"ship".to_vec());
-            let start = Start { flags, imsi, pdp_type: [0xF1, 0x21], address: [0; 4], qos, apn };
+            let (pdp_type, address) = ([0xF1, 0x21], [0; 4]);
+            let start = Start { flags, imsi, pdp_type, address, qos, set: 1, apn };
             What::Activate(name, Box::new(start))
         }
         2 => What::Traffic(name, volume(random, limit), volume(random, limit)),
         3 | 4 => What::Qos(name, qos),
         5 => What::Tariff,
         6 if random.percent(20) => What::Release(name, 0),
+        7 => What::Replace(1, Set { edition: node.sets[0].edition + 1, limits: limits(random) }),
         _ => What::Tick,
     };
     octets(node.clock + random.below(3) as u32, &what)
@@ -219,8 +226,7 @@ fn the_same_as_events_one_by_one() {
     let (mut stopped, mut kept) = (0, 0);
     for round in 0..400 {
         let mut profile = active().profile;
-        profile.volume_limit = random.pick(&[1, 2, 1000, 70_000, 1 << 33, 1_000_000_000_000]);
-        profile.change_limit = random.between(1, 15) as u32;
+        profile.limits = vec![limits(&mut random)];
         let mut node = Node::fresh(profile);
         if round % 4 == 3 {
             node.accepted = MOST_ACCEPTED - random.below(60);
@@ -230,7 +236,7 @@ fn the_same_as_events_one_by_one() {
             let event = event(&mut random, &node, name);
             node = step(&node, &event, ROOM).node;
             assert!(node.sound());
-            let limit = node.profile.volume_limit;
+            let limit = node.sets[0].limits.volume;
             let pairs = random.sized(9) as usize;
             let volumes = (0..2 * pairs).map(|_| volume(&mut random, limit)).collect();
             let time = match random.below(8) {

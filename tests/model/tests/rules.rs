@@ -1,6 +1,7 @@
 //! What document 01 prints, and one record of every closing cause read back.
 
 use charging_model::event::{octets, Name, Start, What};
+use charging_model::limits::Limits;
 use charging_model::node::{Node, MOST_ACCEPTED};
 use charging_model::profile::Profile;
 use charging_model::{clock, record, step};
@@ -16,9 +17,7 @@ fn unhex(text: &str) -> Vec<u8> {
 fn profile() -> Profile {
     Profile {
         sgsn: [10, 0, 0, 1],
-        volume_limit: 1000,
-        time_limit: 60,
-        change_limit: 2,
+        limits: vec![Limits { volume: 1000, time: 60, changes: 2 }],
         offset: 0,
         node_id: Vec::new(),
     }
@@ -31,6 +30,7 @@ fn start() -> Start {
         pdp_type: [0xF1, 0x21],
         address: [10, 0, 0, 3],
         qos: QOS,
+        set: 1,
         apn: b"a".to_vec(),
     }
 }
@@ -343,7 +343,7 @@ fn rows_that_no_run_reaches() {
     assert_eq!(run.answer(&[], ROOM), 13);
 
     let mut run = Run::new();
-    run.0.profile.change_limit = 0;
+    run.0.profile.limits[0].changes = 0;
     assert_eq!(run.answer(&[], 0), 13);
 }
 
@@ -382,7 +382,7 @@ fn lengths_of_an_activate() {
     let with = |n: usize, octets_after: usize| {
         let start = Start { apn: vec![b'x'; n], ..start() };
         let mut event = octets(0, &What::Activate(NAME, Box::new(start)));
-        event.resize(36 + octets_after, b'x');
+        event.resize(37 + octets_after, b'x');
         event
     };
     assert_eq!(run.answer(&with(0, 0), ROOM), 5);
@@ -391,7 +391,8 @@ fn lengths_of_an_activate() {
     assert_eq!(run.answer(&with(63, 63), ROOM), 0);
     assert_eq!(run.answer(&with(64, 64), ROOM), 5);
     assert_eq!(run.answer(&with(255, 255), ROOM), 5);
-    assert_eq!(run.answer(&with(1, 0)[..35], ROOM), 4);
+    assert_eq!(run.answer(&with(1, 0)[..36], ROOM), 4);
+    assert_eq!(run.answer(&with(1, 1)[..36], ROOM), 4);
 }
 
 #[test]
@@ -406,7 +407,7 @@ fn room_counts_the_marks() {
 
 #[test]
 fn profile_text_both_ways() {
-    let text = b"sgsn 10.0.0.1\nvolume-limit 1000\ntime-limit 60\nchange-limit 2\noffset -90\nnode-id a b \n";
+    let text = b"sgsn 10.0.0.1\nlimits 1000 60 2\noffset -90\nnode-id a b \n";
     let read = Profile::read(text).unwrap();
     assert_eq!(read, Profile { offset: -90, node_id: b"a b ".to_vec(), ..profile() });
     assert_eq!(read.text(), text);
@@ -538,12 +539,8 @@ fn every_octet_of_an_apn() {
 
 /// A record of fifteen containers, as long as the changes let it be.
 fn record_of_15(change: fn(usize, Name) -> What) -> Vec<u8> {
-    let profile = Profile {
-        volume_limit: 1_000_000_000_000,
-        change_limit: 15,
-        node_id: vec![b'~'; 20],
-        ..profile()
-    };
+    let limits = vec![Limits { volume: 1_000_000_000_000, time: 60, changes: 15 }];
+    let profile = Profile { limits, node_id: vec![b'~'; 20], ..profile() };
     let name = Name { charging_id: u32::MAX, ggsn: [255; 4] };
     let mut run = Run(Node::fresh(profile));
     let start = Start { flags: 3, apn: vec![b'z'; 63], ..start() };
@@ -584,7 +581,8 @@ fn largest_record_without_qos_changes() {
 #[test]
 fn qos_only_where_it_is_new() {
     let other = [5, 0, 0, 9, 18];
-    let mut run = Run::with(Profile { change_limit: 15, ..profile() }, start());
+    let limits = vec![Limits { volume: 1000, time: 60, changes: 15 }];
+    let mut run = Run::with(Profile { limits, ..profile() }, start());
     assert_eq!(run.say(1, What::Tariff), []);
     assert_eq!(run.say(2, What::Qos(NAME, other)), []);
     assert_eq!(run.say(3, What::Tariff), []);

@@ -3,6 +3,7 @@
 
 use charging_model::batch::{batch, Batch};
 use charging_model::event::{octets, Name, Start, What};
+use charging_model::limits::Limits;
 use charging_model::node::{Node, MOST_ACCEPTED};
 use charging_model::profile::Profile;
 use charging_model::step::{step, TABLE};
@@ -26,9 +27,7 @@ fn unhex(text: &str) -> Vec<u8> {
 fn profile() -> Profile {
     Profile {
         sgsn: [10, 0, 0, 1],
-        volume_limit: 1000,
-        time_limit: 60,
-        change_limit: 2,
+        limits: vec![Limits { volume: 1000, time: 60, changes: 2 }],
         offset: 0,
         node_id: Vec::new(),
     }
@@ -41,6 +40,7 @@ fn start(imsi: Imsi) -> Start {
         pdp_type: [0xF1, 0x21],
         address: [10, 0, 0, 3],
         qos: [1, 3, 2, 4, 0],
+        set: 1,
         apn: b"a".to_vec(),
     }
 }
@@ -342,7 +342,7 @@ fn lengths_and_fields() {
         let answer = if matches!(cause, 0 | 4) { 0 } else { 5 };
         assert_eq!(run.answer(0, What::Detach(IMSI, cause)), answer);
     }
-    for kind in [0, 12, 13, 255] {
+    for kind in [0, 13, 14, 255] {
         let mut event = octets(0, &taken[0]);
         event[2] = kind;
         assert_eq!(run.answer_to(&event, ROOM), 3);
@@ -354,7 +354,7 @@ fn lengths_and_fields() {
 #[test]
 fn order_of_the_rows() {
     let rows: Vec<u8> = TABLE.iter().map(|row| row.0).collect();
-    assert_eq!(rows, [13, 1, 2, 3, 4, 5, 6, 7, 8, 9, 10, 16, 15, 17, 11]);
+    assert_eq!(rows, [13, 1, 2, 3, 4, 5, 6, 7, 18, 19, 8, 9, 10, 16, 15, 17, 11]);
     let mut run = Run::new();
     for number in 0..SUBSCRIBERS as u8 {
         run.say(5, What::Attach(imsi_of(number), HOME));
