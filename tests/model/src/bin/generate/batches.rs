@@ -63,7 +63,7 @@ impl Run {
         self.activate_now();
         let Some(name) = self.active_name() else { return };
         let most = u64::from(u32::MAX);
-        let limit = self.node.profile.volume_limit.min(2 * most);
+        let limit = self.context(name).limits.volume.min(2 * most);
         let up = self.random.between(limit.saturating_sub(most), limit.min(most));
         let pair = [up as u32, (limit - up) as u32];
         let volumes = pair.repeat(self.node.accepted as usize + 3);
@@ -92,9 +92,14 @@ impl Run {
         }
     }
 
-    /// Pairs that keep below the volume limit, meet it and pass it by turns.
+    /// Pairs that keep below the volume limit, meet it and pass it by turns:
+    /// that of the open record, and then of the edition in force.
     fn reports_of(&mut self, name: Name, pairs: usize) -> Vec<u32> {
-        let limit = self.node.profile.volume_limit;
+        let set = match self.node.find(name) {
+            Some(_) => self.context(name).start.set,
+            None => self.some_set(),
+        };
+        let limit = self.node.limits_of(set).volume;
         let mut left = match self.node.find(name) {
             Some(_) => self.volume_left(name),
             None => limit,
@@ -133,7 +138,7 @@ impl Run {
 
     /// The batch with a room that is exact, more, or ends at some record; what
     /// was refused for room may come again, and the record be closed.
-    fn send_batch(&mut self, mut reports: Batch) {
+    pub fn send_batch(&mut self, mut reports: Batch) {
         let done = batch(&self.node, &reports, ROOM);
         let room = self.room_of_batch(&done);
         let (answer, applied) = self.call_batch(&reports, room);

@@ -8,12 +8,12 @@ impl Run {
     /// Events of every length 0..300, with fitting and other contents.
     pub fn lengths(&mut self) {
         for length in 0..=300usize {
-            let kind = self.random.between(0, 12) as u8;
+            let kind = self.random.between(0, 13) as u8;
             let mut event: Vec<u8> = match self.random.below(4) {
                 0 => (0..300).map(|_| self.random.octet()).collect(),
                 1 => vec![self.random.octet(); 300],
                 _ => {
-                    let shaped = kind.clamp(1, 11);
+                    let shaped = kind.clamp(1, 12);
                     let mut event = self.shape(shaped, false);
                     event.resize(300, b'x');
                     event
@@ -23,8 +23,8 @@ impl Run {
                 event[..2].copy_from_slice(&event::MARK);
                 event[2] = kind;
             }
-            if length >= 36 && kind == 1 && self.random.percent(70) {
-                event[35] = (length - 36) as u8;
+            if length >= 37 && kind == 1 && self.random.percent(70) {
+                event[36] = (length - 37) as u8;
             }
             event.truncate(length);
             if self.keeps_pace(&event) {
@@ -80,13 +80,13 @@ impl Run {
                 events.push(with(Start { apn, ..plain.clone() }));
             }
         }
-        for (n, length) in [(0, 37), (1, 36), (2, 37), (1, 38), (63, 100), (64, 99), (255, 36)] {
+        for (n, length) in [(0, 38), (1, 37), (2, 38), (1, 39), (63, 101), (64, 100), (255, 37)] {
             let mut event = with(Start { apn: vec![b'a'; 64], ..plain.clone() });
-            event[35] = n;
+            event[36] = n;
             event.truncate(length);
             events.push(event);
         }
-        events.push(with(plain.clone())[..35].to_vec());
+        events.push(with(plain.clone())[..36].to_vec());
         for event in events {
             if self.call(&event, ROOM) == 0 {
                 // A management first in some, for a number.
@@ -135,8 +135,8 @@ impl Run {
 
     /// Kinds and marks, each with a fitting rest.
     pub fn heads(&mut self) {
-        for kind in [0, 12, 13, 128, 254, 255] {
-            for rest in [event::TICK, event::ATTACH, event::DETACH] {
+        for kind in [0, 13, 14, 128, 254, 255] {
+            for rest in [event::TICK, event::ATTACH, event::DETACH, event::REPLACE] {
                 let mut event = self.shape(rest, false);
                 event[2] = kind;
                 self.call(&event, ROOM);

@@ -25,8 +25,7 @@ impl Run {
     }
 
     pub fn change_qos(&mut self, name: Name) -> u8 {
-        let slot = self.node.find(name).unwrap();
-        let mut qos = self.node.slots[slot].as_ref().unwrap().qos;
+        let mut qos = self.context(name).qos;
         match self.random.below(4) {
             0 => {}
             1 => {
@@ -46,11 +45,11 @@ impl Run {
 
     /// A tick at, or one second before, some context's time limit.
     pub fn tick(&mut self) -> u8 {
-        let limit = self.node.profile.time_limit;
-        let at = self.active_name().and_then(|name| self.node.find(name));
-        if let Some(slot) = at.filter(|_| self.random.percent(60)) {
-            let opened = self.node.slots[slot].as_ref().unwrap().opened;
-            let time = opened.saturating_add(limit) - self.random.below(2) as u32;
+        let name = self.active_name();
+        if let Some(name) = name.filter(|_| self.random.percent(60)) {
+            let context = self.context(name);
+            let met = context.opened.saturating_add(context.limits.time);
+            let time = met - self.random.below(2) as u32;
             if time >= self.node.clock && time <= LAST_SECOND {
                 return self.say_at(time, What::Tick);
             }
@@ -64,14 +63,16 @@ impl Run {
             match self.random.below(6) {
                 0 => self.say(What::Tick),
                 1 => self.say(What::Tariff),
+                2 if self.random.percent(30) => self.replace(),
                 _ => self.activate(),
             };
             return;
         };
         match self.random.below(100) {
             0..=13 if self.node.active() < SLOTS => self.activate(),
-            0..=48 => self.traffic(name),
-            49..=68 => self.change_qos(name),
+            0..=47 => self.traffic(name),
+            48..=50 => self.replace(),
+            51..=68 => self.change_qos(name),
             69..=72 => self.say(What::Tariff),
             73..=86 => self.release(name),
             87..=92 => self.tick(),

@@ -17,10 +17,12 @@ mod numbers;
 mod parts;
 mod profiles;
 mod refused;
+mod replaced;
 mod run;
 mod runs;
 mod scenes;
 mod sessions;
+mod sets;
 mod spellings;
 mod times;
 

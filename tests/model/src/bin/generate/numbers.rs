@@ -2,6 +2,7 @@
 
 use crate::run::{Run, ROOM};
 use charging_model::event::{octets, What};
+use charging_model::limits::Limits;
 use charging_model::node::Node;
 use charging_model::profile::Profile;
 
@@ -11,8 +12,8 @@ const RECORDS: usize = 32_775;
 /// The run of numbers, of a node on which every event closes a record.
 pub fn run() -> Run {
     let mut one = Run::new(0, 0, usize::MAX);
-    let profile =
-        Profile { volume_limit: 1, time_limit: 1, change_limit: 1, ..one.node.profile.clone() };
+    let limits = vec![Limits { volume: 1, time: 1, changes: 1 }];
+    let profile = Profile { limits, ..one.node.profile.clone() };
     one.node = Node::fresh(profile);
     one.many_numbers();
     one

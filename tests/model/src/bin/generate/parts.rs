@@ -49,15 +49,15 @@ impl Run {
             pdp_type: [self.random.octet(), self.random.octet()],
             address: [self.random.octet(), self.random.octet(), 0, self.random.octet()],
             qos: self.qos(),
+            set: self.only_set.unwrap_or_else(|| self.some_set()),
             apn,
         }
     }
 
     /// How many octets more meet the volume limit.
     pub fn volume_left(&self, name: Name) -> u64 {
-        let slot = self.node.find(name).unwrap();
-        let have = self.node.slots[slot].as_ref().unwrap().record_volume();
-        self.node.profile.volume_limit - have
+        let context = self.context(name);
+        context.limits.volume - context.record_volume()
     }
 
     /// Two volumes, often such that the limit is just met or just missed.

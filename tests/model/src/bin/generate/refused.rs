@@ -5,10 +5,14 @@ use charging_model::clock::LAST_SECOND;
 use charging_model::event::{self, octets, What, QOS_HIGHEST};
 
 impl Run {
-    /// A valid event of a kind, for a name that is there or not.
+    /// A valid event of a kind, for a name that is there or not; a replacement
+    /// of the next edition, or of another set or edition.
     pub fn shape(&mut self, kind: u8, wrong_name: bool) -> Vec<u8> {
         if event::of_subscriber(kind) {
             return self.shape_of_subscriber(kind, wrong_name);
+        }
+        if kind == event::REPLACE {
+            return self.shape_of_replacement(wrong_name);
         }
         let active = self.active_name();
         let name = match (kind == event::ACTIVATE) != wrong_name {
@@ -46,6 +50,17 @@ impl Run {
             _ => What::Detach(imsi, self.random.pick(&[0, 4])),
         };
         octets(self.time(), &what)
+    }
+
+    fn shape_of_replacement(&mut self, wrong: bool) -> Vec<u8> {
+        let set = self.some_set();
+        let limits = self.next_limits(set);
+        let what = self.replacement(set, limits);
+        let mut event = octets(self.time(), &what);
+        if wrong {
+            self.spoil_set(&mut event);
+        }
+        event
     }
 
     /// One half of an IMSI is no digit.
@@ -99,7 +114,7 @@ impl Run {
                 }
                 2 => self.spoil_half(&mut event[16..24]),
                 _ => {
-                    let at = self.random.between(36, event.len() as u64 - 1) as usize;
+                    let at = self.random.between(37, event.len() as u64 - 1) as usize;
                     event[at] = self.random.octet();
                 }
             },
@@ -109,6 +124,11 @@ impl Run {
                 event[qos_at + at] = self.random.pick(&[high + 1, high + 2, 128, 255]);
             }
             event::RELEASE => event[15] = self.random.octet(),
+            event::REPLACE => {
+                let What::Replace(set, mut next) = event::what(event) else { return };
+                next.limits = self.limits_out_of_range(next.limits);
+                event.copy_from_slice(&octets(event::time(event), &What::Replace(set, next)));
+            }
             _ => {}
         }
     }
@@ -134,7 +154,10 @@ impl Run {
     /// An event with any mixture of faults; some of these are taken all the
     /// same.
     pub fn bad(&mut self) {
-        let kind = self.random.between(1, 7) as u8;
+        let kind = match self.random.between(0, 7) as u8 {
+            0 => event::REPLACE,
+            kind => kind,
+        };
         self.bad_of(kind);
     }
 
@@ -150,6 +173,9 @@ impl Run {
         let mut room = if self.random.percent(50) { ROOM } else { 0 };
         if self.random.percent(25) {
             self.spoil_field(&mut event);
+        }
+        if self.random.percent(15) {
+            self.spoil_set(&mut event);
         }
         if self.random.percent(25) {
             self.spoil_time(&mut event);
@@ -167,11 +193,11 @@ impl Run {
                 }
             }
         }
-        if event.len() > 35 && kind == event::ACTIVATE && self.random.percent(10) {
-            event[35] = self.random.pick(&[0, 1, 63, 64, 128, 255]);
+        if event.len() > 36 && kind == event::ACTIVATE && self.random.percent(10) {
+            event[36] = self.random.pick(&[0, 1, 63, 64, 128, 255]);
         }
         if event.len() > 2 && self.random.percent(10) {
-            event[2] = self.random.pick(&[0, 8, 9, 10, 11, 12, 128, 255, 1, 2, 5]);
+            event[2] = self.random.pick(&[0, 8, 9, 10, 11, 12, 13, 128, 255, 1, 2, 5]);
         }
         if !event.is_empty() && self.random.percent(15) {
             match self.random.below(4) {

@@ -39,6 +39,8 @@ pub struct Run {
     pub count: usize,
     pub most: usize,
     pub batches: usize,
+    /// The set that all activations name for now.
+    pub only_set: Option<u8>,
     /// Names released in this run, and IMSIs detached.
     pub released: Vec<Name>,
     pub detached: Vec<Imsi>,
@@ -62,6 +64,7 @@ impl Run {
             count: 0,
             most,
             batches: 0,
+            only_set: None,
             released: Vec::new(),
             detached: Vec::new(),
         }

@@ -10,6 +10,7 @@ impl Run {
         while !self.full() {
             self.scene(run, (scene + run as u64) % 10);
             self.journey(scene + run as u64);
+            self.replaced(scene + run as u64);
             scene += 1;
             for _ in 0..50 {
                 self.some_events();
@@ -42,6 +43,9 @@ impl Run {
         if run % 8 == 4 {
             self.many_records();
         }
+        if run % 16 == 7 {
+            self.many_editions();
+        }
     }
 
     fn scene(&mut self, run: usize, scene: u64) {
@@ -65,7 +69,7 @@ impl Run {
     fn some_events(&mut self) {
         self.walk();
         self.roam();
-        if self.random.percent(60) {
+        if self.random.percent(80) {
             self.roam();
         }
         if self.random.percent(40) {

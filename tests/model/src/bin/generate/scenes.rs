@@ -3,6 +3,7 @@
 use crate::run::{Run, ROOM};
 use charging_model::clock::LAST_SECOND;
 use charging_model::event::{self, octets, What};
+use charging_model::limits::Limits;
 use charging_model::node::SLOTS;
 use charging_model::step;
 
@@ -18,11 +19,16 @@ impl Run {
         }
     }
 
-    /// One context, then up to 16, with ticks and tariffs between.
+    /// One context, then up to 16, with ticks and tariffs between; of one set,
+    /// of any, or of every set by turns.
     pub fn fill(&mut self) {
         self.nobody();
+        let in_turn = self.only_set.is_none() && self.random.percent(50);
         while self.node.active() < SLOTS && !self.full() {
-            self.activate();
+            match in_turn {
+                true => self.activate_in_turn(),
+                false => self.activate(),
+            };
             if self.node.active() == 1 {
                 self.say(What::Tariff);
                 self.tick();
@@ -33,6 +39,14 @@ impl Run {
                 }
             }
         }
+    }
+
+    /// An activation of the set that follows from how many there are.
+    fn activate_in_turn(&mut self) -> u8 {
+        self.only_set = Some((self.node.active() % self.node.sets.len()) as u8 + 1);
+        let answer = self.activate();
+        self.only_set = None;
+        answer
     }
 
     pub fn full_table(&mut self) {
@@ -63,17 +77,26 @@ impl Run {
         }
     }
 
-    /// 16 contexts with as many containers as fit, closed by one tick, with
-    /// rooms around what it needs.
+    /// 16 contexts of one set with as many containers as fit, closed by one
+    /// tick, with rooms around what it needs.
     pub fn largest_output(&mut self) {
+        let set = self.some_set();
+        if self.random.percent(50) {
+            let changes = self.random.pick(&[14, 15, 15]);
+            let limits = Limits { changes, ..self.node.limits_of(set) };
+            self.replace_by(set, limits);
+        }
+        self.only_set = Some(set);
         self.fill();
+        self.only_set = None;
         let names = self.active_names();
         let now = self.node.clock;
         for name in &names {
             // Begin together.
             self.send(&octets(now, &What::Management(*name)));
         }
-        for _ in 1..self.node.profile.change_limit {
+        let limits = self.node.limits_of(set);
+        for _ in 1..limits.changes {
             for name in &names {
                 if self.random.percent(5) {
                     self.send(&octets(now, &What::Traffic(*name, 0, 0)));
@@ -81,7 +104,7 @@ impl Run {
             }
             self.send(&octets(now, &What::Tariff));
         }
-        let limit = self.node.profile.time_limit;
+        let limit = limits.time;
         if now > LAST_SECOND - limit {
             return;
         }
@@ -102,13 +125,15 @@ impl Run {
         }
         let name = self.free_name();
         let start = self.start();
+        let limits = self.node.limits_of(start.set);
         self.say(What::Activate(name, Box::new(start)));
-        for _ in 0..2 * self.node.profile.change_limit {
-            let Some(slot) = self.node.find(name) else { return };
-            let context = self.node.slots[slot].as_ref().unwrap();
-            let left = self.node.profile.volume_limit - context.record_volume();
+        for _ in 0..2 * limits.changes {
+            if self.node.find(name).is_none() {
+                return;
+            }
+            let left = self.volume_left(name);
             let part = self.random.sized(left / 4).min(u32::MAX.into()) as u32;
-            let mut qos = context.qos;
+            let mut qos = self.context(name).qos;
             qos[4] = (qos[4] + 1) % 19;
             if left > 1 {
                 self.say(What::Traffic(name, part, part / 2));
@@ -143,9 +168,10 @@ impl Run {
         let most = u64::from(u32::MAX);
         for turn in 0..2 {
             for _ in 0..130 {
-                let Some(slot) = self.node.find(name) else { return };
-                let have = self.node.slots[slot].as_ref().unwrap().record_volume();
-                let left = self.node.profile.volume_limit - have;
+                if self.node.find(name).is_none() {
+                    return;
+                }
+                let left = self.volume_left(name);
                 if left > 2 * most && self.random.percent(97) {
                     self.say(What::Traffic(name, most as u32, most as u32));
                 } else if left > 2 * most {

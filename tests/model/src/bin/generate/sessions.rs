@@ -13,6 +13,7 @@ impl Run {
             pdp_type: [0xF1, 0x21],
             address: [10, 0, 0, 3],
             qos: [1, 3, 2, 4, 0],
+            set: 1,
             apn: b"a".to_vec(),
         };
         let first = [
