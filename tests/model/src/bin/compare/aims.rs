@@ -2,6 +2,7 @@
 //! call: a table of aims, none of which may stay at zero.
 
 use crate::batches::Batches;
+use crate::sets::Sets;
 use crate::subscribers::Subscribers;
 use charging_model::batch::{Batch, Batched};
 use charging_model::cdr::Cdr;
@@ -13,7 +14,7 @@ use charging_model::step::{self, Step};
 use std::collections::{BTreeMap, BTreeSet};
 
 /// The refusals that a call of a run can get.
-pub const REFUSALS: [u8; 13] = [1, 2, 3, 4, 5, 6, 8, 9, 10, 11, 15, 16, 17];
+pub const REFUSALS: [u8; 15] = [1, 2, 3, 4, 5, 6, 8, 9, 10, 11, 15, 16, 17, 18, 19];
 pub const CAUSES: [u8; 7] = [0, 4, 16, 17, 18, 19, 20];
 
 /// Of the activations that are taken one in so many, at least, has no capitals
@@ -136,11 +137,11 @@ const NAMES: &[&str] = &[
     "IMSI of 15 digits",
     "IMSI of 5 digits",
     "IMSI of 16 digits",
-    "n of 0 in 36 octets",
     "n of 0 in 37 octets",
+    "n of 0 in 38 octets",
     "n of 1",
     "n of 63",
-    "n of 64 in 100 octets",
+    "n of 64 in 101 octets",
     "APN without capitals",
     "APN of both cases",
     "APN of capitals alone",
@@ -158,11 +159,11 @@ const NAMES: &[&str] = &[
     "sole record of an APN with capitals",
     "record number 1 of an APN with capitals",
     "later record of an APN with capitals",
-    "activate of 35 octets",
+    "activate of 36 octets",
     "mean 18",
     "mean 19",
     "kind 0",
-    "kind 12",
+    "kind 13",
     "kind 255",
     "the event refused for room comes again and fits",
 ];
@@ -179,6 +180,7 @@ pub struct Aims {
     pub apn_octets: BTreeSet<u8>,
     batches: Batches,
     subscribers: Subscribers,
+    sets: Sets,
     released: BTreeSet<Name>,
     /// Names whose last activation had capitals in its APN.
     capitals: BTreeSet<Name>,
@@ -197,6 +199,7 @@ impl Default for Aims {
             apn_octets: BTreeSet::new(),
             batches: Batches::default(),
             subscribers: Subscribers::default(),
+            sets: Sets::default(),
             released: BTreeSet::new(),
             capitals: BTreeSet::new(),
             refused_for_room: Vec::new(),
@@ -212,6 +215,7 @@ impl Aims {
         self.refused_for_room.clear();
         self.batches.no_batch();
         self.subscribers.new_run();
+        self.sets.new_run();
     }
 
     fn met(&mut self, name: &'static str, when: bool) {
@@ -241,6 +245,7 @@ impl Aims {
         missed.extend(octets.map(|o: u8| format!("octet {o:02X} in an APN")));
         missed.extend(self.batches.missed());
         missed.extend(self.subscribers.missed());
+        missed.extend(self.sets.missed());
         missed
     }
 
@@ -267,12 +272,13 @@ impl Aims {
         text += &format!("  {:>9}  activations taken\n", self.activations);
         let octets = self.apn_octets.len();
         text += &format!("  {octets:>9}  different octets of an APN, taken or the only fault\n");
-        text + &self.batches.table() + &self.subscribers.table()
+        text + &self.batches.table() + &self.subscribers.table() + &self.sets.table()
     }
 
     /// A batch, with the node before it and what the model makes of it.
     pub fn count_batch(&mut self, node: &Node, batch: &Batch, room: usize, done: &Batched) {
         self.batches.count(node, batch, room, done);
+        self.sets.count_batch(node, batch, done);
         self.subscribers.calls += 1;
         for record in done.records.iter().filter_map(Cdr::s) {
             self.count_record(node, record);
@@ -285,6 +291,7 @@ impl Aims {
         *self.answers.entry(done.answer).or_default() += 1;
         self.lengths.insert(event.len());
         self.subscribers.count(node, event, room, done);
+        self.sets.count(node, event, room, done);
         self.count_pairs(node, event, room, done.answer);
         self.count_octets(node, event, done.answer);
         for record in done.records.iter().filter_map(Cdr::s) {
@@ -302,11 +309,13 @@ impl Aims {
     }
 
     fn count_pairs(&mut self, node: &Node, event: &[u8], room: usize, answer: u8) {
-        let of_subscriber = event.len() > 2 && event::of_subscriber(event::kind(event));
+        let kind = event.get(2).copied().unwrap_or_default();
         for row in later_rows(node, event, room, answer) {
-            match of_subscriber {
-                true => self.subscribers.pair(answer, row),
-                false => {
+            match kind {
+                event::ATTACH..=event::DETACH => self.subscribers.pair(answer, row),
+                event::REPLACE => self.sets.pair(kind, answer, row),
+                _ => {
+                    self.sets.pair(kind, answer, row);
                     if let Some(count) = self.pairs.get_mut(&(answer, row)) {
                         *count += 1;
                     }
@@ -321,15 +330,15 @@ impl Aims {
         }
         let kind = event::kind(event);
         self.met("kind 0", kind == 0);
-        self.met("kind 12", kind == 12);
+        self.met("kind 13", kind == 13);
         self.met("kind 255", kind == 255);
-        let n = (kind == event::ACTIVATE).then(|| event.get(35).copied()).flatten();
-        self.met("activate of 35 octets", kind == event::ACTIVATE && event.len() == 35);
-        self.met("n of 0 in 36 octets", n == Some(0) && event.len() == 36);
+        let n = (kind == event::ACTIVATE).then(|| event.get(36).copied()).flatten();
+        self.met("activate of 36 octets", kind == event::ACTIVATE && event.len() == 36);
         self.met("n of 0 in 37 octets", n == Some(0) && event.len() == 37);
+        self.met("n of 0 in 38 octets", n == Some(0) && event.len() == 38);
         self.met("n of 1", n == Some(1) && answer == 0);
         self.met("n of 63", n == Some(63) && answer == 0);
-        self.met("n of 64 in 100 octets", n == Some(64) && event.len() == 100);
+        self.met("n of 64 in 101 octets", n == Some(64) && event.len() == 101);
         if matches!(answer, 3 | 4) {
             return;
         }
@@ -362,7 +371,7 @@ impl Aims {
     fn count_apn(&mut self, node: &Node, event: &[u8], apn: &[u8], answer: u8) {
         for octet in apn.iter().copied().collect::<BTreeSet<u8>>() {
             let mut other = event.to_vec();
-            other[36..].iter_mut().filter(|o| **o == octet).for_each(|o| *o = b'0');
+            other[37..].iter_mut().filter(|o| **o == octet).for_each(|o| *o = b'0');
             let refused = answer == 5 && event::fields_in_range(&other);
             if refused || answer == 0 {
                 self.apn_octets.insert(octet);
@@ -426,7 +435,6 @@ impl Aims {
         if done.answer != 0 {
             return;
         }
-        let profile = &node.profile;
         let time = event::time(event);
         let closed = done.records.len();
         let slot_of = |name| node.slots[node.find(name).unwrap()].as_ref().unwrap();
@@ -445,25 +453,30 @@ impl Aims {
             What::Traffic(name, up, down) => {
                 let context = slot_of(name);
                 let sum = context.record_volume() + u64::from(up) + u64::from(down);
-                let limit = profile.volume_limit;
+                let limit = context.limits.volume;
                 self.met("volume limit met exactly", sum == limit);
                 self.met("volume limit missed by one octet", sum + 1 == limit);
                 self.met("volume limit passed", sum > limit);
                 self.met("volume limit 1", limit == 1 && closed == 1);
                 self.met("volume limit 10^12 met", limit == 1_000_000_000_000 && closed == 1);
-                let late = time - context.opened >= profile.time_limit;
+                let late = time - context.opened >= context.limits.time;
                 self.met("time limit passed without a tick", late && closed == 0);
             }
             What::Qos(name, qos) => {
                 self.met("QoS to the same profile", slot_of(name).qos == qos);
                 self.met("change limit met by QoS", closed == 1);
-                self.met("change limit 1 met", profile.change_limit == 1 && closed == 1);
-                self.met("change limit 15 met", profile.change_limit == 15 && closed == 1);
+                let limit = slot_of(name).limits.changes;
+                self.met("change limit 1 met", limit == 1 && closed == 1);
+                self.met("change limit 15 met", limit == 15 && closed == 1);
             }
             What::Tariff => {
                 self.met("change limit met by a tariff", closed > 0);
-                self.met("change limit 1 met", profile.change_limit == 1 && closed > 0);
-                self.met("change limit 15 met", profile.change_limit == 15 && closed > 0);
+                for context in node.slots.iter().flatten() {
+                    let limit = context.limits.changes;
+                    let met = context.changes + 1 == u32::from(limit);
+                    self.met("change limit 1 met", met && limit == 1);
+                    self.met("change limit 15 met", met && limit == 15);
+                }
                 self.met("tariff with 0 contexts", node.active() == 0);
                 self.met("tariff with 1 context", node.active() == 1);
                 self.met("tariff with 16 contexts", node.active() == SLOTS);
@@ -476,9 +489,8 @@ impl Aims {
                 self.met("tick with 16 contexts", node.active() == SLOTS);
                 let some = closed > 0 && closed < node.active();
                 self.met("tick that closes one context and not another", some);
-                let limit = profile.time_limit;
                 for context in node.slots.iter().flatten() {
-                    let open = time - context.opened;
+                    let (open, limit) = (time - context.opened, context.limits.time);
                     self.met("time limit met exactly at a tick", open == limit);
                     self.met("time limit missed by one second", open + 1 == limit);
                     self.met("time limit 1", limit == 1 && open == 1);
@@ -593,7 +605,7 @@ fn applies_too(node: &Node, event: &[u8], room: usize, row: &step::Row) -> bool 
 /// room, less than any record has? A wrong time can't be carried out; the
 /// output is about as long now.
 fn no_room(node: &Node, event: &[u8], room: usize) -> bool {
-    let named = [8, 9, 10, 16, 15, 17];
+    let named = [18, 19, 8, 9, 10, 16, 15, 17];
     let rows = step::TABLE.iter().filter(|row| named.contains(&row.0));
     if rows.into_iter().any(|row| row.1(node, event, room)) {
         return false;

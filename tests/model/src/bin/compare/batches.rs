@@ -213,8 +213,8 @@ impl Batches {
         self.met("pairs applied without a record before a refusal", without);
         self.met("a pair of nothing", batch.volumes.chunks(2).take(at).any(|p| p == [0, 0]));
         let Some(slot) = node.find(batch.name) else { return };
-        let opened = node.slots[slot].as_ref().unwrap().opened;
-        let open = batch.time.saturating_sub(opened) >= node.profile.time_limit;
+        let context = node.slots[slot].as_ref().unwrap();
+        let open = batch.time.saturating_sub(context.opened) >= context.limits.time;
         self.met("time limit passed, and no record closed for it", open && at > 0 && !some);
     }
 
@@ -257,7 +257,10 @@ impl Batches {
         let numbers = at.len() > 1 && in_turn;
         self.met("records in one batch that carry one number after another", numbers);
         let volume = |r: &Record| r.containers.iter().map(|c| c.uplink + c.downlink).sum::<u64>();
-        let exact = records.iter().any(|r| volume(r) == node.profile.volume_limit);
+        let context = node.slots[node.find(batch.name).unwrap()].as_ref().unwrap();
+        let next = node.limits_of(context.start.set);
+        let limits = [context.limits].into_iter().chain(std::iter::repeat(next));
+        let exact = records.iter().zip(limits).any(|(r, limits)| volume(r) == limits.volume);
         self.met("volume limit met exactly by a pair that is not the first", exact && !first);
         let differ = |record: &&Record| {
             let last = record.containers.last().unwrap();

@@ -3,6 +3,7 @@
 
 mod aims;
 mod batches;
+mod sets;
 mod subscribers;
 
 use crate::aims::Aims;
@@ -66,6 +67,7 @@ fn event_in_words(octets: &[u8]) -> String {
         "location change",
         "management of a subscriber",
         "detach",
+        "replacement",
     ];
     let kind = event::kind(octets);
     let mut words = format!("{} ({kind})", kinds.get(usize::from(kind)).unwrap_or(&"?"));
@@ -75,6 +77,12 @@ fn event_in_words(octets: &[u8]) -> String {
     }
     if event::of_subscriber(kind) && octets.len() >= 15 {
         words += &format!(", IMSI {}", hex(&event::subscriber(octets)));
+    }
+    if event::has_set(kind) && event::whole_length(octets) == Some(octets.len()) {
+        words += &format!(", set {}", event::set(octets));
+    }
+    if kind == event::REPLACE && octets.len() >= 10 {
+        words += &format!(", edition {}", event::edition(octets));
     }
     words
 }

@@ -111,7 +111,7 @@ const NAMES: &[&str] = &[
     "change to the place of the opening after cause 19",
     "change to the place of the opening after management",
     "change to the place that was the opening's before management",
-    "more changes than the profile's change limit",
+    "more changes than the change limit of every set",
     "change of one subscriber with another in the same place",
     // records
     "record without changes by 20",
@@ -170,7 +170,7 @@ const NAMES: &[&str] = &[
     "tariff with subscribers attached",
     "tariff that closes records with subscribers attached",
     "tick with subscribers attached",
-    "tick beyond the time limit of a subscriber's open record",
+    "tick with a subscriber's record open beyond the time limit of every set",
     "release of a context whose IMSI stays attached",
     "detach of an IMSI that a context has",
     "event of a context right after one of a subscriber",
@@ -513,8 +513,8 @@ impl Subscribers {
         self.met("first change after cause 19", first_after_19);
         let returned = count == 0 && last == Some((20, place));
         self.met("change to the place that was the opening's before management", returned);
-        let many = count + 1 > node.profile.change_limit as usize && !closed;
-        self.met("more changes than the profile's change limit", many);
+        let more = node.sets.iter().all(|set| count + 1 > set.limits.changes.into());
+        self.met("more changes than the change limit of every set", more && !closed);
         let mut others = node.subscribers.iter().flatten().filter(|s| s.imsi != subscriber.imsi);
         let beside = others.any(|s| s.place_in_force() == old);
         self.met("change of one subscriber with another in the same place", beside);
@@ -637,10 +637,12 @@ impl Subscribers {
             }
             What::Tick => {
                 self.met("tick with subscribers attached", true);
-                let limit = node.profile.time_limit;
+                let limit = node.sets.iter().map(|set| set.limits.time).max().unwrap();
                 let mut attached = node.subscribers.iter().flatten();
                 let beyond = attached.any(|s| time - s.opened >= limit);
-                self.met("tick beyond the time limit of a subscriber's open record", beyond);
+                let name =
+                    "tick with a subscriber's record open beyond the time limit of every set";
+                self.met(name, beyond);
             }
             What::Release(name, _) => {
                 let slot = node.find(name).unwrap();
