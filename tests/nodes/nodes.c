@@ -13,9 +13,12 @@ void *memcpy(void *, const void *, size_t);
 void *memset(void *, int, size_t);
 
 enum {
-    CONTEXT = 139 + CHARGING_CONTAINERS * 28,
+    LIMITS = 13,
+    PROFILE = 42 + CHARGING_SETS * LIMITS,
+    SETTINGS = CHARGING_SETS * (2 + LIMITS),
+    CONTEXT = 140 + LIMITS + CHARGING_CONTAINERS * 28,
     SUBSCRIBER = 34 + CHARGING_CHANGES * 9,
-    FIELDS = 47 + 12 + CHARGING_CONTEXTS * CONTEXT + CHARGING_SUBSCRIBERS * SUBSCRIBER,
+    FIELDS = PROFILE + SETTINGS + 12 + CHARGING_CONTEXTS * CONTEXT + CHARGING_SUBSCRIBERS * SUBSCRIBER,
     GUARD = 16,
     MOST = 65535
 };
@@ -65,8 +68,15 @@ static void container(struct charging_container *c) {
     stamp(&c->time);
 }
 
+static void limits(struct charging_limits *l) {
+    FIELD(l->volume);
+    FIELD(l->seconds);
+    FIELD(l->changes);
+}
+
 static void open_record(struct charging_open_record *o) {
     qos(&o->qos);
+    limits(&o->limits);
     FIELD(o->uplink);
     FIELD(o->downlink);
     stamp(&o->opening);
@@ -78,6 +88,7 @@ static void open_record(struct charging_open_record *o) {
 static void context(struct charging_context *c) {
     FIELD(c->active);
     FIELD(c->flags);
+    FIELD(c->set);
     FIELD(c->name.id);
     FIELD(c->name.ggsn);
     FIELD(c->imsi);
@@ -111,12 +122,15 @@ static void fields(uint8_t *octets, int fill) {
     at = octets;
     filling = fill;
     FIELD(node.profile.sgsn);
-    FIELD(node.profile.limits.volume);
-    FIELD(node.profile.limits.seconds);
-    FIELD(node.profile.limits.changes);
+    for (int i = 0; i < CHARGING_SETS; i++) limits(&node.profile.limits[i]);
+    FIELD(node.profile.sets);
     FIELD(node.profile.zone);
     FIELD(node.profile.nodeid);
     FIELD(node.profile.nodelen);
+    for (int i = 0; i < CHARGING_SETS; i++) {
+        FIELD(node.settings.sets[i].edition);
+        limits(&node.settings.sets[i].limits);
+    }
     FIELD(node.clock);
     FIELD(node.accepted);
     for (int i = 0; i < CHARGING_CONTEXTS; i++) context(&node.contexts[i]);

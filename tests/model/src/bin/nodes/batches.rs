@@ -1,12 +1,13 @@
 //! Batches for nodes: lists of reports, most of them such as a sound node
 //! takes.
 
-use crate::limits::{no_volumes, LIMITS};
+use crate::limits::{each_limits, no_volumes, LIMITS};
 use crate::runs::{self, ROOM};
 use crate::stored::Stored;
 use charging_model::batch::{batch_of_sound, Batch};
 use charging_model::clock::LAST_SECOND;
 use charging_model::event::Name;
+use charging_model::limits::Limits;
 use charging_model::node::{Context, Node, MOST_ACCEPTED};
 use charging_model::random::Random;
 use charging_model::step::output;
@@ -39,12 +40,12 @@ fn time(random: &mut Random, node: &Node) -> u32 {
 
 /// Pairs that meet the volume limit, or just miss it, one after another.
 fn reports(random: &mut Random, node: &Node, context: Option<Context>, pairs: u64) -> Vec<u32> {
-    let limit = node.profile.volume_limit;
+    let next = context.as_ref().map(|context| node.limits_of(context.start.set));
     let mut context = context;
     let mut volumes = Vec::new();
     for _ in 0..pairs {
         let (up, down) = match &mut context {
-            Some(context) => report(random, context, limit),
+            Some(context) => report(random, context, next.unwrap()),
             None => (random.next() as u32, random.next() as u32),
         };
         volumes.extend([up, down]);
@@ -52,12 +53,14 @@ fn reports(random: &mut Random, node: &Node, context: Option<Context>, pairs: u6
     volumes
 }
 
-/// A pair, and the context after it.
-fn report(random: &mut Random, context: &mut Context, limit: u64) -> (u32, u32) {
-    let (up, down) = runs::volumes(random, context, limit);
+/// A pair, and the context after it: a record that closes is followed by one
+/// with these limits.
+fn report(random: &mut Random, context: &mut Context, next: Limits) -> (u32, u32) {
+    let (up, down) = runs::volumes(random, context);
     context.uplink = context.uplink.saturating_add(up.into());
     context.downlink = context.downlink.saturating_add(down.into());
-    if context.record_volume() >= limit {
+    if context.record_volume() >= context.limits.volume {
+        context.limits = next;
         context.containers.clear();
         (context.uplink, context.downlink) = (0, 0);
     }
@@ -83,10 +86,18 @@ pub fn events_run_out(node: &mut Stored, random: &mut Random) -> Option<Batch> {
     Some(Batch { time, name, volumes })
 }
 
-/// A volume limit that single pairs meet, so that a batch closes some records.
+/// Volume limits that single pairs meet, so that a batch closes some records:
+/// those of the open records, and of the ones after them.
 pub fn closings(node: &mut Stored, random: &mut Random) -> Option<Batch> {
     no_volumes(node);
-    node.profile.volume = random.pick(&[1, 2, 1000, 70_000, 1 << 32, (1 << 33) - 2]);
+    let volume = random.pick(&[1, 2, 1000, 70_000, 1 << 32, (1 << 33) - 2]);
+    let next = match random.percent(50) {
+        true => volume,
+        false => random.pick(&[1, 3, 999, 1001, 80_000, (1 << 32) + 1]),
+    };
+    each_limits(node, |limits| limits.volume = volume);
+    let sets = node.sets();
+    node.settings[..sets].iter_mut().for_each(|set| set.limits.volume = next);
     let view = node.view();
     let context = runs::active(random, &view)?;
     let pairs = random.between(2, 9);

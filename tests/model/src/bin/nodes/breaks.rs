@@ -1,10 +1,11 @@
 //! Ways to break each rule of "A sound node", each part of a rule by itself.
 
+use crate::break_profile as profile;
 use crate::break_subscribers as subscribers;
-use crate::limits::{any_active, set_zone};
-use crate::runs::{apn_character, imsi, node_id_character, raised};
+use crate::limits::any_active;
+use crate::runs::{apn_character, imsi, raised};
 use crate::sound::{record_volume, Range, RANGES};
-use crate::stored::{within, Container, Context, Stored, APN, FREE, NODE_ID, PLACES, SLOTS};
+use crate::stored::{Container, Context, Stored, APN, PLACES, SLOTS};
 use charging_model::random::Random;
 
 /// The rule and the part that is broken, and how; nothing where this node has
@@ -23,19 +24,41 @@ macro_rules! breakers {
 }
 
 breakers! {
-    "volume limit" "whole" |n, r| limit(n, r, Range::VolumeLimit);
-    "time limit" "whole" |n, r| limit(n, r, Range::TimeLimit);
-    "change limit" "whole" |n, r| limit(n, r, Range::ChangeLimit);
-    "offset" "whole" offset;
-    "node ID's length" "whole" node_id_length;
-    "node ID's characters" "whole" node_id_character_wrong;
-    "node ID's unused octets" "whole" node_id_unused;
-    "node ID's unused octets" "whole" node_id_unused_far;
+    "number of sets" "whole" profile::no_set;
+    "number of sets" "whole" profile::too_many_sets;
+    "profile's limits" "volume" |n, r| profile::given(n, r, Range::GivenVolume);
+    "profile's limits" "time" |n, r| profile::given(n, r, Range::GivenTime);
+    "profile's limits" "changes" |n, r| profile::given(n, r, Range::GivenChanges);
+    "profile's unused limits" "volume" |n, r| profile::given_unused(n, r, "volume");
+    "profile's unused limits" "time" |n, r| profile::given_unused(n, r, "time");
+    "profile's unused limits" "changes" |n, r| profile::given_unused(n, r, "changes");
+    "editions" "whole" profile::edition;
+    "sets" "volume" |n, r| profile::set(n, r, Range::SetVolume);
+    "sets" "time" |n, r| profile::set(n, r, Range::SetTime);
+    "sets" "changes" |n, r| profile::set(n, r, Range::SetChanges);
+    "unused set" "edition" profile::edition_unused;
+    "unused set" "volume" |n, r| profile::set_unused(n, r, "volume");
+    "unused set" "time" |n, r| profile::set_unused(n, r, "time");
+    "unused set" "changes" |n, r| profile::set_unused(n, r, "changes");
+    "context's set" "zero" profile::set_zero;
+    "context's set" "above" profile::set_above;
+    "record's limits" "volume" |n, r| profile::record(n, r, Range::RecordVolume);
+    "record's limits" "time" |n, r| profile::record(n, r, Range::RecordTime);
+    "record's limits" "changes" |n, r| profile::record(n, r, Range::RecordChanges);
+    "offset" "whole" profile::offset;
+    "node ID's length" "whole" profile::node_id_length;
+    "node ID's characters" "whole" profile::node_id_character_wrong;
+    "node ID's unused octets" "whole" profile::node_id_unused;
+    "node ID's unused octets" "whole" profile::node_id_unused_far;
     "clock" "whole" |n, r| done(n.clock = above(r, Range::Clock, u32::MAX.into()) as u32);
     "accepted count" "whole" |n, r| done(n.accepted = above(r, Range::Accepted, u64::MAX));
     "names" "whole" names;
     "active" "whole" |n, r| done(slot(n, r).active = above_of(r, 1, 255) as u8);
     "free slot" "flags" |n, r| done(free(n, r)?.flags = some(r) as u8);
+    "free slot" "set" |n, r| done(free(n, r)?.set = some(r) as u8);
+    "free slot" "volume limit" |n, r| done(free(n, r)?.limits.volume = some64(r));
+    "free slot" "time limit" |n, r| done(free(n, r)?.limits.seconds = some32(r));
+    "free slot" "change limit" |n, r| done(free(n, r)?.limits.changes = some(r) as u8);
     "free slot" "id" |n, r| done(free(n, r)?.id = some32(r));
     "free slot" "ggsn" |n, r| done(free(n, r)?.ggsn = some32(r));
     "free slot" "imsi" |n, r| done(free(n, r)?.imsi[r.below(8) as usize] = some(r) as u8);
@@ -165,7 +188,7 @@ pub fn above_of(random: &mut Random, high: u64, most: u64) -> u64 {
     }
 }
 
-fn above(random: &mut Random, range: Range, most: u64) -> u64 {
+pub fn above(random: &mut Random, range: Range, most: u64) -> u64 {
     above_of(random, RANGES[range as usize].3 as u64, most)
 }
 
@@ -184,11 +207,11 @@ pub fn some(random: &mut Random) -> u64 {
     bits(random, 8)
 }
 
-fn some16(random: &mut Random) -> u16 {
+pub fn some16(random: &mut Random) -> u16 {
     bits(random, 16) as u16
 }
 
-fn some32(random: &mut Random) -> u32 {
+pub fn some32(random: &mut Random) -> u32 {
     bits(random, 32) as u32
 }
 
@@ -220,7 +243,7 @@ fn slot<'a>(node: &'a mut Stored, random: &mut Random) -> &'a mut Context {
     &mut node.contexts[edge(random, 0, SLOTS)]
 }
 
-fn used<'a>(node: &'a mut Stored, random: &mut Random) -> Option<&'a mut Context> {
+pub fn used<'a>(node: &'a mut Stored, random: &mut Random) -> Option<&'a mut Context> {
     any_active(node, random).map(|at| &mut node.contexts[at])
 }
 
@@ -257,61 +280,6 @@ fn container<'a>(node: &'a mut Stored, random: &mut Random) -> Option<&'a mut Co
 fn place<'a>(node: &'a mut Stored, random: &mut Random) -> Option<&'a mut Container> {
     let (context, count) = with(node, random, 0)?;
     (count < PLACES).then(|| &mut context.containers[edge(random, count, PLACES)])
-}
-
-// ---- the profile ----
-
-/// A limit of zero or above the highest; with no context nothing else breaks.
-fn limit(node: &mut Stored, random: &mut Random, range: Range) -> Option<()> {
-    let zero = random.percent(40);
-    if zero && random.percent(60) {
-        node.contexts = [FREE; SLOTS];
-    }
-    let mut value = |most: u64| if zero { 0 } else { above(random, range, most) };
-    match range {
-        Range::VolumeLimit => node.profile.volume = value(u64::MAX),
-        Range::TimeLimit => node.profile.seconds = value(u32::MAX.into()) as u32,
-        _ => node.profile.changes = value(255) as u8,
-    }
-    Some(())
-}
-
-fn offset(node: &mut Stored, random: &mut Random) -> Option<()> {
-    let zone = above(random, Range::Zone, u16::MAX.into()) as u16;
-    if random.percent(80) {
-        set_zone(node, zone);
-    }
-    done(node.profile.zone = zone)
-}
-
-fn node_id_length(node: &mut Stored, random: &mut Random) -> Option<()> {
-    node.profile.nodeid = [0; NODE_ID].map(|_| node_id_character(random));
-    done(node.profile.nodelen = above(random, Range::NodeIdLength, u64::MAX))
-}
-
-fn node_id_character_wrong(node: &mut Stored, random: &mut Random) -> Option<()> {
-    let length = within(node.profile.nodelen, NODE_ID);
-    if length == 0 {
-        return None;
-    }
-    let at = edge(random, 0, length);
-    let any = 0x7F + random.below(0x81) as u8;
-    done(node.profile.nodeid[at] = random.pick(&[0x1F, 0x7F, 0, 0x80, 0xFF, any]))
-}
-
-fn node_id_unused(node: &mut Stored, random: &mut Random) -> Option<()> {
-    let length = within(node.profile.nodelen, NODE_ID);
-    if length == NODE_ID {
-        return None;
-    }
-    let at = edge(random, length, NODE_ID);
-    done(node.profile.nodeid[at] = some(random) as u8)
-}
-
-/// Of an empty node ID, so that every octet is met.
-fn node_id_unused_far(node: &mut Stored, random: &mut Random) -> Option<()> {
-    (node.profile.nodeid, node.profile.nodelen) = ([0; NODE_ID], 0);
-    done(node.profile.nodeid[random.below(NODE_ID as u64) as usize] = some(random) as u8)
 }
 
 // ---- names ----
@@ -467,7 +435,8 @@ fn count_high(node: &mut Stored, random: &mut Random) -> Option<()> {
     done(context.count = context.count.checked_add(more)?)
 }
 
-/// The change limit is a context's count of containers; or all its places are used.
+/// A record's change limit is its count of containers; or all its places are
+/// used.
 fn container_count(node: &mut Stored, random: &mut Random) -> Option<()> {
     let (context, count) = with(node, random, 1)?;
     if random.percent(30) && count == PLACES - 1 {
@@ -479,7 +448,7 @@ fn container_count(node: &mut Stored, random: &mut Random) -> Option<()> {
         context.count += 1;
         return done(context.changes = context.changes.checked_add(1)?);
     }
-    done(node.profile.changes = count as u8)
+    done(context.limits.changes = count as u8)
 }
 
 // ---- containers ----
@@ -574,9 +543,8 @@ fn a_volume<'a>(context: &'a mut Context, random: &mut Random) -> &'a mut u64 {
 
 /// The sum meets the limit, or passes it.
 fn volumes(node: &mut Stored, random: &mut Random) -> Option<()> {
-    let limit = node.profile.volume;
     let context = used(node, random)?;
-    let missing = limit.checked_sub(record_volume(context).try_into().ok()?)?;
+    let missing = context.limits.volume.checked_sub(record_volume(context).try_into().ok()?)?;
     let beyond = match random.below(4) {
         0 | 1 => 0,
         2 => random.sized(1 << 41),

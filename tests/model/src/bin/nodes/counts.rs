@@ -80,7 +80,7 @@ const SPELLED: [&str; 3] = [
     "activations refused with 5 for the APN",
 ];
 
-const ANSWERS: [u8; 16] = [0, 1, 2, 3, 4, 5, 6, 7, 8, 9, 10, 11, 13, 15, 16, 17];
+const ANSWERS: [u8; 18] = [0, 1, 2, 3, 4, 5, 6, 7, 8, 9, 10, 11, 13, 15, 16, 17, 18, 19];
 const CAUSES: [u8; 7] = [0, 4, 16, 17, 18, 19, 20];
 const M_CAUSES: [u8; 4] = [0, 4, 19, 20];
 
@@ -148,7 +148,7 @@ impl Counts {
         if !matches!(answer, 0 | 5) || event::kind(event) != event::ACTIVATE {
             return;
         }
-        let apn = &event[36..];
+        let apn = &event[37..];
         let capitals = apn.iter().any(u8::is_ascii_uppercase);
         let mut met = |name, when| *self.spelled.entry(name).or_default() += usize::from(when);
         met("activations without capitals, accepted", answer == 0 && !capitals);

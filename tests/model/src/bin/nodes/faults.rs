@@ -6,7 +6,7 @@
 use crate::cases::{Case, Lent, Outcome};
 use crate::expected::outcome;
 use crate::outcomes::{OF_BATCHES, OUTCOMES};
-use crate::sound::{broken_by, Found, Test, RANGES, RULES};
+use crate::sound::{broken_by, Found, Range, Test, RANGES, RULES};
 use crate::stored::{Context, Stored};
 use crate::unseen::UNSEEN;
 
@@ -88,10 +88,9 @@ pub fn all() -> Vec<(Fault, String, String)> {
             ));
         }
     }
-    for (at, (_, name, low, high)) in RANGES.into_iter().enumerate() {
+    for (at, (range, name, low, high)) in RANGES.into_iter().enumerate() {
         let moved = [(low - 1, high), (low + 1, high), (low, high - 1), (low, high + 1)];
-        // no stored field is below zero
-        for (from, to) in moved.into_iter().filter(|(from, _)| *from >= 0) {
+        for (from, to) in moved.into_iter().filter(|(from, to)| can_show(range, *from, *to)) {
             let moved = Fault::Moved(at, from, to);
             all.push((moved, format!("{name} {from}..{to}"), format!("for {low}..{high}")));
         }
@@ -116,6 +115,13 @@ pub fn all() -> Vec<(Fault, String, String)> {
         all.push((Fault::OfBatch(*change), name.to_string(), what.to_string()));
     }
     all
+}
+
+/// No stored field is below zero, and no edition above 65,535. A record's volume
+/// limit or change limit of zero is met by what is counted, whatever that is.
+fn can_show(range: Range, from: i128, to: i128) -> bool {
+    let met = matches!(range, Range::RecordVolume | Range::RecordChanges);
+    from >= i128::from(met) && !(range == Range::Edition && to > 65_535)
 }
 
 fn names_of_neighbours(node: &Stored, found: &mut Found) {

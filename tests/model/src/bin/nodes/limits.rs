@@ -2,7 +2,7 @@
 
 use crate::runs;
 use crate::sound::record_volume;
-use crate::stored::{Change, Context, Stamp, Stored, Subscriber, FREE, SLOTS, SUBSCRIBERS};
+use crate::stored::{Change, Context, Limits, Stamp, Stored, Subscriber, FREE, SLOTS, SUBSCRIBERS};
 use charging_model::batch::Batched;
 use charging_model::cdr::Cdr;
 use charging_model::clock::LAST_SECOND;
@@ -32,18 +32,19 @@ macro_rules! limits {
 limits! {
     "closed = accepted - 1" closed, |n| some(n, |c| closed_at(n, c)),
         |n, s| s.records.iter().filter_map(Cdr::s).any(|r| r.number == Some(n.accepted));
-    "changes = limit - 1" changes, |n| some(n, |c| changes_at(n, c)), |_, s| cause(s, CHANGES);
-    "volume = limit - 1" volume, |n| some(n, |c| volume_at(n, c)), |_, s| cause(s, VOLUME);
+    "changes = limit - 1" changes, |n| some(n, changes_at), |_, s| cause(s, CHANGES);
+    "volume = limit - 1" volume, |n| some(n, volume_at), |_, s| cause(s, VOLUME);
     "accepted = 10^15" |n, r| accepted(n, r, MOST_ACCEPTED),
         |n| n.accepted == MOST_ACCEPTED, |_, s| s.answer == 7;
     "accepted = 10^15 - 1" |n, r| accepted(n, r, MOST_ACCEPTED - 1),
         |n| n.accepted == MOST_ACCEPTED - 1, |_, s| s.answer == 0;
     "clock = 3,155,759,999" clock, |n| n.clock == LAST_SECOND, |_, s| s.answer == 6;
     "change limit 1" |n, r| change_limit(n, r, 1),
-        |n| n.profile.changes == 1, |_, s| cause(s, CHANGES);
-    "change limit 15" fifteen, |n| n.profile.changes == 15,
+        |n| some(n, |c| c.limits.changes == 1), |_, s| cause(s, CHANGES);
+    "change limit 15" fifteen, |n| some(n, |c| c.limits.changes == 15),
         |_, s| s.records.iter().filter_map(Cdr::s).any(|r| r.containers.len() == 15);
-    "volume limit 1" volume_limit, |n| n.profile.volume == 1, |_, s| cause(s, VOLUME);
+    "volume limit 1" volume_limit,
+        |n| some(n, |c| c.limits.volume == 1), |_, s| cause(s, VOLUME);
     "offset -720" |n, r| zone(n, r, 0), |n| n.profile.zone == 0, |_, s| !s.records.is_empty();
     "offset 840" |n, r| zone(n, r, 1560),
         |n| n.profile.zone == 1560, |_, s| !s.records.is_empty();
@@ -77,11 +78,11 @@ fn has_fourteen(done: &Batched) -> bool {
     done.node.subscribers.iter().flatten().any(|s| s.changes.len() == 14)
 }
 
-fn cause(done: &Batched, cause: u8) -> bool {
+pub fn cause(done: &Batched, cause: u8) -> bool {
     done.records.iter().filter_map(Cdr::s).any(|record| record.cause == cause)
 }
 
-fn some(node: &Stored, at: impl Fn(&Context) -> bool) -> bool {
+pub fn some(node: &Stored, at: impl Fn(&Context) -> bool) -> bool {
     node.active().any(at)
 }
 
@@ -89,12 +90,12 @@ fn closed_at(node: &Stored, context: &Context) -> bool {
     context.closed + 1 == node.accepted
 }
 
-fn changes_at(node: &Stored, context: &Context) -> bool {
-    context.count + 1 == u64::from(node.profile.changes)
+fn changes_at(context: &Context) -> bool {
+    context.count + 1 == u64::from(context.limits.changes)
 }
 
-fn volume_at(node: &Stored, context: &Context) -> bool {
-    record_volume(context) + 1 == u128::from(node.profile.volume)
+fn volume_at(context: &Context) -> bool {
+    record_volume(context) + 1 == u128::from(context.limits.volume)
 }
 
 /// An active context, if there is one.
@@ -103,7 +104,7 @@ pub fn any_active(node: &Stored, random: &mut Random) -> Option<usize> {
     (!active.is_empty()).then(|| random.pick(&active))
 }
 
-fn say(node: &Stored, random: &mut Random, what: What) -> Option<Vec<u8>> {
+pub fn say(node: &Stored, random: &mut Random, what: What) -> Option<Vec<u8>> {
     Some(octets(runs::time(random, &node.view()), &what))
 }
 
@@ -139,9 +140,10 @@ fn closed(node: &mut Stored, random: &mut Random) -> Option<Vec<u8>> {
 
 /// The next change closes the record, cause 19.
 fn changes(node: &mut Stored, random: &mut Random) -> Option<Vec<u8>> {
-    let most = node.active().map(|c| c.changes).max()?;
-    node.profile.changes = most + 1;
-    let context = node.active().find(|c| c.changes == most)?;
+    let slot = any_active(node, random)?;
+    let context = &mut node.contexts[slot];
+    context.limits.changes = context.changes + 1;
+    let context = *context;
     let mut qos = context.qos;
     if random.percent(80) {
         qos = runs::other_qos(random, qos);
@@ -157,9 +159,23 @@ fn changes(node: &mut Stored, random: &mut Random) -> Option<Vec<u8>> {
 /// One octet more closes the record, cause 16.
 fn volume(node: &mut Stored, random: &mut Random) -> Option<Vec<u8>> {
     let slot = any_active(node, random)?;
-    let limit = node.profile.volume;
     let context = &mut node.contexts[slot];
-    let mut left = limit - 1 - record_volume(context) as u64;
+    fill_up(context, random);
+    let name = context.name();
+    let what = match random.below(6) {
+        0 => What::Traffic(name, 0, 0),
+        1 => What::Traffic(name, 0, 1),
+        2 => What::Traffic(name, 1, 0),
+        3 => What::Traffic(name, u32::MAX, u32::MAX),
+        4 => What::Tariff,
+        _ => What::Release(name, 0),
+    };
+    say(node, random, what)
+}
+
+/// The volumes of an open record sum to one less than its limit.
+pub fn fill_up(context: &mut Context, random: &mut Random) {
+    let mut left = context.limits.volume - 1 - record_volume(context) as u64;
     while left > 0 {
         let part = if random.percent(50) { left } else { random.sized(left) };
         left -= part;
@@ -173,16 +189,6 @@ fn volume(node: &mut Stored, random: &mut Random) -> Option<Vec<u8>> {
         };
         *(if random.percent(50) { up } else { down }) += part;
     }
-    let name = context.name();
-    let what = match random.below(6) {
-        0 => What::Traffic(name, 0, 0),
-        1 => What::Traffic(name, 0, 1),
-        2 => What::Traffic(name, 1, 0),
-        3 => What::Traffic(name, u32::MAX, u32::MAX),
-        4 => What::Tariff,
-        _ => What::Release(name, 0),
-    };
-    say(node, random, what)
 }
 
 /// At 10^15 every event that passes 1 to 6 is refused with 7.
@@ -202,24 +208,28 @@ fn clock(node: &mut Stored, random: &mut Random) -> Option<Vec<u8>> {
 
 /// With 1 every change closes a record of one container.
 fn change_limit(node: &mut Stored, random: &mut Random, limit: u8) -> Option<Vec<u8>> {
+    let slot = any_active(node, random)?;
     let fits = node.active().all(|c| c.changes < limit);
     if !fits {
         return None;
     }
-    node.profile.changes = limit;
-    let what = match any_active(node, random) {
-        Some(slot) if random.percent(50) => {
-            What::Qos(node.contexts[slot].name(), runs::qos(random))
-        }
-        _ => What::Tariff,
+    each_limits(node, |limits| limits.changes = limit);
+    let what = match random.percent(50) {
+        true => What::Qos(node.contexts[slot].name(), runs::qos(random)),
+        false => What::Tariff,
     };
     say(node, random, what)
+}
+
+/// Other limits for all open records.
+pub fn each_limits(node: &mut Stored, change: impl Fn(&mut Limits)) {
+    node.contexts.iter_mut().filter(|c| c.active == 1).for_each(|c| change(&mut c.limits));
 }
 
 /// Fifteen containers are the most, and the last change closes them.
 fn fifteen(node: &mut Stored, random: &mut Random) -> Option<Vec<u8>> {
     any_active(node, random)?;
-    node.profile.changes = 15;
+    each_limits(node, |limits| limits.changes = 15);
     let least = random.pick(&[0, 13, 14, 14, 14]);
     while node.active().all(|c| c.changes < least) {
         let tariff = octets(node.clock, &What::Tariff);
@@ -238,7 +248,8 @@ fn newcomer(node: &Stored, random: &mut Random) -> Vec<u8> {
     match random.percent(50) {
         true => {
             let name = Name { charging_id: random.next() as u32, ggsn: [1, 2, 3, 4] };
-            octets(node.clock, &What::Activate(name, Box::new(runs::start(random))))
+            let start = runs::start(random, node.sets());
+            octets(node.clock, &What::Activate(name, Box::new(start)))
         }
         false => runs::event(random, &node.view()),
     }
@@ -271,7 +282,7 @@ pub fn no_volumes(node: &mut Stored) {
 fn volume_limit(node: &mut Stored, random: &mut Random) -> Option<Vec<u8>> {
     let slot = any_active(node, random)?;
     no_volumes(node);
-    node.profile.volume = 1;
+    node.contexts[slot].limits.volume = 1;
     let (up, down) = random.pick(&[(0, 0), (0, 1), (1, 0), (u32::MAX, 0)]);
     say(node, random, What::Traffic(node.contexts[slot].name(), up, down))
 }

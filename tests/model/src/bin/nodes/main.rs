@@ -10,6 +10,7 @@
 //! rules, to try the rest without one.
 
 mod batches;
+mod break_profile;
 mod break_subscribers;
 mod breaks;
 mod cases;
@@ -20,6 +21,7 @@ mod limits;
 mod outcomes;
 mod runs;
 mod sound;
+mod sound_limits;
 mod sound_subscribers;
 mod stored;
 mod unseen;

@@ -5,6 +5,7 @@ use crate::breaks::edge;
 use crate::stored;
 use charging_model::clock::LAST_SECOND;
 use charging_model::event::{self, octets, Name, Qos, Start, What, QOS_HIGHEST};
+use charging_model::limits::{Limits, Set, LAST_EDITION, MOST_CHANGES, MOST_TIME, MOST_VOLUME};
 use charging_model::node::{Context, Node};
 use charging_model::profile::Profile;
 use charging_model::random::Random;
@@ -17,31 +18,41 @@ pub const ROOM: usize = 16 * (2 + 1024);
 const IDS: [u32; 6] = [0, 1, 128, 0x7FFF_FFFF, 0x8000_0000, 0xFFFF_FFFF];
 const GGSNS: [[u8; 4]; 4] = [[10, 0, 0, 2], [0, 0, 0, 0], [255, 255, 255, 255], [2, 0, 0, 10]];
 
+/// The limits of a set.
+pub fn any_limits(random: &mut Random) -> Limits {
+    Limits {
+        volume: match random.below(12) {
+            0 => 1,
+            1 => 2,
+            2 => MOST_VOLUME - 1,
+            3..=5 => MOST_VOLUME,
+            6 => 1 << 32,
+            _ => random.sized(MOST_VOLUME).max(100),
+        },
+        time: match random.below(6) {
+            0 => 1,
+            1 => MOST_TIME,
+            2 => MOST_TIME - 1,
+            _ => random.sized(MOST_TIME.into()).max(1) as u32,
+        },
+        changes: match random.below(10) {
+            0 => 1,
+            1 => 2,
+            2..=4 => MOST_CHANGES,
+            5 => MOST_CHANGES - 1,
+            _ => random.between(1, MOST_CHANGES.into()) as u8,
+        },
+    }
+}
+
 pub fn profile(random: &mut Random) -> Profile {
-    let most = 1_000_000_000_000;
+    let sets = match random.below(3) {
+        0 => random.pick(&[1, 8]),
+        _ => random.between(1, 8),
+    };
     Profile {
         sgsn: [random.octet(), random.octet(), random.octet(), random.octet()],
-        volume_limit: match random.below(12) {
-            0 => 1,
-            1 => 2,
-            2 => most - 1,
-            3..=5 => most,
-            6 => 1 << 32,
-            _ => random.sized(most).max(100),
-        },
-        time_limit: match random.below(6) {
-            0 => 1,
-            1 => 604_800,
-            2 => 604_799,
-            _ => random.sized(604_800).max(1) as u32,
-        },
-        change_limit: match random.below(10) {
-            0 => 1,
-            1 => 2,
-            2..=4 => 15,
-            5 => 14,
-            _ => random.between(1, 15) as u32,
-        },
+        limits: (0..sets).map(|_| any_limits(random)).collect(),
         offset: match random.below(6) {
             0 => -720,
             1 => 840,
@@ -121,7 +132,15 @@ pub fn name(random: &mut Random) -> Name {
     Name { charging_id: random.pick(&IDS), ggsn: random.pick(&GGSNS) }
 }
 
-pub fn start(random: &mut Random) -> Start {
+/// A set that a node with so many has, or seldom one that it does not have.
+pub fn set(random: &mut Random, sets: usize, unknown: u64) -> u8 {
+    if random.percent(unknown) {
+        return random.pick(&[0, sets as u8 + 1, 9, 128, 255]);
+    }
+    edge(random, 1, sets + 1) as u8
+}
+
+pub fn start(random: &mut Random, sets: usize) -> Start {
     let digits = random.pick(&[6, 6, 7, 8, 11, 14, 15, 15]);
     let length = match random.below(5) {
         0 => 1,
@@ -135,14 +154,15 @@ pub fn start(random: &mut Random) -> Start {
         pdp_type: [random.octet(), random.octet()],
         address: [random.octet(), random.octet(), random.octet(), random.octet()],
         qos: qos(random),
+        set: set(random, sets, 4),
         apn: apn(random, length),
     }
 }
 
 /// Two volumes, often such that the limit is just met or just missed.
-pub fn volumes(random: &mut Random, context: &Context, limit: u64) -> (u32, u32) {
+pub fn volumes(random: &mut Random, context: &Context) -> (u32, u32) {
     let most = u64::from(u32::MAX);
-    let left = limit.saturating_sub(context.record_volume());
+    let left = context.limits.volume.saturating_sub(context.record_volume());
     let sum = match random.below(8) {
         0 => 0,
         1 => left,
@@ -170,6 +190,53 @@ pub fn other_qos(random: &mut Random, old: Qos) -> Qos {
 pub fn active(random: &mut Random, node: &Node) -> Option<Context> {
     let active: Vec<&Context> = node.slots.iter().flatten().collect();
     (!active.is_empty()).then(|| active[random.below(active.len() as u64) as usize].clone())
+}
+
+// ---- sets of limits ----
+
+/// An edition that may be in force, the first and the last more often.
+fn edition(random: &mut Random) -> u16 {
+    match random.below(6) {
+        0 | 1 => 1,
+        2 => random.pick(&[2, 127, 128, 254, 255, 256, 32_767, 32_768]),
+        3 => LAST_EDITION - random.below(3) as u16,
+        _ => random.between(1, LAST_EDITION.into()) as u16,
+    }
+}
+
+/// The next limits of a set: any, its own but for one, or such that an open
+/// record has counted as much already.
+fn next_limits(random: &mut Random, node: &Node, set: u8) -> Limits {
+    let any = any_limits(random);
+    let Some(old) = node.set(set).map(|set| set.limits) else { return any };
+    let of_set = |context: &&Context| context.start.set == set;
+    match (random.below(6), node.slots.iter().flatten().find(of_set)) {
+        (0, _) => Limits { volume: old.volume.max(2) - 1, ..old },
+        (1, _) => Limits { changes: any.changes, ..old },
+        (2, _) => Limits { time: any.time, ..old },
+        (3 | 4, Some(context)) => Limits {
+            volume: context.record_volume().clamp(1, MOST_VOLUME),
+            time: (node.clock - context.opened).clamp(1, MOST_TIME),
+            changes: (context.changes as u8).clamp(1, MOST_CHANGES),
+        },
+        _ => any,
+    }
+}
+
+/// A replacement, most of them of a set that the node has by its next edition.
+pub fn replacement(random: &mut Random, node: &Node) -> What {
+    let set = set(random, node.sets.len(), 10);
+    let now = node.set(set).map_or(1, |set| set.edition);
+    let edition = match random.below(20) {
+        0 => now,
+        1 => now.wrapping_add(2),
+        2 => now.wrapping_sub(1),
+        3 => random.pick(&[0, 1, 65_535]),
+        4 => now.wrapping_add(1) ^ 0x100,
+        _ => now.wrapping_add(1),
+    };
+    let limits = next_limits(random, node, set);
+    What::Replace(set, Set { edition, limits })
 }
 
 // ---- subscribers ----
@@ -286,14 +353,16 @@ fn next(random: &mut Random, node: &Node, activating: u64) -> What {
         return match random.below(20) {
             0 => What::Tick,
             1 => What::Tariff,
-            _ => What::Activate(name(random), Box::new(start(random))),
+            2 => replacement(random, node),
+            _ => What::Activate(name(random), Box::new(start(random, node.sets.len()))),
         };
     };
     match random.below(100) {
-        0..=34 => {
-            let (up, down) = volumes(random, &context, node.profile.volume_limit);
+        0..=30 => {
+            let (up, down) = volumes(random, &context);
             What::Traffic(context.name, up, down)
         }
+        31..=34 => replacement(random, node),
         35..=69 => What::Qos(context.name, other_qos(random, context.qos)),
         70..=73 => What::Qos(context.name, context.qos),
         74..=90 => What::Tariff,
@@ -303,9 +372,13 @@ fn next(random: &mut Random, node: &Node, activating: u64) -> What {
     }
 }
 
-/// The nodes of a run: one after every few events.
+/// The nodes of a run: one after every few events. Its sets begin with any
+/// edition.
 pub fn run(random: &mut Random) -> Vec<Node> {
     let mut node = Node::fresh(profile(random));
+    for set in &mut node.sets {
+        set.edition = edition(random);
+    }
     let begin = match random.below(4) {
         0 => 0,
         1 => random.below(3_000_000_000) as u32,
@@ -340,20 +413,21 @@ pub fn event(random: &mut Random, node: &Node) -> Vec<u8> {
     let mut at = time(random, node);
     let what = match active(random, node) {
         _ if random.percent(35) => event_of_subscriber(random, node),
+        _ if random.percent(12) => replacement(random, node),
         Some(context) if random.percent(70) => match random.below(13) {
             0..=3 => {
-                let (up, down) = volumes(random, &context, node.profile.volume_limit);
+                let (up, down) = volumes(random, &context);
                 What::Traffic(context.name, up, down)
             }
             4 => What::Qos(context.name, other_qos(random, context.qos)),
             5 => What::Management(context.name),
             6 | 7 => {
-                let met = context.opened.saturating_add(node.profile.time_limit);
+                let met = context.opened.saturating_add(context.limits.time);
                 at = met.saturating_sub(random.below(2) as u32).max(node.clock);
                 What::Tick
             }
             8 => What::Tariff,
-            9 => What::Activate(context.name, Box::new(start(random))),
+            9 => What::Activate(context.name, Box::new(start(random, node.sets.len()))),
             _ => What::Release(context.name, random.pick(&[0, 4, 18])),
         },
         _ => match random.below(8) {
@@ -361,7 +435,7 @@ pub fn event(random: &mut Random, node: &Node) -> Vec<u8> {
             1 => What::Tick,
             2 => What::Management(name(random)),
             3 => What::Traffic(name(random), 1, 1),
-            _ => What::Activate(name(random), Box::new(start(random))),
+            _ => What::Activate(name(random), Box::new(start(random, node.sets.len()))),
         },
     };
     let mut event = octets(at, &what);
@@ -376,7 +450,7 @@ pub fn event(random: &mut Random, node: &Node) -> Vec<u8> {
 /// edge of the letters, or one that a wrong lowering makes a character.
 pub fn spelling(random: &mut Random, node: &Node) -> Vec<u8> {
     let name = Name { charging_id: random.next() as u32, ggsn: [4, 3, 2, 1] };
-    let mut start = start(random);
+    let mut start = start(random, node.sets.len());
     let at = edge(random, 0, start.apn.len());
     start.apn[at] = match random.percent(70) {
         true => random.pick(b"@AZ[`az{\x0D\x0E\x10\x19\xC1\xE1"),
@@ -392,7 +466,7 @@ fn spoil(random: &mut Random, event: &mut Vec<u8>, node: &Node) {
         0 => event.clear(),
         1 => event.truncate(random.below(7) as usize),
         2 | 7 => event[random.below(2) as usize] ^= 1 << random.below(8),
-        3 | 8 => event[2] = random.pick(&[0, 12, 255]),
+        3 | 8 => event[2] = random.pick(&[0, 13, 255]),
         4 => event.push(0),
         5 => event[3..7].copy_from_slice(&(LAST_SECOND + 1).to_be_bytes()),
         6 if node.clock > 0 => {
@@ -416,21 +490,29 @@ fn spoil_field(random: &mut Random, event: &mut Vec<u8>, kind: u8) {
             let digits = random.pick(&[0, 5, 16]);
             event[7..15].copy_from_slice(&imsi(random, digits));
         }
+        event::REPLACE if event.len() == 23 => match random.below(6) {
+            0 => event[10..18].fill(0),
+            1 => event[10..18].copy_from_slice(&(MOST_VOLUME + 1).to_be_bytes()),
+            2 => event[18..22].fill(0),
+            3 => event[18..22].copy_from_slice(&(MOST_TIME + 1).to_be_bytes()),
+            4 => event[22] = 0,
+            _ => event[22] = random.pick(&[16, 128, 255]),
+        },
         event::RELEASE if event.len() == 16 => event[15] = random.pick(&[1, 16, 17, 255]),
-        event::ACTIVATE if event.len() > 36 => match random.below(6) {
+        event::ACTIVATE if event.len() > 37 => match random.below(6) {
             0 => event[15] = 4,
             1 => event[16..24].copy_from_slice(&imsi(random, 5)),
             2 => event[34] = 19,
             3 => {
-                event.truncate(36);
-                event[35] = 64;
-                event.resize(100, b'a');
+                event.truncate(37);
+                event[36] = 64;
+                event.resize(101, b'a');
             }
             4 => {
-                event.truncate(37);
-                event[35] = 0;
+                event.truncate(38);
+                event[36] = 0;
             }
-            _ => event[36] = b'_',
+            _ => event[37] = b'_',
         },
         _ => event.push(0),
     }

@@ -1,8 +1,9 @@
 //! "A sound node", rule by rule, of a node with all its stored fields. Written
 //! from document 01 and, for stored capitals, from request W5 alone; words in
 //! quotes are the documents'. The rules of subscribers (02, W4) are in
-//! sound_subscribers.rs.
+//! sound_subscribers.rs, those of sets of limits (W6) in sound_limits.rs.
 
+use crate::sound_limits as limits;
 use crate::sound_subscribers as subscribers;
 use crate::stored::{within, Container, Context, Stored, APN, NODE_ID};
 use charging_model::event::{Name, Qos};
@@ -11,9 +12,17 @@ use charging_model::event::{Name, Qos};
 
 #[derive(Clone, Copy, Debug, PartialEq, Eq)]
 pub enum Range {
-    VolumeLimit,
-    TimeLimit,
-    ChangeLimit,
+    Sets,
+    GivenVolume,
+    GivenTime,
+    GivenChanges,
+    Edition,
+    SetVolume,
+    SetTime,
+    SetChanges,
+    RecordVolume,
+    RecordTime,
+    RecordChanges,
     Zone,
     NodeIdLength,
     NodeIdCharacter,
@@ -36,12 +45,21 @@ pub enum Range {
 }
 
 /// Each range that a rule speaks of: its name, its lowest and its highest.
-pub type Ranges = [(Range, &'static str, i128, i128); 22];
+pub type Ranges = [(Range, &'static str, i128, i128); 30];
 
 pub const RANGES: Ranges = [
-    (Range::VolumeLimit, "volume limit", 1, 1_000_000_000_000),
-    (Range::TimeLimit, "time limit", 1, 604_800),
-    (Range::ChangeLimit, "change limit", 1, 15),
+    // "1 to 8 numbered from 1, edition 1"
+    (Range::Sets, "number of sets", 1, 8),
+    (Range::GivenVolume, "profile's volume limit", 1, 1_000_000_000_000),
+    (Range::GivenTime, "profile's time limit", 1, 604_800),
+    (Range::GivenChanges, "profile's change limit", 1, 15),
+    (Range::Edition, "edition", 1, 65_535),
+    (Range::SetVolume, "set's volume limit", 1, 1_000_000_000_000),
+    (Range::SetTime, "set's time limit", 1, 604_800),
+    (Range::SetChanges, "set's change limit", 1, 15),
+    (Range::RecordVolume, "record's volume limit", 1, 1_000_000_000_000),
+    (Range::RecordTime, "record's time limit", 1, 604_800),
+    (Range::RecordChanges, "record's change limit", 1, 15),
     // "offset from universal time −720..840 minutes", plus 720
     (Range::Zone, "zone", 0, 1560),
     (Range::NodeIdLength, "node ID's length", 0, 20),
@@ -96,9 +114,18 @@ macro_rules! rules {
 }
 
 rules! {
-    "volume limit" "Profile in range; volume limit 1..1,000,000,000,000" WHOLE, volume_limit;
-    "time limit" "Profile in range; time limit 1..604,800" WHOLE, time_limit;
-    "change limit" "Profile in range; change limit 1..15" WHOLE, change_limit;
+    "number of sets" "Profile in range; 1 to 8 sets" WHOLE, limits::number;
+    "profile's limits" "Profile in range; volume limit 1..10^12, time limit 1..604,800, change limit 1..15"
+        limits::PARTS, limits::given;
+    "profile's unused limits" "limits of the profile that are not used all zero"
+        limits::PARTS, limits::given_unused;
+    "editions" "each with an edition from 1" WHOLE, limits::editions;
+    "sets" "the limits of every set in range" limits::PARTS, limits::sets;
+    "unused set" "sets that are not used all zero" limits::SET_PARTS, limits::sets_unused;
+    "context's set" "each context's set to be one the node has"
+        &["zero", "above"], limits::of_context;
+    "record's limits" "the limits of every open record in range"
+        limits::PARTS, limits::of_record;
     "offset" "Profile in range; offset -720..840" WHOLE, offset;
     "node ID's length" "Profile in range; node ID of 0..20 characters" WHOLE, node_id_length;
     "node ID's characters" "characters 0x20..0x7E" WHOLE, node_id_characters;
@@ -206,18 +233,6 @@ fn unused_zero(octets: &[u8], length: u64) -> bool {
 
 // ---- "Profile in range; clock and accepted count in range" ----
 
-fn volume_limit(node: &Stored, found: &mut Found) {
-    found.unless("whole", found.in_range(Range::VolumeLimit, node.profile.volume));
-}
-
-fn time_limit(node: &Stored, found: &mut Found) {
-    found.unless("whole", found.in_range(Range::TimeLimit, node.profile.seconds));
-}
-
-fn change_limit(node: &Stored, found: &mut Found) {
-    found.unless("whole", found.in_range(Range::ChangeLimit, node.profile.changes));
-}
-
 fn offset(node: &Stored, found: &mut Found) {
     found.unless("whole", found.in_range(Range::Zone, node.profile.zone));
 }
@@ -285,6 +300,7 @@ fn place_zero(container: &Container, found: &mut Found) {
 
 const FREE_PARTS: &[&str] = &[
     "flags",
+    "set",
     "id",
     "ggsn",
     "imsi",
@@ -293,6 +309,9 @@ const FREE_PARTS: &[&str] = &[
     "pdptype",
     "address",
     "qos",
+    "volume limit",
+    "time limit",
+    "change limit",
     "running uplink",
     "running downlink",
     "opening's seconds",
@@ -315,6 +334,7 @@ const FREE_PARTS: &[&str] = &[
 fn free_slot(node: &Stored, found: &mut Found) {
     for context in node.contexts.iter().filter(|c| c.active == 0) {
         found.unless("flags", context.flags == 0);
+        found.unless("set", context.set == 0);
         found.unless("id", context.id == 0);
         found.unless("ggsn", context.ggsn == 0);
         found.unless("imsi", context.imsi == [0; 8]);
@@ -323,6 +343,9 @@ fn free_slot(node: &Stored, found: &mut Found) {
         found.unless("pdptype", context.pdptype == 0);
         found.unless("address", context.address == 0);
         found.unless("qos", context.qos == [0; 5]);
+        found.unless("volume limit", context.limits.volume == 0);
+        found.unless("time limit", context.limits.seconds == 0);
+        found.unless("change limit", context.limits.changes == 0);
         found.unless("running uplink", context.uplink == 0);
         found.unless("running downlink", context.downlink == 0);
         found.unless("opening's seconds", context.opening.seconds == 0);
@@ -422,10 +445,10 @@ fn change_count(node: &Stored, found: &mut Found) {
     found.unless("whole", node.active().all(|c| c.count == u64::from(c.changes)));
 }
 
-/// "and is below the change limit"
+/// "and is below the change limit"; W6: "the open record holds its limits, the
+/// sound-node rules read those"
 fn container_count(node: &Stored, found: &mut Found) {
-    let limit = u64::from(node.profile.changes);
-    found.unless("whole", node.active().all(|c| c.count < limit));
+    found.unless("whole", node.active().all(|c| c.count < u64::from(c.limits.changes)));
 }
 
 /// "conditions 0 or 1"
@@ -475,10 +498,10 @@ fn qos_between(node: &Stored, found: &mut Found) {
     }
 }
 
-/// "all volumes of the open record sum below the volume limit"
+/// "all volumes of the open record sum below the volume limit", its own
 fn volumes(node: &Stored, found: &mut Found) {
-    let limit = u128::from(node.profile.volume);
-    found.unless("whole", node.active().all(|context| record_volume(context) < limit));
+    let mut active = node.active();
+    found.unless("whole", active.all(|c| record_volume(c) < u128::from(c.limits.volume)));
 }
 
 /// The volumes of a context's open record.

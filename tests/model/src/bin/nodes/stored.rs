@@ -2,6 +2,7 @@
 //! those of free slots and unused places too.
 
 use charging_model::event::{Name, Qos, Start};
+use charging_model::limits;
 use charging_model::node;
 use charging_model::profile;
 use charging_model::subscriber;
@@ -13,6 +14,8 @@ pub const SUBSCRIBERS: usize = subscriber::SUBSCRIBERS;
 pub const CHANGES: usize = 15;
 pub const APN: usize = 63;
 pub const NODE_ID: usize = 20;
+/// Places for sets of limits.
+pub const SETS: usize = limits::SETS;
 /// "minutes from universal time plus 720"
 pub const ZONE_OF_ZERO: i32 = 720;
 
@@ -32,10 +35,26 @@ pub struct Container {
     pub time: Stamp,
 }
 
+/// When a record closes by itself; and a set of these, of which the edition is
+/// in force.
+#[derive(Clone, Copy, Debug, Default, PartialEq, Eq)]
+pub struct Limits {
+    pub volume: u64,
+    pub seconds: u32,
+    pub changes: u8,
+}
+
+#[derive(Clone, Copy, Debug, Default, PartialEq, Eq)]
+pub struct LimitSet {
+    pub edition: u16,
+    pub limits: Limits,
+}
+
 #[derive(Clone, Copy, Debug, PartialEq, Eq)]
 pub struct Context {
     pub active: u8,
     pub flags: u8,
+    pub set: u8,
     pub id: u32,
     pub ggsn: u32,
     pub imsi: [u8; 8],
@@ -44,6 +63,8 @@ pub struct Context {
     pub pdptype: u16,
     pub address: u32,
     pub qos: Qos,
+    /// Those of the open record.
+    pub limits: Limits,
     pub uplink: u64,
     pub downlink: u64,
     pub opening: Stamp,
@@ -79,9 +100,8 @@ pub struct Subscriber {
 #[derive(Clone, Copy, Debug, Default, PartialEq, Eq)]
 pub struct Profile {
     pub sgsn: u32,
-    pub volume: u64,
-    pub seconds: u32,
-    pub changes: u8,
+    pub limits: [Limits; SETS],
+    pub sets: u64,
     pub zone: u16,
     pub nodeid: [u8; NODE_ID],
     pub nodelen: u64,
@@ -90,6 +110,8 @@ pub struct Profile {
 #[derive(Clone, Debug, PartialEq, Eq)]
 pub struct Stored {
     pub profile: Profile,
+    /// The sets in force; as many are used as the profile says.
+    pub settings: [LimitSet; SETS],
     pub clock: u32,
     pub accepted: u64,
     pub contexts: [Context; SLOTS],
@@ -100,6 +122,7 @@ pub struct Stored {
 pub const FREE: Context = Context {
     active: 0,
     flags: 0,
+    set: 0,
     id: 0,
     ggsn: 0,
     imsi: [0; 8],
@@ -108,6 +131,7 @@ pub const FREE: Context = Context {
     pdptype: 0,
     address: 0,
     qos: [0; 5],
+    limits: Limits { volume: 0, seconds: 0, changes: 0 },
     uplink: 0,
     downlink: 0,
     opening: Stamp { seconds: 0, zone: 0 },
@@ -126,6 +150,26 @@ pub const FREE: Context = Context {
 /// As much of a length as the octets or places allow.
 pub fn within(length: u64, most: usize) -> usize {
     usize::try_from(length).unwrap_or(most).min(most)
+}
+
+impl Limits {
+    fn view(self) -> limits::Limits {
+        limits::Limits { volume: self.volume, time: self.seconds, changes: self.changes }
+    }
+
+    pub fn store(limits: limits::Limits) -> Limits {
+        Limits { volume: limits.volume, seconds: limits.time, changes: limits.changes }
+    }
+}
+
+impl LimitSet {
+    fn view(self) -> limits::Set {
+        limits::Set { edition: self.edition, limits: self.limits.view() }
+    }
+
+    pub fn store(set: limits::Set) -> LimitSet {
+        LimitSet { edition: set.edition, limits: Limits::store(set.limits) }
+    }
 }
 
 impl Context {
@@ -162,10 +206,12 @@ impl Context {
                 pdp_type: self.pdptype.to_be_bytes(),
                 address: self.address.to_be_bytes(),
                 qos: self.qos,
+                set: self.set,
                 apn: self.apn().to_vec(),
             },
             closed: self.closed,
             opened: self.opening.seconds,
+            limits: self.limits.view(),
             containers: self.used().iter().map(view).collect(),
             changes: self.changes.into(),
             qos: self.qos,
@@ -178,6 +224,7 @@ impl Context {
         let mut stored = Context {
             active: 1,
             flags: context.start.flags,
+            set: context.start.set,
             id: context.name.charging_id,
             ggsn: u32::from_be_bytes(context.name.ggsn),
             imsi: context.start.imsi,
@@ -185,6 +232,7 @@ impl Context {
             pdptype: u16::from_be_bytes(context.start.pdp_type),
             address: u32::from_be_bytes(context.start.address),
             qos: context.qos,
+            limits: Limits::store(context.limits),
             uplink: context.uplink,
             downlink: context.downlink,
             opening: Stamp { seconds: context.opened, zone },
@@ -264,6 +312,7 @@ impl Stored {
     pub fn zero() -> Stored {
         Stored {
             profile: Profile::default(),
+            settings: [LimitSet::default(); SETS],
             clock: 0,
             accepted: 0,
             contexts: [FREE; SLOTS],
@@ -280,6 +329,11 @@ impl Stored {
         (0..SUBSCRIBERS).filter(|at| self.subscribers[*at].active == active).collect()
     }
 
+    /// How many sets of limits are used.
+    pub fn sets(&self) -> usize {
+        within(self.profile.sets, SETS)
+    }
+
     pub fn active(&self) -> impl Iterator<Item = &Context> {
         self.contexts.iter().filter(|c| c.active == 1)
     }
@@ -294,12 +348,11 @@ impl Stored {
         let profile = &self.profile;
         let mut view = node::Node::fresh(profile::Profile {
             sgsn: profile.sgsn.to_be_bytes(),
-            volume_limit: profile.volume,
-            time_limit: profile.seconds,
-            change_limit: profile.changes.into(),
+            limits: profile.limits[..self.sets()].iter().map(|limits| limits.view()).collect(),
             offset: i32::from(profile.zone) - ZONE_OF_ZERO,
             node_id: profile.nodeid[..within(profile.nodelen, NODE_ID)].to_vec(),
         });
+        view.sets = self.settings[..self.sets()].iter().map(|set| set.view()).collect();
         view.clock = self.clock;
         view.accepted = self.accepted;
         let slot = |c: &Context| (c.active == 1).then(|| c.view());
@@ -316,14 +369,19 @@ impl Stored {
         let mut stored = Stored::zero();
         stored.profile = Profile {
             sgsn: u32::from_be_bytes(profile.sgsn),
-            volume: profile.volume_limit,
-            seconds: profile.time_limit,
-            changes: profile.change_limit as u8,
+            limits: [Limits::default(); SETS],
+            sets: profile.limits.len() as u64,
             zone,
             nodeid: [0; NODE_ID],
             nodelen: profile.node_id.len() as u64,
         };
         stored.profile.nodeid[..profile.node_id.len()].copy_from_slice(&profile.node_id);
+        for (place, limits) in stored.profile.limits.iter_mut().zip(&profile.limits) {
+            *place = Limits::store(*limits);
+        }
+        for (place, set) in stored.settings.iter_mut().zip(&node.sets) {
+            *place = LimitSet::store(*set);
+        }
         stored.clock = node.clock;
         stored.accepted = node.accepted;
         for (slot, context) in stored.contexts.iter_mut().zip(&node.slots) {
@@ -378,6 +436,12 @@ fn walk_stamp(walk: &mut impl Walk, stamp: &mut Stamp) {
     number!(walk, "zone", stamp.zone);
 }
 
+fn walk_limits(walk: &mut impl Walk, limits: &mut Limits) {
+    number!(walk, "volume", limits.volume);
+    number!(walk, "seconds", limits.seconds);
+    number!(walk, "changes", limits.changes);
+}
+
 fn walk_container(walk: &mut impl Walk, container: &mut Container) {
     walk.field("qos", &mut container.qos);
     number!(walk, "uplink", container.uplink);
@@ -389,6 +453,7 @@ fn walk_container(walk: &mut impl Walk, container: &mut Container) {
 fn walk_context(walk: &mut impl Walk, context: &mut Context) {
     number!(walk, "active", context.active);
     number!(walk, "flags", context.flags);
+    number!(walk, "set", context.set);
     number!(walk, "id", context.id);
     number!(walk, "ggsn", context.ggsn);
     walk.field("imsi", &mut context.imsi);
@@ -397,6 +462,9 @@ fn walk_context(walk: &mut impl Walk, context: &mut Context) {
     number!(walk, "pdptype", context.pdptype);
     number!(walk, "address", context.address);
     walk.field("qos", &mut context.qos);
+    walk.part(1, "limits", 0);
+    walk_limits(walk, &mut context.limits);
+    walk.part(1, "", 0);
     number!(walk, "uplink", context.uplink);
     number!(walk, "downlink", context.downlink);
     walk_stamp(walk, &mut context.opening);
@@ -432,9 +500,12 @@ fn walk_subscriber(walk: &mut impl Walk, subscriber: &mut Subscriber) {
 
 fn walk_profile(walk: &mut impl Walk, profile: &mut Profile) {
     number!(walk, "sgsn", profile.sgsn);
-    number!(walk, "volume", profile.volume);
-    number!(walk, "seconds", profile.seconds);
-    number!(walk, "changes", profile.changes);
+    for (at, limits) in profile.limits.iter_mut().enumerate() {
+        walk.part(0, "profile's limits", at);
+        walk_limits(walk, limits);
+    }
+    walk.part(0, "", 0);
+    number!(walk, "sets", profile.sets);
     number!(walk, "zone", profile.zone);
     walk.field("nodeid", &mut profile.nodeid);
     number!(walk, "nodelen", profile.nodelen);
@@ -443,6 +514,12 @@ fn walk_profile(walk: &mut impl Walk, profile: &mut Profile) {
 impl Stored {
     pub fn walk(&mut self, walk: &mut impl Walk) {
         walk_profile(walk, &mut self.profile);
+        for (at, set) in self.settings.iter_mut().enumerate() {
+            walk.part(0, "set", at);
+            number!(walk, "edition", set.edition);
+            walk_limits(walk, &mut set.limits);
+        }
+        walk.part(0, "", 0);
         number!(walk, "clock", self.clock);
         number!(walk, "accepted", self.accepted);
         for (at, context) in self.contexts.iter_mut().enumerate() {
@@ -483,7 +560,11 @@ impl Stored {
 }
 
 /// How many octets a node's fields have.
-pub const OCTETS: usize = 47 + 12 + SLOTS * (139 + PLACES * 28) + SUBSCRIBERS * (34 + CHANGES * 9);
+pub const OCTETS: usize = (42 + SETS * 13)
+    + SETS * 15
+    + 12
+    + SLOTS * (153 + PLACES * 28)
+    + SUBSCRIBERS * (34 + CHANGES * 9);
 
 /// What the octet at a place belongs to.
 pub fn field_at(place: usize) -> String {

@@ -86,13 +86,13 @@ pub const UNSEEN: &[Unseen] = &[
         "count-may-meet",
         "the container count may meet the change limit",
         Some("container count"),
-        |n| n.profile.changes = n.profile.changes.saturating_add(1),
+        |n| each(n, |c| c.limits.changes = c.limits.changes.saturating_add(1)),
     ),
     (
         "count-two-below",
         "the container count must be two below the change limit",
         Some("container count"),
-        |n| n.profile.changes = n.profile.changes.max(2) - 1,
+        |n| each(n, |c| c.limits.changes = c.limits.changes.max(2) - 1),
     ),
     ("times-strict", "equal times of two containers are out of order", Some("times"), |n| {
         each(n, |c| {
@@ -134,10 +134,10 @@ pub const UNSEEN: &[Unseen] = &[
         });
     }),
     ("volumes-may-meet", "the sum of volumes may meet the limit", VOLUMES, |n| {
-        n.profile.volume = n.profile.volume.saturating_add(1);
+        each(n, |c| c.limits.volume = c.limits.volume.saturating_add(1));
     }),
     ("volumes-two-below", "the sum of volumes must be two below the limit", VOLUMES, |n| {
-        n.profile.volume = n.profile.volume.max(2) - 1;
+        each(n, |c| c.limits.volume = c.limits.volume.max(2) - 1);
     }),
     ("first-subscriber-unseen", "the first place of a subscriber is not looked at", None, |n| {
         n.subscribers[0] = Subscriber::default();
@@ -199,8 +199,8 @@ pub const UNSEEN: &[Unseen] = &[
             }
         });
     }),
-    ("attached-limit", "the changes must be below the profile's change limit", COUNT, |n| {
-        let limit = u64::from(n.profile.changes);
+    ("attached-limit", "the changes must be below the change limit of set 1", COUNT, |n| {
+        let limit = u64::from(n.settings[0].limits.changes);
         each_subscriber(n, |s| s.count += if s.count >= limit { CHANGES as u64 } else { 0 });
     }),
 ];
