@@ -453,7 +453,7 @@ fn nothing_but_a_sound_node_is_taken() {
         |n| n.profile.limits[1].volume = 0,
         |n| n.profile.limits[1].time = 604_801,
         |n| n.profile.limits[0].changes = 16,
-        |n| drop(n.sets.pop()),
+        |n| n.sets.truncate(1),
         |n| n.sets.push(n.sets[0]),
         |n| (n.sets, n.profile.limits) = (vec![n.sets[0]; 9], vec![PRINTED; 9]),
         |n| open(n).start.set = 0,

@@ -3,8 +3,9 @@
 use crate::batches::pair_refused;
 use crate::cases::{Case, Lent};
 use crate::limits::LIMITS;
+use crate::limits_of_sets::differ;
 use crate::sound::{broken, RULES};
-use crate::stored::{Stored, APN, CHANGES, NODE_ID, PLACES};
+use crate::stored::{LimitSet, Limits, Stored, APN, CHANGES, NODE_ID, PLACES, SETS};
 use charging_model::batch::{Batch, Batched};
 use charging_model::cdr::Cdr;
 use charging_model::event;
@@ -42,6 +43,10 @@ pub struct Counts {
     /// Capitals that were stored, and activations that were accepted.
     capitals: BTreeMap<u8, usize>,
     spelled: BTreeMap<&'static str, usize>,
+    /// Sound nodes by how many sets of limits they have, and what was met of
+    /// these.
+    sets: BTreeMap<usize, usize>,
+    of_sets: BTreeMap<&'static str, usize>,
     /// Octets and places that were not zero and had to be.
     octets: BTreeMap<(&'static str, usize), usize>,
     batches: Batches,
@@ -80,6 +85,15 @@ const SPELLED: [&str; 3] = [
     "activations refused with 5 for the APN",
 ];
 
+const OF_SETS: [&str; 6] = [
+    "sound nodes with an open record whose limits are not its set's",
+    "replacements accepted",
+    "replacements accepted with an open record of the set",
+    "replacements refused with 18",
+    "replacements refused with 5",
+    "activations refused with 18",
+];
+
 const ANSWERS: [u8; 18] = [0, 1, 2, 3, 4, 5, 6, 7, 8, 9, 10, 11, 13, 15, 16, 17, 18, 19];
 const CAUSES: [u8; 7] = [0, 4, 16, 17, 18, 19, 20];
 const M_CAUSES: [u8; 4] = [0, 4, 19, 20];
@@ -102,6 +116,7 @@ impl Counts {
             Lent::Event(event) => {
                 self.add_event(&case.node, answer, done);
                 self.add_apn(event, answer);
+                self.add_sets(&case.node, event, answer);
             }
             Lent::Batch(batch) => self.batches.add(&case.node, batch, answer, done),
         }
@@ -157,8 +172,39 @@ impl Counts {
         met("activations refused with 5 for the APN", answer == 5 && refused);
     }
 
+    /// The sets of a sound node, and the events that name one.
+    fn add_sets(&mut self, node: &Stored, event: &[u8], answer: u8) {
+        if answer == 13 {
+            return;
+        }
+        *self.sets.entry(node.sets()).or_default() += 1;
+        let mut met = |name, when| *self.of_sets.entry(name).or_default() += usize::from(when);
+        let other = node.active().any(|context| differ(node, context));
+        met("sound nodes with an open record whose limits are not its set's", other);
+        if event.len() < event::HEAD || answer < 4 && answer != 0 {
+            return;
+        }
+        let kind = event::kind(event);
+        met("activations refused with 18", answer == 18 && kind == event::ACTIVATE);
+        if kind == event::REPLACE {
+            let of_set = node.active().any(|context| context.set == event::set(event));
+            met("replacements accepted", answer == 0);
+            met("replacements accepted with an open record of the set", answer == 0 && of_set);
+            met("replacements refused with 18", answer == 18);
+            met("replacements refused with 5", answer == 5);
+        }
+    }
+
     fn add_octets(&mut self, node: &Stored) {
         let mut add = |name, at| *self.octets.entry((name, at)).or_default() += 1;
+        for at in node.sets()..SETS {
+            if node.profile.limits[at] != Limits::default() {
+                add("profile's unused limits", at);
+            }
+            if node.settings[at] != LimitSet::default() {
+                add("unused set", at);
+            }
+        }
         let from = node.profile.nodelen.min(NODE_ID as u64) as usize;
         for at in (from..NODE_ID).filter(|at| node.profile.nodeid[*at] != 0) {
             add("node ID's unused octet", at);
@@ -241,12 +287,20 @@ impl Counts {
         for name in SPELLED {
             line(name.into(), of(&self.spelled, name), TIMES);
         }
+        for sets in 1..=SETS {
+            line(format!("sound nodes with {sets} sets"), of(&self.sets, sets), TIMES);
+        }
+        for name in OF_SETS {
+            line(name.into(), of(&self.of_sets, name), TIMES);
+        }
         for edge in *b"AZ" {
             line(format!("{} stored", edge as char), of(&self.capitals, edge), TIMES / 2);
         }
         let least = (b'A'..=b'Z').map(|c| of(&self.capitals, c)).min().unwrap();
         line("or more: a capital stored, each of A..Z".into(), least, 1);
         for (name, from, to) in [
+            ("profile's unused limits", 1, SETS),
+            ("unused set", 1, SETS),
             ("node ID's unused octet", 0, NODE_ID),
             ("APN's unused octet", 1, APN),
             ("unused place", 0, PLACES),

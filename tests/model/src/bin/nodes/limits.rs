@@ -1,5 +1,6 @@
 //! Sound nodes at each limit, with events that go up to it and over it.
 
+use crate::limits_of_sets as sets;
 use crate::runs;
 use crate::sound::record_volume;
 use crate::stored::{Change, Context, Limits, Stamp, Stored, Subscriber, FREE, SLOTS, SUBSCRIBERS};
@@ -9,7 +10,7 @@ use charging_model::clock::LAST_SECOND;
 use charging_model::event::{octets, Name, What};
 use charging_model::node::MOST_ACCEPTED;
 use charging_model::random::Random;
-use charging_model::step::{step, CHANGES, VOLUME};
+use charging_model::step::{step, CHANGES, TIME, VOLUME};
 use charging_model::subscriber::Place;
 
 /// A limit: its name; brings a node to it and says an event, or nothing where
@@ -64,6 +65,42 @@ limits! {
         |n| n.places(0).is_empty(), |_, s| s.answer == 17;
     "one place free" one_place,
         |n| n.places(0).len() == 1, |_, s| s.node.subscribers.iter().all(Option::is_some);
+    "edition 65,535" |n, r| sets::edition(n, r, 65_535),
+        |n| sets::with_edition(n, 65_535) > 0, |_, s| s.answer == 19;
+    "edition 65,534" |n, r| sets::edition(n, r, 65_534),
+        |n| sets::with_edition(n, 65_534) > 0, reaches_last_edition;
+    "one set" |n, r| sets::last_set(n, r, 1), |n| n.profile.sets == 1, |_, s| s.answer == 18;
+    "eight sets" |n, r| sets::last_set(n, r, 8), |n| n.profile.sets == 8, |_, s| s.answer == 18;
+    "own volume = limit - 1, below the set's limit" sets::volume_below,
+        |n| some(n, |c| volume_at(c) && c.limits.volume < sets::set_of(n, c).limits.volume),
+        |_, s| cause(s, VOLUME);
+    "volume at the set's limit, below its own" sets::volume_above,
+        |n| some(n, |c| record_volume(c) >= sets::set_of(n, c).limits.volume.into()), stays_open;
+    "own changes = limit - 1, below the set's limit" sets::changes_below,
+        |n| some(n, |c| changes_at(c) && c.limits.changes < sets::set_of(n, c).limits.changes),
+        |_, s| cause(s, CHANGES);
+    "changes at the set's limit, below their own" sets::changes_above,
+        |n| some(n, |c| c.changes >= sets::set_of(n, c).limits.changes), stays_open;
+    "own time limit below the set's" sets::time_below,
+        |n| some(n, |c| c.limits.seconds < sets::set_of(n, c).limits.seconds),
+        |_, s| cause(s, TIME);
+    "open for the set's time limit, not for its own" sets::time_above,
+        |n| some(n, |c| between_time_limits(n, c)), stays_open;
+}
+
+/// Open as long as the set's limit asks for, but not as its own does.
+fn between_time_limits(node: &Stored, context: &Context) -> bool {
+    let open = node.clock - context.opening.seconds;
+    (sets::set_of(node, context).limits.seconds..context.limits.seconds).contains(&open)
+}
+
+fn stays_open(_: &Stored, done: &Batched) -> bool {
+    done.answer == 0 && done.records.is_empty()
+}
+
+fn reaches_last_edition(node: &Stored, done: &Batched) -> bool {
+    let last = done.node.sets.iter().filter(|set| set.edition == 65_535).count();
+    last > sets::with_edition(node, 65_535)
 }
 
 fn by_changes(record: &Cdr) -> bool {

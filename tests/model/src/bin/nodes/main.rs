@@ -18,6 +18,7 @@ mod counts;
 mod expected;
 mod faults;
 mod limits;
+mod limits_of_sets;
 mod outcomes;
 mod runs;
 mod sound;

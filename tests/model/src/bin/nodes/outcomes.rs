@@ -4,10 +4,10 @@ use crate::cases::{Case, Lent, Outcome, GUARD};
 use crate::expected::{of_sound, refused};
 use crate::faults::Change;
 use crate::sound::is_sound;
-use crate::stored::Stored;
+use crate::stored::{Context, LimitSet, Stored};
 use charging_model::batch::Batch;
 use charging_model::clock::LAST_SECOND;
-use charging_model::event;
+use charging_model::event::{self, What};
 use charging_model::node::MOST_ACCEPTED;
 use charging_model::step;
 
@@ -149,6 +149,76 @@ pub const OUTCOMES: &[(&str, &str, Change)] = &[
             });
         }
     }),
+    ("late-7-of-sets", "7 is answered after 18 and 19", |o, case| {
+        if o.answer == 7 {
+            o.answer = [18, 19].into_iter().find(|number| row(case, *number)).unwrap_or(7);
+        }
+    }),
+    ("sets-clock", "18 and 19 move the clock", |o, case| {
+        if matches!(o.answer, 18 | 19) {
+            o.node = with(case, |node| node.clock = event::time(event(case)));
+        }
+    }),
+    ("sets-counted", "18 and 19 count as accepted events", |o, case| {
+        if matches!(o.answer, 18 | 19) {
+            o.node = with(case, |node| node.accepted += 1);
+        }
+    }),
+    ("sets-refused", "a replacement refused with 19 replaces the set all the same", |o, case| {
+        if o.answer == 19 {
+            let (set, next) = replacement(case);
+            o.node = with(case, |node| node.settings[set] = next);
+        }
+    }),
+    ("last-edition-wraps", "edition 0 follows 65,535", |o, case| {
+        if o.answer == 19 && case.room > 0 {
+            let (set, next) = replacement(case);
+            let wraps = case.node.settings[set].edition == 65_535 && next.edition == 0;
+            o.answer = if wraps { 0 } else { 19 };
+        }
+    }),
+    ("replaced-uncounted", "a replacement does not count as an accepted event", |o, case| {
+        if o.answer == 0 && event::kind(event(case)) == event::REPLACE {
+            after(o, |node| node.accepted = case.node.accepted);
+        }
+    }),
+    ("replaced-open", "a replacement changes the limits of the set's open records", |o, case| {
+        if o.answer == 0 && event::kind(event(case)) == event::REPLACE {
+            let (set, next) = replacement(case);
+            after(o, |node| {
+                let of_set = |c: &&mut Context| c.active == 1 && usize::from(c.set) == set + 1;
+                node.contexts.iter_mut().filter(of_set).for_each(|c| c.limits = next.limits);
+            });
+        }
+    }),
+    ("replaced-given", "a replacement changes the profile too", |o, case| {
+        if o.answer == 0 && event::kind(event(case)) == event::REPLACE {
+            let (set, next) = replacement(case);
+            after(o, |node| node.profile.limits[set] = next.limits);
+        }
+    }),
+    ("next-by-profile", "the next record takes the profile's limits", |o, case| {
+        if o.answer == 0 && o.written > 0 {
+            after(o, |node| {
+                let given = node.profile.limits;
+                for (now, before) in node.contexts.iter_mut().zip(&case.node.contexts) {
+                    if now.active == 1 && now.closed > before.closed {
+                        now.limits = given[usize::from(now.set) - 1];
+                    }
+                }
+            });
+        }
+    }),
+    ("released-set-kept", "a slot that comes free keeps its set", |o, case| {
+        if o.answer == 0 && event::kind(event(case)) == event::RELEASE {
+            freed(o, case, |now, before| now.set = before.set);
+        }
+    }),
+    ("released-limits-kept", "a slot that comes free keeps its limits", |o, case| {
+        if o.answer == 0 && event::kind(event(case)) == event::RELEASE {
+            freed(o, case, |now, before| now.limits = before.limits);
+        }
+    }),
     ("hasty-7", "7 is answered before 6", |o, case| {
         if o.answer == 6 && case.node.accepted == MOST_ACCEPTED {
             o.answer = 7;
@@ -193,6 +263,15 @@ pub const OF_BATCHES: &[(&str, &str, Change)] = &[
     ("batch-subscribers-cleared", "a batch frees the first place of a subscriber", |o, _| {
         if o.applied > 0 {
             after(o, |node| node.subscribers[0] = Default::default());
+        }
+    }),
+    ("batch-limits-kept", "after a closing the next record has the limits before", |o, case| {
+        if o.written > 0 {
+            after(o, |node| {
+                for (now, before) in node.contexts.iter_mut().zip(&case.node.contexts) {
+                    now.limits = before.limits;
+                }
+            });
         }
     }),
     ("batch-odd-clock", "14 moves the clock", |o, case| {
@@ -312,6 +391,23 @@ fn after(outcome: &mut Outcome, change: impl Fn(&mut Stored)) {
     let mut node = Stored::of_octets(&outcome.node);
     change(&mut node);
     outcome.node = node.octets();
+}
+
+/// The slots that an event has freed, with what they were.
+fn freed(outcome: &mut Outcome, case: &Case, change: impl Fn(&mut Context, &Context)) {
+    after(outcome, |node| {
+        for (now, before) in node.contexts.iter_mut().zip(&case.node.contexts) {
+            if now.active == 0 && before.active == 1 {
+                change(now, before);
+            }
+        }
+    });
+}
+
+/// The place of the set that a replacement names, and what it puts there.
+fn replacement(case: &Case) -> (usize, LimitSet) {
+    let What::Replace(set, next) = event::what(event(case)) else { panic!("no replacement") };
+    (usize::from(set) - 1, LimitSet::store(next))
 }
 
 /// The case with another accepted count.

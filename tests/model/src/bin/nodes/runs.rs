@@ -223,6 +223,18 @@ fn next_limits(random: &mut Random, node: &Node, set: u8) -> Limits {
     }
 }
 
+/// One limit is zero or one too high.
+fn out_of_range(random: &mut Random, limits: &mut Limits) {
+    match random.below(6) {
+        0 => limits.volume = 0,
+        1 => limits.volume = MOST_VOLUME + 1,
+        2 => limits.time = 0,
+        3 => limits.time = MOST_TIME + 1,
+        4 => limits.changes = 0,
+        _ => limits.changes = MOST_CHANGES + 1,
+    }
+}
+
 /// A replacement, most of them of a set that the node has by its next edition.
 pub fn replacement(random: &mut Random, node: &Node) -> What {
     let set = set(random, node.sets.len(), 10);
@@ -235,7 +247,10 @@ pub fn replacement(random: &mut Random, node: &Node) -> What {
         4 => now.wrapping_add(1) ^ 0x100,
         _ => now.wrapping_add(1),
     };
-    let limits = next_limits(random, node, set);
+    let mut limits = next_limits(random, node, set);
+    if random.percent(8) {
+        out_of_range(random, &mut limits);
+    }
     What::Replace(set, Set { edition, limits })
 }
 
@@ -490,14 +505,11 @@ fn spoil_field(random: &mut Random, event: &mut Vec<u8>, kind: u8) {
             let digits = random.pick(&[0, 5, 16]);
             event[7..15].copy_from_slice(&imsi(random, digits));
         }
-        event::REPLACE if event.len() == 23 => match random.below(6) {
-            0 => event[10..18].fill(0),
-            1 => event[10..18].copy_from_slice(&(MOST_VOLUME + 1).to_be_bytes()),
-            2 => event[18..22].fill(0),
-            3 => event[18..22].copy_from_slice(&(MOST_TIME + 1).to_be_bytes()),
-            4 => event[22] = 0,
-            _ => event[22] = random.pick(&[16, 128, 255]),
-        },
+        event::REPLACE if event.len() == 23 => {
+            let What::Replace(set, mut next) = event::what(event) else { return };
+            out_of_range(random, &mut next.limits);
+            *event = octets(event::time(event), &What::Replace(set, next));
+        }
         event::RELEASE if event.len() == 16 => event[15] = random.pick(&[1, 16, 17, 255]),
         event::ACTIVATE if event.len() > 37 => match random.below(6) {
             0 => event[15] = 4,

@@ -4,8 +4,8 @@
 use crate::faults::See;
 use crate::sound::record_volume;
 use crate::stored::{
-    within, Change, Container, Context, Place, Stored, Subscriber, CHANGES, FREE, NODE_ID, PLACES,
-    SLOTS, SUBSCRIBERS,
+    within, Change, Container, Context, LimitSet, Limits, Place, Stored, Subscriber, CHANGES, FREE,
+    NODE_ID, PLACES, SETS, SLOTS, SUBSCRIBERS,
 };
 
 /// A name, what is wrong, the rule that sees so (or every one), and what it
@@ -139,6 +139,85 @@ pub const UNSEEN: &[Unseen] = &[
     ("volumes-two-below", "the sum of volumes must be two below the limit", VOLUMES, |n| {
         each(n, |c| c.limits.volume = c.limits.volume.max(2) - 1);
     }),
+    ("count-by-set", "containers are counted against the set's change limit", COUNTED, |n| {
+        by_set(n, |own, set| own.changes = set.changes);
+    }),
+    ("count-by-profile", "containers are counted against the profile's limit", COUNTED, |n| {
+        by_profile(n, |own, given| own.changes = given.changes);
+    }),
+    ("volumes-by-set", "volumes are summed against the set's volume limit", VOLUMES, |n| {
+        by_set(n, |own, set| own.volume = set.volume);
+    }),
+    ("volumes-by-profile", "volumes are summed against the profile's limit", VOLUMES, |n| {
+        by_profile(n, |own, given| own.volume = given.volume);
+    }),
+    ("own-limits-unseen", "the limits of an open record must be its set's", OWN, |n| {
+        by_set(n, |own, set| {
+            if *own != *set {
+                *own = Limits::default();
+            }
+        });
+    }),
+    ("own-limits-of-set", "the set's limits are looked at, not the record's own", OWN, |n| {
+        by_set(n, |own, set| *own = *set);
+    }),
+    ("set-0-seen-as-1", "a context's set 0 is seen as 1", OF_SET, |n| {
+        each(n, |c| c.set = c.set.max(1));
+    }),
+    ("set-after-last", "a context's set may be the one after the last", OF_SET, |n| {
+        n.profile.sets = n.profile.sets.saturating_add(1);
+    }),
+    ("set-of-eight", "a context's set may be any up to 8", OF_SET, |n| n.profile.sets = 8),
+    ("set-below-last", "a context's set may not be the last", OF_SET, |n| {
+        n.profile.sets = n.profile.sets.saturating_sub(1);
+    }),
+    ("first-set-unseen", "set 1 is not looked at", None, |n| {
+        if n.sets() > 0 {
+            n.settings[0] = GOOD_SET;
+        }
+    }),
+    ("last-set-unseen", "the last of several sets is not looked at", None, |n| {
+        if n.sets() > 1 {
+            n.settings[n.sets() - 1] = GOOD_SET;
+        }
+    }),
+    ("given-first-unseen", "the profile's first limits are not looked at", None, |n| {
+        if n.sets() > 0 {
+            n.profile.limits[0] = GOOD_SET.limits;
+        }
+    }),
+    ("given-last-unseen", "the profile's last limits are not looked at", None, |n| {
+        if n.sets() > 1 {
+            n.profile.limits[n.sets() - 1] = GOOD_SET.limits;
+        }
+    }),
+    ("unused-first-unseen", "the first set that is not used is not looked at", None, |n| {
+        if n.sets() < SETS {
+            n.settings[n.sets()] = LimitSet::default();
+        }
+    }),
+    ("unused-last-unseen", "the eighth set is not looked at where it is not used", None, |n| {
+        if n.sets() < SETS {
+            n.settings[SETS - 1] = LimitSet::default();
+        }
+    }),
+    (
+        "given-unused-unseen",
+        "the profile's eighth limits, not used, are not looked at",
+        None,
+        |n| {
+            if n.sets() < SETS {
+                n.profile.limits[SETS - 1] = Limits::default();
+            }
+        },
+    ),
+    ("edition-of-profile", "a set of edition 1 must be the profile's", Some("sets"), |n| {
+        for (set, given) in n.settings.iter_mut().zip(&n.profile.limits) {
+            if set.edition == 1 && set.limits != *given {
+                set.limits = Limits::default();
+            }
+        }
+    }),
     ("first-subscriber-unseen", "the first place of a subscriber is not looked at", None, |n| {
         n.subscribers[0] = Subscriber::default();
     }),
@@ -205,6 +284,14 @@ pub const UNSEEN: &[Unseen] = &[
     }),
 ];
 
+const COUNTED: Option<&str> = Some("container count");
+const OWN: Option<&str> = Some("record's limits");
+const OF_SET: Option<&str> = Some("context's set");
+
+/// Limits that break nothing.
+const GOOD_SET: LimitSet =
+    LimitSet { edition: 1, limits: Limits { volume: 1, seconds: 1, changes: 1 } };
+
 const CHARACTERS: Option<&str> = Some("APN's characters");
 
 const CLOSED: Option<&str> = Some("subscriber's closed records");
@@ -216,6 +303,26 @@ const VOLUMES: Option<&str> = Some("volumes");
 
 fn each(node: &mut Stored, change: impl Fn(&mut Context)) {
     node.contexts.iter_mut().filter(|c| c.active == 1).for_each(change);
+}
+
+/// The own limits of each open record, with those of its set that are in force.
+fn by_set(node: &mut Stored, change: impl Fn(&mut Limits, &Limits)) {
+    let settings = node.settings;
+    each(node, |c| {
+        if let Some(set) = settings.get(usize::from(c.set).wrapping_sub(1)) {
+            change(&mut c.limits, &set.limits);
+        }
+    });
+}
+
+/// The same with those that the profile gave.
+fn by_profile(node: &mut Stored, change: impl Fn(&mut Limits, &Limits)) {
+    let given = node.profile.limits;
+    each(node, |c| {
+        if let Some(limits) = given.get(usize::from(c.set).wrapping_sub(1)) {
+            change(&mut c.limits, limits);
+        }
+    });
 }
 
 fn each_subscriber(node: &mut Stored, change: impl Fn(&mut Subscriber)) {
