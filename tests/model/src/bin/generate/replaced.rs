@@ -166,8 +166,9 @@ impl Run {
             |set, edition, limits| octets(time, &What::Replace(set, Set { edition, limits }));
         let next = edition.wrapping_add(1);
         let mut events = Vec::new();
-        for edition in [0, edition, next.wrapping_add(1), next ^ 0x100, next.swap_bytes(), 65_535] {
-            events.push(with(set, edition, plain));
+        let (lower, higher) = (edition.wrapping_sub(1), next.wrapping_add(1));
+        for other in [0, lower, edition, higher, next ^ 0x100, next.swap_bytes(), 65_535] {
+            events.push(with(set, other, plain));
         }
         for set in [0, self.node.sets.len() as u8 + 1, 255] {
             events.push(with(set, next, plain));

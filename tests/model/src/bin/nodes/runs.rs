@@ -248,7 +248,7 @@ pub fn replacement(random: &mut Random, node: &Node) -> What {
         _ => now.wrapping_add(1),
     };
     let mut limits = next_limits(random, node, set);
-    if random.percent(8) {
+    if random.percent(15) {
         out_of_range(random, &mut limits);
     }
     What::Replace(set, Set { edition, limits })
