@@ -3,8 +3,8 @@
 use crate::breaks::{above, done, edge, some, some16, some32, some64, used};
 use crate::limits::set_zone;
 use crate::runs::{any_limits, node_id_character};
-use crate::sound::Range;
-use crate::stored::{within, LimitSet, Limits, Stored, FREE, NODE_ID, SETS, SLOTS};
+use crate::sound::{record_volume, Range};
+use crate::stored::{within, LimitSet, Limits, Stored, FREE, NODE_ID, PLACES, SETS, SLOTS};
 use charging_model::random::Random;
 
 // ---- offset and node ID ----
@@ -105,6 +105,26 @@ pub fn edition(node: &mut Stored, random: &mut Random) -> Option<()> {
 pub fn record(node: &mut Stored, random: &mut Random, range: Range) -> Option<()> {
     let context = used(node, random)?;
     done(wrong(random, &mut context.limits, range))
+}
+
+/// A record's own change limit is met, and that of its set is not.
+pub fn count_at_own(node: &mut Stored, random: &mut Random) -> Option<()> {
+    let context = used(node, random)?;
+    let (set, count) = (usize::from(context.set).checked_sub(1)?, context.used().len());
+    if count == 0 || count == PLACES {
+        return None;
+    }
+    context.limits.changes = count as u8;
+    done(node.settings.get_mut(set)?.limits.changes = count as u8 + 1)
+}
+
+/// The same of its volume limit.
+pub fn volumes_at_own(node: &mut Stored, random: &mut Random) -> Option<()> {
+    let context = used(node, random)?;
+    let set = usize::from(context.set).checked_sub(1)?;
+    let volume = u64::try_from(record_volume(context)).ok().filter(|volume| *volume > 0)?;
+    context.limits.volume = volume;
+    done(node.settings.get_mut(set)?.limits.volume = volume.checked_add(1)?)
 }
 
 // ---- sets that are not used ----

@@ -122,6 +122,7 @@ breakers! {
     "change count" "whole" change_count;
     "change count" "whole" count_high;
     "container count" "whole" container_count;
+    "container count" "whole" profile::count_at_own;
     "conditions" "whole" condition;
     "times" "opening, container" opening_late;
     "times" "container, container" container_late;
@@ -135,6 +136,7 @@ breakers! {
     "QoS between containers" "other after 1, running" other_running;
     "volumes" "whole" volumes;
     "volumes" "whole" volumes_wrap;
+    "volumes" "whole" profile::volumes_at_own;
     "attached" "whole" subscribers::attached;
     "free place" "imsi" subscribers::free_imsi;
     "free place" "opening's lac" |n, r| done(subscribers::free(n, r)?.place.lac = some16(r));

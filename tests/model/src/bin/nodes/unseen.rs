@@ -142,12 +142,44 @@ pub const UNSEEN: &[Unseen] = &[
     ("count-by-set", "containers are counted against the set's change limit", COUNTED, |n| {
         by_set(n, |own, set| own.changes = set.changes);
     }),
+    (
+        "count-by-higher",
+        "the higher of the record's and the set's change limit counts",
+        COUNTED,
+        |n| {
+            by_set(n, |own, set| own.changes = own.changes.max(set.changes));
+        },
+    ),
+    (
+        "count-by-lower",
+        "the lower of the record's and the set's change limit counts",
+        COUNTED,
+        |n| {
+            by_set(n, |own, set| own.changes = own.changes.min(set.changes));
+        },
+    ),
     ("count-by-profile", "containers are counted against the profile's limit", COUNTED, |n| {
         by_profile(n, |own, given| own.changes = given.changes);
     }),
     ("volumes-by-set", "volumes are summed against the set's volume limit", VOLUMES, |n| {
         by_set(n, |own, set| own.volume = set.volume);
     }),
+    (
+        "volumes-by-higher",
+        "the higher of the record's and the set's volume limit counts",
+        VOLUMES,
+        |n| {
+            by_set(n, |own, set| own.volume = own.volume.max(set.volume));
+        },
+    ),
+    (
+        "volumes-by-lower",
+        "the lower of the record's and the set's volume limit counts",
+        VOLUMES,
+        |n| {
+            by_set(n, |own, set| own.volume = own.volume.min(set.volume));
+        },
+    ),
     ("volumes-by-profile", "volumes are summed against the profile's limit", VOLUMES, |n| {
         by_profile(n, |own, given| own.volume = given.volume);
     }),
