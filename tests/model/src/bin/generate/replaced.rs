@@ -36,6 +36,14 @@ impl Run {
         (one.min(other).min(most - 1), one.max(other).min(most))
     }
 
+    /// From the lower to the higher, or the other way.
+    fn either_way(&mut self, low: u64, high: u64) -> (u64, u64) {
+        match self.random.percent(50) {
+            true => (low, high),
+            false => (high, low),
+        }
+    }
+
     /// A set, a context whose open record has the first limits, and the set
     /// replaced by the second; seldom by others before.
     fn replaced_while_open(&mut self, first: Limits, second: Limits) -> Option<Name> {
@@ -66,10 +74,7 @@ impl Run {
         let (low, high) = self.two(REPORT);
         let others = any_limits(&mut self.random);
         let with = |volume| Limits { volume, ..others };
-        let (first, second) = match self.random.percent(50) {
-            true => (low, high),
-            false => (high, low),
-        };
+        let (first, second) = self.either_way(low, high);
         let Some(name) = self.replaced_while_open(with(first), with(second)) else { return };
         for sum in [low - 1, low, high - 1, high, low - 1, low, high] {
             self.report_up_to(name, sum);
@@ -81,10 +86,7 @@ impl Run {
         let (low, high) = self.two(MOST_CHANGES.into());
         let others = Limits { volume: MOST_VOLUME, ..any_limits(&mut self.random) };
         let with = |changes| Limits { changes: changes as u8, ..others };
-        let (first, second) = match self.random.percent(50) {
-            true => (low, high),
-            false => (high, low),
-        };
+        let (first, second) = self.either_way(low, high);
         let Some(name) = self.replaced_while_open(with(first), with(second)) else { return };
         for _ in 0..low + high + 1 {
             if self.node.find(name).is_none() {
@@ -106,10 +108,7 @@ impl Run {
         let (low, high) = self.two(most);
         let others = any_limits(&mut self.random);
         let with = |time| Limits { time: time as u32, ..others };
-        let (first, second) = match self.random.percent(50) {
-            true => (low, high),
-            false => (high, low),
-        };
+        let (first, second) = self.either_way(low, high);
         let Some(name) = self.replaced_while_open(with(first), with(second)) else { return };
         for open in [low - 1, low, high - 1, high, low - 1, low, high] {
             if self.node.find(name).is_none() {
@@ -126,10 +125,7 @@ impl Run {
         let (low, high) = self.two(REPORT);
         let others = any_limits(&mut self.random);
         let with = |volume| Limits { volume, ..others };
-        let (first, second) = match self.random.percent(50) {
-            true => (low, high),
-            false => (high, low),
-        };
+        let (first, second) = self.either_way(low, high);
         let Some(name) = self.replaced_while_open(with(first), with(second)) else { return };
         let mut volumes = Vec::new();
         for sum in [low, high - low, low, high - low, second - 1, 1] {

@@ -3,7 +3,7 @@
 
 use crate::profiles::any_limits;
 use crate::run::Run;
-use charging_model::event::{Name, What};
+use charging_model::event::{self, Name, Start, What};
 use charging_model::limits::{Limits, Set, MOST_CHANGES, MOST_TIME, MOST_VOLUME};
 use charging_model::node::{Context, SLOTS};
 
@@ -118,7 +118,7 @@ impl Run {
         }
         self.replace_by(set, limits);
         let name = self.free_name();
-        let start = charging_model::event::Start { set, ..self.start() };
+        let start = Start { set, ..self.start() };
         self.say(What::Activate(name, Box::new(start)));
         self.node.find(name).map(|_| name)
     }
@@ -165,12 +165,11 @@ impl Run {
 
     /// A set or an edition that is refused.
     pub fn spoil_set(&mut self, event: &mut [u8]) {
-        use charging_model::event::{kind, set, ACTIVATE, REPLACE};
-        match kind(event) {
-            ACTIVATE => event[35] = self.unknown_set(),
-            REPLACE if self.random.percent(40) => event[7] = self.unknown_set(),
-            REPLACE => {
-                let edition = self.other_edition(set(event));
+        match event::kind(event) {
+            event::ACTIVATE => event[35] = self.unknown_set(),
+            event::REPLACE if self.random.percent(40) => event[7] = self.unknown_set(),
+            event::REPLACE => {
+                let edition = self.other_edition(event::set(event));
                 event[8..10].copy_from_slice(&edition.to_be_bytes());
             }
             _ => {}
