@@ -23,7 +23,7 @@ use Rattle.history.specs.Log.{Said}
 use Rattle.node.specs.declared.Node.{Node}
 use Rattle.node.specs.declared.Message.{Message}
 use Rattle.node.specs.Sound.{sound, latest, mostAccepted}
-use Rattle.node.specs.Step.{Words, handling, subscribing, slots, places, output, saidOf, refusals, stepOf}
+use Rattle.node.specs.Step.{Words, handling, subscribing, slots, places, output, saidOf, unknownSet, otherEdition, refusals, stepOf}
 use Rattle.history.specs.Table.{notActive, isActive, allTaken}
 use Rattle.node.specs.Held.{Octets, Held}
 use Rattle.node.specs.Batch.{Done, pairsOf, reportsOf, oneByOne, listRefusals, batchBy, batchOf}
@@ -176,8 +176,10 @@ module _ (n : Node) (s b : List ℕ) (m : Name) (up down : ℕ) (told : eventOf 
   of-traffic = row 13 (not (sound n)) ∷ row 14 false ∷ row 6 (ltb latest (timeOf s) || ltb (timeOf s) (n .clock)) ∷ row 7 (leb mostAccepted (n .accepted))
       ∷ row 8 (notActive (handling (n .profile)) (w .contexts) (slots n)) ∷ row 11 (ltb (length b) (length (output n (timeOf s) w))) ∷ []
 
-  -- nor as one for a subscriber is
+  -- nor as one for a set of limits, or for a subscriber, is
   record Passes : Type 0 where
+    set : unknownSet (n .profile .sets) (w .set) ≡ false
+    edition : otherEdition (n .settings) (w .replaces) ≡ false
     new : isActive (handling (n .profile)) (w .contexts) (slots n) ≡ false
     room : allTaken (handling (n .profile)) (w .contexts) (slots n) ≡ false
     attached : notActive (subscribing (n .profile)) (w .subscribers) (places n) ≡ false
@@ -185,12 +187,12 @@ module _ (n : Node) (s b : List ℕ) (m : Name) (up down : ℕ) (told : eventOf 
     vacant : allTaken (subscribing (n .profile)) (w .subscribers) (places n) ≡ false
 
   passes : Passes
-  unfolding notActive isActive allTaken
-  passes = record { new = rw told; room = rw told; attached = rw told; detached = rw told; vacant = rw told }
+  unfolding unknownSet otherEdition notActive isActive allTaken
+  passes = record { set = rw told; edition = rw told; new = rw told; room = rw told; attached = rw told; detached = rw told; vacant = rw told }
 
   later-rows : firstFit (row 13 (not (sound n)) ∷ laterRows n (timeOf s) w b) ≡ firstFit of-traffic
   unfolding firstFit laterRows tableRows
-  later-rows = rw (passes .new, passes .room, passes .attached, passes .detached, passes .vacant)
+  later-rows = rw (passes .set, passes .edition, passes .new, passes .room, passes .attached, passes .detached, passes .vacant)
 
   rows-first : firstFit (rows s) ≡ 0
       → firstFit (row 13 (not (sound n)) ∷ (rows s ++ laterRows n (timeOf s) w b)) ≡ firstFit (row 13 (not (sound n)) ∷ laterRows n (timeOf s) w b)

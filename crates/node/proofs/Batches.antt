@@ -10,6 +10,7 @@ use lib.Seq.{set-getD}
 use borrow.Author.Tests.{eqb-true, eqb-false, leb-true, leb-false, ltb-true, ltb-false, le-leb, ne-eqb, le-ltb}
 use Rattle.format.proofs.Tests.{by, both}
 use Rattle.profile.specs.Profile.{profileOk}
+use Rattle.limits.specs.Sets.{setsOk}
 use Rattle.event.specs.declared.Name.{Name}
 use Rattle.event.specs.declared.Event.the-variants as E
 use Rattle.event.specs.declared.Decoded.the-variants as D
@@ -87,7 +88,7 @@ module _ (n : Node) (m : Name) (t : ℕ) (vs b : List ℕ) (h : Held n) (tl : Wo
 
   -- the first pair's event, as the node takes it
   task : (u d : ℕ) → Word u → Word d → sound n ≡ true
-      → Tasked n (trafficEvent m t u d) b (timelyTask (n .clock) (n .accepted) (map slotOf (n .contexts)) (map imsiSlot (n .subscribers)) t (E.Traffic m u d))
+      → Tasked n (trafficEvent m t u d) b (timelyTask (n .profile .sets) (n .settings) (n .clock) (n .accepted) (map slotOf (n .contexts)) (map imsiSlot (n .subscribers)) t (E.Traffic m u d))
   unfolding taskFor
   task u d ul dl ok =
       let s = traffic-said m t u d (omega (arith, tl)) (omega (arith, id)) (omega (arith, ggsn)) (omega (arith, ul)) (omega (arith, dl)) in
@@ -179,18 +180,19 @@ module _ {n : Node} {m : Name} {t : ℕ} {vs b : List ℕ} {h : Held n} {tl : Wo
         let c = getD (n .contexts) i d in
         eqb-true (c .active) 1 (both (taken c) _ (first-passes (named-at (n .contexts) m (k .found)) d) .0)
 
-    pub listens : Listens (n .profile) (n .clock) (n .accepted) (getD (n .contexts) i d) t
+    pub listens : Listens (n .profile) (n .settings) (n .clock) (n .accepted) (getD (n .contexts) i d) t
     listens =
         let c = getD (n .contexts) i d in
         let r = rules n (k .sound) in
-        let s = asks-at (slots-ask (n .profile .limits) (n .profile .zone) (n .clock) (n .accepted)) (n .contexts) i d (r .slots) place in
+        let s = asks-at (slots-ask (n .profile .sets) (n .profile .zone) (n .clock) (n .accepted)) (n .contexts) i d (r .slots) place in
         record {
           profile = r .profile;
+          sets = r .sets;
           since = k .since;
           until = k .until;
           few = omega (arith, k .few);
           active = active;
-          sound = sym (slot-active (n .profile .limits) (n .profile .zone) (n .clock) (n .accepted) c active) ∙ s;
+          sound = sym (slot-active (n .profile .sets) (n .profile .zone) (n .clock) (n .accepted) c active) ∙ s;
           shape = all-at Shaped (n .contexts) (shapes (n .contexts) (h .contexts)) i d place;
         }
 
@@ -202,7 +204,7 @@ module _ {n : Node} {m : Name} {t : ℕ} {vs b : List ℕ} {h : Held n} {tl : Wo
     seated-first =
         let a : n .accepted + 0 ≡ n .accepted = omega arith in
         let c = set-getD (n .contexts) i d in
-        λ j. record { profile = n .profile; clock = n .clock; accepted = a j; contexts = c j; subscribers = n .subscribers }
+        λ j. record { profile = n .profile; settings = n .settings; clock = n .clock; accepted = a j; contexts = c j; subscribers = n .subscribers }
 
     id-four : m .id < 256 ^ 4
     id-four = omega (arith, id)
@@ -214,15 +216,15 @@ module _ {n : Node} {m : Name} {t : ℕ} {vs b : List ℕ} {h : Held n} {tl : Wo
     good-first = record { whole = rw seated-first (record { sound = k .sound; held = h }); name = refl; since = k .since }
 
     -- what comes of the slot is what the list's events do one by one
-    seated-all : oneByOne stepOf (seated n i seat) (reportsOf m t vs) b ≡ throughAll (seated n i) (oneByOne (seatStep (n .profile) t) seat (pairsOf vs) b)
+    seated-all : oneByOne stepOf (seated n i seat) (reportsOf m t vs) b ≡ throughAll (seated n i) (oneByOne (seatStep (n .profile) (n .settings) t) seat (pairsOf vs) b)
     seated-all =
-        alike (seated n i) stepOf (seatStep (n .profile) t) (event n i t d m (k .until) id-four ggsn-four place (k .found))
+        alike (seated n i) stepOf (seatStep (n .profile) (n .settings) t) (event n i t d m (k .until) id-four ggsn-four place (k .found))
         (Good n i t d m (k .until) id-four ggsn-four place (k .found)) (Fine n i t d m (k .until) id-four ggsn-four place (k .found))
         (same n i t d m (k .until) id-four ggsn-four place (k .found)) (kept n i t d m (k .until) id-four ggsn-four place (k .found))
         (pairsOf vs) seat b good-first (pairs-fine vs w)
 
     pub batches-told : {b′ : List ℕ} {answer applied written a c l : ℕ} {x : Context} {n′ : Node}
-        → Tells (n .profile) (n .clock) (n .accepted) (getD (n .contexts) i d) t vs b b′ answer applied x written
+        → Tells (n .profile) (n .settings) (n .clock) (n .accepted) (getD (n .contexts) i d) t vs b b′ answer applied x written
         → (a ≡ answer) × ((c ≡ applied) × ((n′ ≡ moved n i t applied x) × (l ≡ written))) → Batches n m t vs b b′ a c n′ l
     batches-told {b′} {answer} {applied} {written} {x = x} y e =
         let first : oneByOne stepOf (seated n i seat) (reportsOf m t vs) b ≡ oneByOne stepOf n (reportsOf m t vs) b
@@ -236,9 +238,9 @@ module _ {n : Node} {m : Name} {t : ℕ} {vs b : List ℕ} {h : Held n} {tl : Wo
 
 pub means-by : (n : Node) (m : Name) (t : ℕ) (vs b : List ℕ) (h : Held n) (tl : Word t) (id : Word (m .id)) (ggsn : Word (m .ggsn)) (w : All Word vs)
     {names : List Slot} {imsis : List N.Slot} {good fine ok : Bool} {k : Reports}
-    → (names ≡ map slotOf (n .contexts)) × (good ≡ slotsOk (n .profile .limits) (n .profile .zone) (n .clock) (n .accepted) (n .contexts))
+    → (names ≡ map slotOf (n .contexts)) × (good ≡ slotsOk (n .profile .sets) (n .profile .zone) (n .clock) (n .accepted) (n .contexts))
     → (imsis ≡ map imsiSlot (n .subscribers)) × (fine ≡ subscribersOk (n .profile .zone) (n .clock) (n .accepted) (n .subscribers))
-    → ok ≡ (profileOk (n .profile) && leb (n .clock) latest && leb (n .accepted) mostAccepted && distinct names && good && keys.distinct imsis && fine)
+    → ok ≡ (profileOk (n .profile) && setsOk (n .profile .sets) (n .settings .sets) && leb (n .clock) latest && leb (n .accepted) mostAccepted && distinct names && good && keys.distinct imsis && fine)
     → k ≡ reportsFor ok (n .clock) (n .accepted) names m t (length vs) → Means n m t vs b h tl id ggsn w k
 means-by n m t vs b h tl id ggsn w {ok = ok} looked noted e q =
     let s : sound n ≡ ok = is-sound n looked noted e in

@@ -2,6 +2,7 @@
 use mathlib.Core.Path.{_≡_, refl, sym, ap, _∙_}
 use mathlib.Core.Bool.{true, false}
 use mathlib.Core.List.{List, [], _∷_}
+use mathlib.Core.Option.{Option, none, some}
 use Prim.Native.Nat.{ℕ, zero, suc, _+_, _-_, _^_, _≤_, _<_}
 use native.Mathlib.Omega.{arith}
 use lib.ListN.{length, getD}
@@ -20,16 +21,19 @@ use Rattle.octets.proofs.Lowered.{lowered-length}
 use Rattle.octets.proofs.Checked.{lowered-stored}
 use Rattle.container.proofs.Padded.{padded-length}
 use Rattle.profile.specs.declared.Profile.{Profile}
-use Rattle.profile.specs.Profile.{profileOk}
+use Rattle.limits.specs.Limits.{limitsOk}
+use Rattle.limits.specs.Sets.{hasSet, setsOk}
+use Rattle.limits.proofs.Numbers.{limits-in-range}
 use Rattle.event.specs.declared.Name.{Name}
 use Rattle.event.specs.declared.Activation.{Activation}
+use Rattle.event.specs.declared.Replacement.{Replacement}
 use Rattle.event.specs.declared.Event.{Event}
 use Rattle.event.specs.declared.Event.the-variants as E
 use Rattle.event.specs.declared.Decoded.the-variants as D
 use Rattle.event.specs.Event.{decoded}
 use Rattle.event.proofs.Numbers.{number-more}
 use Rattle.event.specs.Fields.{spellingOf, lacOf, racOf, detach}
-use Rattle.event.proofs.Theorems.{activated as activate-in, reported as reports, qos-changed, released, attached as attach-in, located as moved-in, detached}
+use Rattle.event.proofs.Theorems.{activated as activate-in, reported as reports, qos-changed, released, attached as attach-in, located as moved-in, detached, replaced as replaced-in}
 use Rattle.mcdr.specs.declared.Place.{Place}
 use Rattle.mcdr.specs.Change.{placeOk}
 use Rattle.mcdr.specs.Rules as mm
@@ -41,12 +45,12 @@ use Rattle.context.specs.Sound.{contextOk}
 use Rattle.context.proofs.Sounds.{good-is}
 use Rattle.history.specs.Log.{activates, tells, tellsAll, nothing}
 use Rattle.node.specs.declared.Message.{Message}
+use Rattle.node.specs.declared.Settings.{Settings}
 use Rattle.node.specs.Step.{Brought, broughtBy, Attached, ToContexts, ToSubscribers, Words, takes, activated}
 use Rattle.node.specs.Meaning.{report, tariffChange, tick, placeWith, meaningOf}
 use Rattle.node.specs.Private.Premises.{InRange, ReportFits}
 use Rattle.node.specs.Private.Task.{MeaningInRange}
 use Rattle.node.specs.Held.{Octets, HeldContext}
-use Rattle.node.proofs.Fits.{fit}
 
 -- ---- numbers in octets
 
@@ -75,11 +79,11 @@ pub record Brings (m : Name) (b : Brought) : Type 0 where
   pub address : b .address < 2 ^ 32
 
 -- Of what is said to contexts, and to subscribers.
-abbrev pub AllInRange : ToContexts → Type 0
-AllInRange (activates m b) = Brings m (b tt)
-AllInRange (tells m h) = InRange h × ReportFits h
-AllInRange (tellsAll h) = InRange h × ReportFits h
-AllInRange nothing = Unit {0}
+abbrev pub AllInRange : Settings → ToContexts → Type 0
+AllInRange gs (activates m b) = Brings m (b gs)
+AllInRange gs (tells m h) = InRange h × ReportFits h
+AllInRange gs (tellsAll h) = InRange h × ReportFits h
+AllInRange gs nothing = Unit {0}
 
 -- what an attach of this name must bring
 pub record Comes (k : ℕ) (a : Attached) : Type 0 where
@@ -93,9 +97,15 @@ NoticesInRange (tells k m) = (noticeOk m ≡ true) × (noticeHeld m ≡ true)
 NoticesInRange (tellsAll m) = ⊥
 NoticesInRange nothing = Unit {0}
 
-pub record Fair (w : Words) : Type 0 where
-  pub contexts : AllInRange (w .contexts)
+-- what replaces a set has limits in range
+abbrev pub ReplacesInRange : Option Replacement → Type 0
+ReplacesInRange none = Unit {0}
+ReplacesInRange (some r) = limitsOk (r .limits) ≡ true
+
+pub record Fair (gs : Settings) (w : Words) : Type 0 where
+  pub contexts : AllInRange gs (w .contexts)
   pub subscribers : NoticesInRange (w .subscribers)
+  pub replaces : ReplacesInRange (w .replaces)
 
 -- what each kind of event in range is to a context
 differ : true ≡ false → ⊥
@@ -146,6 +156,7 @@ fair-meaning s (E.Attach k l r) d = tt
 fair-meaning s (E.Location k l r) d = moved-ok (placeWith l r)
 fair-meaning s (E.ManageSubscriber k) d = managed-ok
 fair-meaning s (E.Detach k c) d = detached-ok c (detached s d)
+fair-meaning s (E.Replace r) d = tt
 
 small : {m : Message} → m .up ≡ 0 → m .down ≡ 0 → ReportFits m
 small u d = record { up = omega arith; down = omega arith }
@@ -168,8 +179,8 @@ detached-held : (c : ℕ) → noticeHeld (Detached c) ≡ true
 unfolding noticeHeld
 detached-held c = refl
 
-pub fair-said : (s : List ℕ) (e : Event) {t : ℕ} → Octets s → decoded s ≡ D.Said t e → Fair (takes e s)
-fair-said s (E.Activate a) o d =
+pub fair-said : (gs : Settings) (s : List ℕ) (e : Event) {t : ℕ} → Octets s → decoded s ≡ D.Said t e → Fair gs (takes e s)
+fair-said gs s (E.Activate a) o d =
     let x = activate-in s d in
     record {
       contexts = record {
@@ -184,40 +195,43 @@ fair-said s (E.Activate a) o d =
         address = rw (x .is) (number-below 4 26 s o);
       };
       subscribers = tt;
+      replaces = tt;
     }
-fair-said s (E.Traffic n up down) o d =
+fair-said gs s (E.Traffic n up down) o d =
     let x = reports s d in
     record {
       contexts = (fair-meaning s (E.Traffic n up down) d, record { up = rw (x .0) (number-below 4 15 s o); down = rw (x .1) (number-below 4 19 s o) });
       subscribers = tt;
+      replaces = tt;
     }
-fair-said s (E.Qos n q) o d = record { contexts = (fair-meaning s (E.Qos n q) d, small refl refl); subscribers = tt }
-fair-said s E.Tariff o d = record { contexts = (fair-meaning s E.Tariff d, small refl refl); subscribers = tt }
-fair-said s (E.Release n c) o d = record { contexts = (fair-meaning s (E.Release n c) d, small refl refl); subscribers = tt }
-fair-said s E.Tick o d = record { contexts = (fair-meaning s E.Tick d, small refl refl); subscribers = tt }
-fair-said s (E.Management n) o d = record { contexts = (fair-meaning s (E.Management n) d, small refl refl); subscribers = tt }
-fair-said s (E.Attach k l r) o d =
+fair-said gs s (E.Qos n q) o d = record { contexts = (fair-meaning s (E.Qos n q) d, small refl refl); subscribers = tt; replaces = tt }
+fair-said gs s E.Tariff o d = record { contexts = (fair-meaning s E.Tariff d, small refl refl); subscribers = tt; replaces = tt }
+fair-said gs s (E.Release n c) o d = record { contexts = (fair-meaning s (E.Release n c) d, small refl refl); subscribers = tt; replaces = tt }
+fair-said gs s E.Tick o d = record { contexts = (fair-meaning s E.Tick d, small refl refl); subscribers = tt; replaces = tt }
+fair-said gs s (E.Management n) o d = record { contexts = (fair-meaning s (E.Management n) d, small refl refl); subscribers = tt; replaces = tt }
+fair-said gs s (E.Attach k l r) o d =
     let x = attach-in s d in
-    record { contexts = tt; subscribers = record { imsi = x .imsi; name = x .name ∙ sym (x .key); place = there s o (x .lac) (x .rac) } }
-fair-said s (E.Location k l r) o d =
+    record { contexts = tt; subscribers = record { imsi = x .imsi; name = x .name ∙ sym (x .key); place = there s o (x .lac) (x .rac) }; replaces = tt }
+fair-said gs s (E.Location k l r) o d =
     let x = moved-in s d in
-    record { contexts = tt; subscribers = (fair-meaning s (E.Location k l r) d, there-noticed s o (x .0) (x .1)) }
-fair-said s (E.ManageSubscriber k) o d = record { contexts = tt; subscribers = (fair-meaning s (E.ManageSubscriber k) d, managed-held) }
-fair-said s (E.Detach k c) o d = record { contexts = tt; subscribers = (fair-meaning s (E.Detach k c) d, detached-held c) }
+    record { contexts = tt; subscribers = (fair-meaning s (E.Location k l r) d, there-noticed s o (x .0) (x .1)); replaces = tt }
+fair-said gs s (E.ManageSubscriber k) o d = record { contexts = tt; subscribers = (fair-meaning s (E.ManageSubscriber k) d, managed-held); replaces = tt }
+fair-said gs s (E.Detach k c) o d = record { contexts = tt; subscribers = (fair-meaning s (E.Detach k c) d, detached-held c); replaces = tt }
+fair-said gs s (E.Replace r) o d = record { contexts = tt; subscribers = tt; replaces = replaced-in s d }
 
 -- ---- the context that it opens
 
 module _ (p : Profile) (t : ℕ) (m : Name) (b : Brought) (r : Brings m b) where
-  pub activated-sound : profileOk p ≡ true → (accepted : ℕ) → contextOk (p .limits) (p .zone) t (accepted + 1) (activated p t m b) ≡ true
+  pub activated-sound : hasSet (p .sets) (b .set) ≡ true → limitsOk (b .limits) ≡ true → (accepted : ℕ) → contextOk (p .sets) (p .zone) t (accepted + 1) (activated p t m b) ≡ true
   unfolding activated
-  activated-sound ok accepted =
-      let f = fit p ok in
-      good-is (p .limits) (p .zone) t (accepted + 1) (activated p t m b) (record {
+  activated-sound have ok accepted =
+      good-is (p .sets) (p .zone) t (accepted + 1) (activated p t m b) (record {
         flags = r .flags;
         imsi = r .imsi;
         apn = r .apn;
+        set = have;
         closed = omega arith;
-        current = opened-sound (p .limits .volume) (p .limits .changes) (p .zone) t (b .qos) (r .qos) (f .some-volume) (f .some-changes);
+        current = opened-sound (p .zone) t (b .qos) (b .limits) (r .qos) ok;
       })
 
   pub activated-held : HeldContext (activated p t m b)
@@ -234,7 +248,10 @@ module _ (p : Profile) (t : ℕ) (m : Name) (b : Brought) (r : Brings m b) where
     address = r .address;
   }
 
--- so of an activate that is said
-pub activate-sound : (p : Profile) (s : List ℕ) {t : ℕ} {a : Activation} → profileOk p ≡ true → Octets s → decoded s ≡ D.Said t (E.Activate a) → (accepted : ℕ)
-    → contextOk (p .limits) (p .zone) t (accepted + 1) (activated p t (a .name) (broughtBy a s)) ≡ true
-activate-sound p s {t} {a} ok o d accepted = activated-sound p t (a .name) (broughtBy a s) (fair-said s (E.Activate a) o d .contexts) ok accepted
+-- so of an activate that is said, of a set that the node has
+pub activate-sound : (p : Profile) (gs : Settings) (s : List ℕ) {t : ℕ} {a : Activation} → setsOk (p .sets) (gs .sets) ≡ true
+    → hasSet (p .sets) (a .set) ≡ true → Octets s → decoded s ≡ D.Said t (E.Activate a) → (accepted : ℕ)
+    → contextOk (p .sets) (p .zone) t (accepted + 1) (activated p t (a .name) (broughtBy gs a s)) ≡ true
+activate-sound p gs s {t} {a} ok have o d accepted =
+    activated-sound p t (a .name) (broughtBy gs a s) (fair-said gs s (E.Activate a) o d .contexts) have
+    (limits-in-range (p .sets) (gs .sets) (a .set) ok have) accepted

@@ -16,6 +16,7 @@ use Rattle.event.specs.Rows.{Row, row, firstFit, rows}
 use Rattle.event.specs.Event.{eventOf, saidBy, decoded}
 use Rattle.event.proofs.Theorems.{heard}
 use Rattle.profile.specs.Profile.{profileOk}
+use Rattle.limits.specs.Sets.{setsOk}
 use Rattle.context.specs.declared.slots.Slot.{Slot}
 use Rattle.context.specs.Sound.{slotsOk}
 use Rattle.context.specs.Slots.{slotOf, distinct}
@@ -106,9 +107,9 @@ module _ (n : Node) (s b : List ℕ) where
 
 -- the node's rules are those that the code tested
 pub is-sound : (n : Node) {names : List Slot} {imsis : List named.Slot} {good fine r : Bool}
-    → (names ≡ map slotOf (n .contexts)) × (good ≡ slotsOk (n .profile .limits) (n .profile .zone) (n .clock) (n .accepted) (n .contexts))
+    → (names ≡ map slotOf (n .contexts)) × (good ≡ slotsOk (n .profile .sets) (n .profile .zone) (n .clock) (n .accepted) (n .contexts))
     → (imsis ≡ map imsiSlot (n .subscribers)) × (fine ≡ subscribersOk (n .profile .zone) (n .clock) (n .accepted) (n .subscribers))
-    → r ≡ (profileOk (n .profile) && leb (n .clock) latest && leb (n .accepted) mostAccepted && distinct names && good && keys.distinct imsis && fine)
+    → r ≡ (profileOk (n .profile) && setsOk (n .profile .sets) (n .settings .sets) && leb (n .clock) latest && leb (n .accepted) mostAccepted && distinct names && good && keys.distinct imsis && fine)
     → sound n ≡ r
 unfolding sound
 is-sound n e f k = rw (k, e .0, e .1, f .0, f .1)

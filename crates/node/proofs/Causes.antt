@@ -5,7 +5,6 @@ use mathlib.Core.Option.{Option, some}
 use Prim.Native.Nat.{ℕ}
 use Rattle.container.specs.declared.OpenRecord.{OpenRecord}
 use Rattle.container.specs.Open as O
-use Rattle.profile.specs.declared.Limits.{Limits}
 use Rattle.history.specs.Lists.{isSome}
 use Rattle.node.specs.declared.Message.{Message}
 use Rattle.node.specs.declared.closing.Perhaps.{Perhaps}
@@ -13,41 +12,41 @@ use Rattle.node.specs.declared.closing.Perhaps.the-variants.{Is, Nothing
 use Rattle.node.specs.Hear.{reported, changeOf, limitMet, closing}
 use Rattle.node.specs.Private.Premises.{perhaps}
 
-module _ (l : Limits) (o : OpenRecord) (t : ℕ) (m : Message) where
-  pub closing-once : m .closes ≡ true → closing l o t m ≡ some (m .cause)
+module _ (o : OpenRecord) (t : ℕ) (m : Message) where
+  pub closing-once : m .closes ≡ true → closing o t m ≡ some (m .cause)
   unfolding closing
-  closing-once e = ap (λ (b : Bool). cond b (some (m .cause)) (limitMet l o t m)) e
+  closing-once e = ap (λ (b : Bool). cond b (some (m .cause)) (limitMet o t m)) e
 
-  pub closing-limit : m .closes ≡ false → closing l o t m ≡ limitMet l o t m
+  pub closing-limit : m .closes ≡ false → closing o t m ≡ limitMet o t m
   unfolding closing
-  closing-limit e = ap (λ (b : Bool). cond b (some (m .cause)) (limitMet l o t m)) e
+  closing-limit e = ap (λ (b : Bool). cond b (some (m .cause)) (limitMet o t m)) e
 
-  pub at-once : m .closes ≡ true → Is (m .cause) ≡ perhaps (closing l o t m)
+  pub at-once : m .closes ≡ true → Is (m .cause) ≡ perhaps (closing o t m)
   at-once e = rw (closing-once e)
 
-  module _ {n : OpenRecord} {v w c g : Bool} (i : n ≡ reported o m) (p : v ≡ O.volumeMet (l .volume) n) (q : w ≡ O.timeMet (l .seconds) t o)
-      (r : c ≡ isSome (changeOf o m)) (s : g ≡ O.changesMet (l .changes) o) (off : m .closes ≡ false) where
-    volume : {b : Bool} → (m .counts && v) ≡ b → (m .counts && O.volumeMet (l .volume) (reported o m)) ≡ b
-    volume e = sym (ap (λ (x : Bool). m .counts && x) (p ∙ ap (O.volumeMet (l .volume)) i)) ∙ e
+  module _ {n : OpenRecord} {v w c g : Bool} (i : n ≡ reported o m) (p : v ≡ O.volumeMet n) (q : w ≡ O.timeMet t o)
+      (r : c ≡ isSome (changeOf o m)) (s : g ≡ O.changesMet o) (off : m .closes ≡ false) where
+    volume : {b : Bool} → (m .counts && v) ≡ b → (m .counts && O.volumeMet (reported o m)) ≡ b
+    volume e = sym (ap (λ (x : Bool). m .counts && x) (p ∙ ap (λ (x : OpenRecord). O.volumeMet x) i)) ∙ e
 
-    time : {b : Bool} → (m .ticks && w) ≡ b → (m .ticks && O.timeMet (l .seconds) t o) ≡ b
+    time : {b : Bool} → (m .ticks && w) ≡ b → (m .ticks && O.timeMet t o) ≡ b
     time e = sym (ap (λ (x : Bool). m .ticks && x) q) ∙ e
 
-    change : {b : Bool} → (c && g) ≡ b → (isSome (changeOf o m) && O.changesMet (l .changes) o) ≡ b
+    change : {b : Bool} → (c && g) ≡ b → (isSome (changeOf o m) && O.changesMet o) ≡ b
     change e = sym (rw (r, s)) ∙ e
 
-    pub by-volume : (m .counts && v) ≡ true → Is 16 ≡ perhaps (closing l o t m)
+    pub by-volume : (m .counts && v) ≡ true → Is 16 ≡ perhaps (closing o t m)
     unfolding limitMet
     by-volume f = rw (closing-limit off, volume f)
 
-    pub by-time : (m .counts && v) ≡ false → (m .ticks && w) ≡ true → Is 17 ≡ perhaps (closing l o t m)
+    pub by-time : (m .counts && v) ≡ false → (m .ticks && w) ≡ true → Is 17 ≡ perhaps (closing o t m)
     unfolding limitMet
     by-time f h = rw (closing-limit off, volume f, time h)
 
-    pub by-changes : (m .counts && v) ≡ false → (m .ticks && w) ≡ false → (c && g) ≡ true → Is 19 ≡ perhaps (closing l o t m)
+    pub by-changes : (m .counts && v) ≡ false → (m .ticks && w) ≡ false → (c && g) ≡ true → Is 19 ≡ perhaps (closing o t m)
     unfolding limitMet
     by-changes f h k = rw (closing-limit off, volume f, time h, change k)
 
-    pub by-none : (m .counts && v) ≡ false → (m .ticks && w) ≡ false → (c && g) ≡ false → Nothing ≡ perhaps (closing l o t m)
+    pub by-none : (m .counts && v) ≡ false → (m .ticks && w) ≡ false → (c && g) ≡ false → Nothing ≡ perhaps (closing o t m)
     unfolding limitMet
     by-none f h k = rw (closing-limit off, volume f, time h, change k)

@@ -20,11 +20,12 @@ use Rattle.container.proofs.Padded.{take-padded}
 use Rattle.event.specs.Fields.{release as releases}
 use Rattle.scdr.specs.declared.Record.{Record}
 use Rattle.scdr.specs.Rules.{release, causeOk, numberOk, changeOk, listRule, within}
-use Rattle.profile.specs.declared.Limits.{Limits}
+use Rattle.limits.proofs.Ranges.{limits-hold}
 use Rattle.profile.specs.declared.Profile.{Profile}
 use Rattle.context.specs.declared.Context.{Context}
 use Rattle.history.specs.Lists.{isSome, orElse, test}
 use Rattle.node.specs.declared.Message.{Message}
+use Rattle.node.specs.declared.Settings.{Settings}
 use Rattle.node.specs.Hear.{reported, changeOf, limitMet, closing, timeAt, numberFor, recordOf, closedBy}
 use Rattle.node.specs.Sound.{mostAccepted}
 use Rattle.node.specs.Private.Premises.{InRange, ReportFits, SoundContext}
@@ -92,10 +93,10 @@ record Closes (m : Message) (closed cause : ℕ) : Type 0 where
   known : causeOk cause ≡ true
   number : numberOk cause (numberFor closed (m .releases)) ≡ true
 
-closes : (l : Limits) (o : OpenRecord) (t : ℕ) (m : Message) {cause : ℕ} (closed : ℕ) → closed < mostAccepted → InRange m → closing l o t m ≡ some cause
+closes : (o : OpenRecord) (t : ℕ) (m : Message) {cause : ℕ} (closed : ℕ) → closed < mostAccepted → InRange m → closing o t m ≡ some cause
     → Closes m closed cause
 unfolding causeOk release limitMet
-closes l o t m {cause} closed few f e = by (m .closes) at-once by-limit
+closes o t m {cause} closed few f e = by (m .closes) at-once by-limit
   where
     other : m .releases ≡ false → Cause cause → Closes m closed cause
     other r w = record { known = w .known; number = rw r (closing-number closed few cause (w .other)) }
@@ -104,13 +105,13 @@ closes l o t m {cause} closed few f e = by (m .closes) at-once by-limit
     by-limit n =
         by (m .releases)
         (λ r. absurd (let z : _≡_ {A = Bool} true false = sym (f .released r .0) ∙ n in let y : _≡_ {A = ℕ} 0 1 = cc in omega arith))
-        (λ r. other r (limit-cause (m .counts && O.volumeMet (l .volume) (reported o m)) (m .ticks && O.timeMet (l .seconds) t o)
-        (isSome (changeOf o m) && O.changesMet (l .changes) o)
-        (sym (closing-limit l o t m n) ∙ e)))
+        (λ r. other r (limit-cause (m .counts && O.volumeMet (reported o m)) (m .ticks && O.timeMet t o)
+        (isSome (changeOf o m) && O.changesMet o)
+        (sym (closing-limit o t m n) ∙ e)))
 
     at-once : m .closes ≡ true → Closes m closed cause
     at-once y =
-        let i : some (m .cause) ≡ some cause = sym (closing-once l o t m y) ∙ e in
+        let i : some (m .cause) ≡ some cause = sym (closing-once o t m y) ∙ e in
         let z : m .cause ≡ cause = cc in
         by (m .releases)
         (λ r.
@@ -120,18 +121,19 @@ closes l o t m {cause} closed few f e = by (m .closes) at-once by-limit
 
 -- ---- the record that closes
 
-module _ (p : Profile) (t : ℕ) (c : Context) (a : SoundContext p t c) (size : length (c .current .containers) ≡ 15) (m : Message) (f : InRange m)
+module _ (p : Profile) (gs : Settings) (t : ℕ) (c : Context) (a : SoundContext p gs t c) (size : length (c .current .containers) ≡ 15) (m : Message) (f : InRange m)
     (u : ReportFits m) where
   few : length (used (c .current)) ≤ 14
-  few = omega (arith, used-length (c .current) (omega (arith, apt-few p t c a)) size, apt-few p t c a)
+  few = omega (arith, used-length (c .current) (omega (arith, apt-few p gs t c a)) size, apt-few p gs t c a)
 
   last-ok : containerOk (running (reported (c .current) m) 2 (timeAt p t)) ≡ true
   unfolding reported
   last-ok =
-      let g = apt-good p t c a .current in
+      let g = apt-good p gs t c a .current in
+      let l = limits-hold (c .current .limits) (g .limits) in
       let k = fit p (a .due .profile) in
-      running-ok (reported (c .current) m) 2 t (p .zone) (omega arith) (g .qos) (omega (arith, g .volume, k .volume, u .up))
-      (omega (arith, g .volume, k .volume, u .down)) (a .due .until) (k .zone)
+      running-ok (reported (c .current) m) 2 t (p .zone) (omega arith) (g .qos) (omega (arith, g .volume, l .few-octets, u .up))
+      (omega (arith, g .volume, l .few-octets, u .down)) (a .due .until) (k .zone)
 
   list-ok : (cause number : ℕ) → listRule (recordOf p c (O.ended (reported (c .current) m) 2 (timeAt p t)) cause number) ≡ true
   unfolding listRule recordOf reported
@@ -142,19 +144,19 @@ module _ (p : Profile) (t : ℕ) (c : Context) (a : SoundContext p t c) (size : 
       rw (
         le-leb (length cs) 15 n,
         take-padded cs,
-        closed-list (p .limits .volume) (p .limits .changes) (p .zone) (a .due .clock) o (apt-good p t c a .current) t (a .due .since) few (m .up) (m .down)
+        closed-list (p .zone) (a .due .clock) o (apt-good p gs t c a .current) t (a .due .since) few (m .up) (m .down)
             last-ok,
         padded-rest cs,
       )
 
-  pub closed-within : (cause : ℕ) → closing (p .limits) (c .current) t m ≡ some cause → within (closedBy p c t m cause) ≡ true
+  pub closed-within : (cause : ℕ) → closing (c .current) t m ≡ some cause → within (closedBy p c t m cause) ≡ true
   unfolding within closedBy recordOf reported
   closed-within cause e =
-      let g = apt-good p t c a in
+      let g = apt-good p gs t c a in
       let k = fit p (a .due .profile) in
-      let w = closes (p .limits) (c .current) t m (c .closed) (apt-grows p t c a .closed) f e in
+      let w = closes (c .current) t m (c .closed) (apt-grows p gs t c a .closed) f e in
       let o =
-      opening-ok (p .limits .volume) (p .limits .changes) (p .zone) (a .due .clock) (c .current) (g .current) t (a .due .since) (a .due .until) (k .zone) in
+      opening-ok (p .zone) (a .due .clock) (c .current) (g .current) t (a .due .since) (a .due .until) (k .zone) in
       rw (
         list-ok cause (numberFor (c .closed) (m .releases)),
         g .imsi,

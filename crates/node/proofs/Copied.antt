@@ -31,7 +31,7 @@ pub copied-subscriber : (s d d′ : List ℕ) → 15 ≤ length s → length d �
 copied-subscriber s d d′ l k e = copied-over (subscriberImsi s) d d′ (eight 7 s (omega arith) ∙ sym k) e
 
 -- the access point name of an activate, with its letters lowered
-pub checked-name : (s : List ℕ) {k : Checked} → k ≡ checkedApn (take (length s - 36) (drop 36 s)) → isApn (spellingOf s) ≡ true
+pub checked-name : (s : List ℕ) {k : Checked} → k ≡ checkedApn (take (length s - 37) (drop 37 s)) → isApn (spellingOf s) ≡ true
     → k .apn ≡ fillTo 63 0 (apnOf s)
 checked-name s e n =
-    ap (λ (z : Checked). z .apn) (e ∙ ap checkedApn (rest-all s (length s) 36 refl) ∙ checked-apn (spellingOf s) n)
+    ap (λ (z : Checked). z .apn) (e ∙ ap checkedApn (rest-all s (length s) 37 refl) ∙ checked-apn (spellingOf s) n)

@@ -94,7 +94,7 @@ module _ (n : Node) (s b : List ℕ) where
   -- ---- demand 1
 
   -- the table's numbers, in 01's order
-  pub in-order : map numberOf (refusals n s b) ≡ 13 ∷ 1 ∷ 2 ∷ 3 ∷ 4 ∷ 5 ∷ 6 ∷ 7 ∷ 8 ∷ 9 ∷ 10 ∷ 16 ∷ 15 ∷ 17 ∷ 11 ∷ []
+  pub in-order : map numberOf (refusals n s b) ≡ 13 ∷ 1 ∷ 2 ∷ 3 ∷ 4 ∷ 5 ∷ 6 ∷ 7 ∷ 18 ∷ 19 ∷ 8 ∷ 9 ∷ 10 ∷ 16 ∷ 15 ∷ 17 ∷ 11 ∷ []
   unfolding refusals
   in-order = refl
 

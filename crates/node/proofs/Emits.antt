@@ -21,6 +21,7 @@ use Rattle.context.specs.declared.Context.{Context}
 use Rattle.context.specs.Sound.{slotOk}
 use Rattle.history.specs.Table.{Step}
 use Rattle.node.specs.declared.Message.{Message}
+use Rattle.node.specs.declared.Settings.{Settings}
 use Rattle.node.specs.Hear.{closing, changeOf, going, goesOn, closedBy, afterClosing, hearWith, hear}
 use Rattle.node.specs.Step.{stood, markedOctets, octetsOf}
 use Rattle.node.specs.Private.Premises.{SoundContext, SoundSlot}
@@ -72,50 +73,50 @@ module _ (r : Record) {b b₁ : List ℕ} {at a : ℕ} (w : within r ≡ true) (
 
 -- ---- what an active context does
 
-module _ (p : Profile) (c : Context) (t : ℕ) (m : Message) where
-  pub hear-closes : {cause : ℕ} → closing (p .limits) (c .current) t m ≡ some cause
-      → hear p c t m ≡ record { next = afterClosing p c t m; out = closedBy p c t m cause ∷ [] }
+module _ (p : Profile) (gs : Settings) (c : Context) (t : ℕ) (m : Message) where
+  pub hear-closes : {cause : ℕ} → closing (c .current) t m ≡ some cause
+      → hear p gs c t m ≡ record { next = afterClosing p gs c t m; out = closedBy p c t m cause ∷ [] }
   unfolding hear hearWith
   hear-closes e = rw e
 
-  pub hear-on : closing (p .limits) (c .current) t m ≡ none
-      → hear p c t m ≡ record { next = some (going c (goesOn p (c .current) t m (changeOf (c .current) m)) (c .closed)); out = [] }
+  pub hear-on : closing (c .current) t m ≡ none
+      → hear p gs c t m ≡ record { next = some (going c (goesOn p (c .current) t m (changeOf (c .current) m)) (c .closed)); out = [] }
   unfolding hear hearWith
   hear-on e = rw e
 
-  pub octets-closes : {cause : ℕ} → closing (p .limits) (c .current) t m ≡ some cause → octetsOf (hear p c t m .out) ≡ markedOctets (closedBy p c t m cause)
+  pub octets-closes : {cause : ℕ} → closing (c .current) t m ≡ some cause → octetsOf (hear p gs c t m .out) ≡ markedOctets (closedBy p c t m cause)
   unfolding octetsOf
   octets-closes {cause} e = rw (hear-closes e) (append-nil (markedOctets (closedBy p c t m cause)))
 
-  pub octets-on : closing (p .limits) (c .current) t m ≡ none → octetsOf (hear p c t m .out) ≡ []
+  pub octets-on : closing (c .current) t m ≡ none → octetsOf (hear p gs c t m .out) ≡ []
   unfolding octetsOf
   octets-on e = rw (hear-on e)
 
-  pub counts-closes : {cause : ℕ} {r : Record} {n : ℕ} → closing (p .limits) (c .current) t m ≡ some cause → r ≡ closedBy p c t m cause
+  pub counts-closes : {cause : ℕ} {r : Record} {n : ℕ} → closing (c .current) t m ≡ some cause → r ≡ closedBy p c t m cause
       → within (closedBy p c t m cause) ≡ true
-      → Sizes r n → Counts (octetsOf (hear p c t m .out)) (2 + n)
+      → Sizes r n → Counts (octetsOf (hear p gs c t m .out)) (2 + n)
   unfolding markedOctets sizeOf
   counts-closes {cause} {r} {n} e i w s =
       let z : n ≡ length (scdr .enc (closedBy p c t m cause)) = s .is ∙ rw (i, w) in
       record { is = rw (octets-closes e) (omega arith); most = omega (arith, s .most) }
 
-  pub counts-on : closing (p .limits) (c .current) t m ≡ none → Counts (octetsOf (hear p c t m .out)) 0
+  pub counts-on : closing (c .current) t m ≡ none → Counts (octetsOf (hear p gs c t m .out)) 0
   counts-on e = record { is = rw (octets-on e); most = omega arith }
 
   -- room for what it writes is room for the record
-  pub room-closes : (at : ℕ) {cause : ℕ} {r : Record} {n : ℕ} → closing (p .limits) (c .current) t m ≡ some cause → r ≡ closedBy p c t m cause
-      → at + length (octetsOf (hear p c t m .out)) ≤ n → at + length (markedOctets r) ≤ n
+  pub room-closes : (at : ℕ) {cause : ℕ} {r : Record} {n : ℕ} → closing (c .current) t m ≡ some cause → r ≡ closedBy p c t m cause
+      → at + length (octetsOf (hear p gs c t m .out)) ≤ n → at + length (markedOctets r) ≤ n
   room-closes at e i k = rw i (rw (octets-closes e) at k)
 
-  pub turns-closes : {cause : ℕ} {r : Record} {d : Context} {b b′ : List ℕ} {at next : ℕ} → closing (p .limits) (c .current) t m ≡ some cause
+  pub turns-closes : {cause : ℕ} {r : Record} {d : Context} {b b′ : List ℕ} {at next : ℕ} → closing (c .current) t m ≡ some cause
       → r ≡ closedBy p c t m cause
-      → d ≡ stood (afterClosing p c t m) → Put (markedOctets r) b b′ at next
-      → Stands (stood (hear p c t m .next)) (octetsOf (hear p c t m .out)) b b′ at d next
+      → d ≡ stood (afterClosing p gs c t m) → Put (markedOctets r) b b′ at next
+      → Stands (stood (hear p gs c t m .next)) (octetsOf (hear p gs c t m .out)) b b′ at d next
   turns-closes e i j q = record { value = rw (hear-closes e) j; written = put-is (ap markedOctets i ∙ sym (octets-closes e)) q }
 
-  pub turns-on : {d : Context} {b : List ℕ} {at : ℕ} → closing (p .limits) (c .current) t m ≡ none
+  pub turns-on : {d : Context} {b : List ℕ} {at : ℕ} → closing (c .current) t m ≡ none
       → d ≡ going c (goesOn p (c .current) t m (changeOf (c .current) m)) (c .closed) → at ≤ length b
-      → Stands (stood (hear p c t m .next)) (octetsOf (hear p c t m .out)) b b at d at
+      → Stands (stood (hear p gs c t m .next)) (octetsOf (hear p gs c t m .out)) b b at d at
   turns-on {b = b} e j k = record { value = rw (hear-on e) j; written = put-is (sym (octets-on e)) (put-none k) }
     where
       put-none : {b : List ℕ} {at : ℕ} → at ≤ length b → Put [] b b at at
@@ -123,32 +124,32 @@ module _ (p : Profile) (c : Context) (t : ℕ) (m : Message) where
 
 -- ---- a slot
 
-module _ (p : Profile) (t : ℕ) (m : Message) (c : Context) where
-  pub slot-active : c .active ≡ 1 → (slotNext p t m c ≡ stood (hear p c t m .next)) × (slotOut p t m c ≡ octetsOf (hear p c t m .out))
+module _ (p : Profile) (gs : Settings) (t : ℕ) (m : Message) (c : Context) where
+  pub slot-active : c .active ≡ 1 → (slotNext p gs t m c ≡ stood (hear p gs c t m .next)) × (slotOut p gs t m c ≡ octetsOf (hear p gs c t m .out))
   unfolding slotNext slotOut
   slot-active e = (rw e, rw e)
 
-  pub slot-free : (c .active ≡ 1 → ⊥) → (slotNext p t m c ≡ c) × (slotOut p t m c ≡ [])
+  pub slot-free : (c .active ≡ 1 → ⊥) → (slotNext p gs t m c ≡ c) × (slotOut p gs t m c ≡ [])
   unfolding slotNext slotOut
   slot-free e = let f = ne-eqb (c .active) 1 e in (rw f, rw f)
 
-  pub slot-apt : c .active ≡ 1 → SoundSlot p t c → SoundContext p t c
+  pub slot-apt : c .active ≡ 1 → SoundSlot p gs t c → SoundContext p gs t c
   unfolding slotOk
   slot-apt e s = record { due = s .due; sound = rw (eq-eqb (c .active) 1 e) at (s .sound) }
 
-  pub slot-counts : {n : ℕ} → c .active ≡ 1 → Counts (octetsOf (hear p c t m .out)) n → Counts (slotOut p t m c) n
+  pub slot-counts : {n : ℕ} → c .active ≡ 1 → Counts (octetsOf (hear p gs c t m .out)) n → Counts (slotOut p gs t m c) n
   slot-counts e k = rw (slot-active e .1) k
 
-  pub free-counts : (c .active ≡ 1 → ⊥) → Counts (slotOut p t m c) 0
+  pub free-counts : (c .active ≡ 1 → ⊥) → Counts (slotOut p gs t m c) 0
   free-counts e = record { is = rw (slot-free e .1); most = omega arith }
 
   pub slot-turns : {d : Context} {b b′ : List ℕ} {at next : ℕ} → c .active ≡ 1
-      → Stands (stood (hear p c t m .next)) (octetsOf (hear p c t m .out)) b b′ at d next
-      → Stands (slotNext p t m c) (slotOut p t m c) b b′ at d next
+      → Stands (stood (hear p gs c t m .next)) (octetsOf (hear p gs c t m .out)) b b′ at d next
+      → Stands (slotNext p gs t m c) (slotOut p gs t m c) b b′ at d next
   slot-turns e k = record { value = k .value ∙ sym (slot-active e .0); written = put-is (sym (slot-active e .1)) (k .written) }
 
-  pub free-turns : {b : List ℕ} {at : ℕ} → (c .active ≡ 1 → ⊥) → at + length (slotOut p t m c) ≤ length b
-      → Stands (slotNext p t m c) (slotOut p t m c) b b at c at
+  pub free-turns : {b : List ℕ} {at : ℕ} → (c .active ≡ 1 → ⊥) → at + length (slotOut p gs t m c) ≤ length b
+      → Stands (slotNext p gs t m c) (slotOut p gs t m c) b b at c at
   free-turns {b} {at} e k =
       record {
         value = sym (slot-free e .0);

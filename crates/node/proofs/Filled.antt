@@ -6,7 +6,6 @@ use Prim.Native.Nat.{ℕ, _≤_}
 use lib.Dec.{eqb}
 use borrow.Author.Tests.{eqb-true, eqb-false}
 use Rattle.format.proofs.Tests.{by}
-use Rattle.profile.specs.declared.Limits.{Limits}
 use Rattle.context.specs.declared.Context.{Context}
 use Rattle.context.specs.Context.{noContext}
 use Rattle.context.specs.Sound.{slotOk, slotsOk}
@@ -18,7 +17,7 @@ use Rattle.history.proofs.Slots.{Filled, filled-all}
 use Rattle.node.specs.Step.{taken}
 use Rattle.node.proofs.ContextKept.{later-context}
 
-module _ (l : Limits) (z clock accepted t m : ℕ) (since : clock ≤ t) (few : accepted ≤ m) where
+module _ (l z clock accepted t m : ℕ) (since : clock ≤ t) (few : accepted ≤ m) where
   slot-later : (c : Context) → slotOk l z clock accepted c ≡ true → slotOk l z t m c ≡ true
   slot-later c k =
       by (eqb (c .active) 1)
@@ -34,7 +33,7 @@ module _ (l : Limits) (z clock accepted t m : ℕ) (since : clock ≤ t) (few : 
       all-ask (slots-ask l z t m) cs
       (all-map (λ c. slotOk l z clock accepted c ≡ true) (λ c. slotOk l z t m c ≡ true) slot-later cs (asks-all (slots-ask l z clock accepted) cs k))
 
-pub filled-slots : (l : Limits) (z t m : ℕ) {x : Context} {cs ds : List Context} → Filled taken noContext x cs ds
+pub filled-slots : (l z t m : ℕ) {x : Context} {cs ds : List Context} → Filled taken noContext x cs ds
     → slotOk l z t m x ≡ true → slotsOk l z t m cs ≡ true → slotsOk l z t m ds ≡ true
 filled-slots l z t m {x} {cs} {ds} f k e =
     all-ask (slots-ask l z t m) ds (filled-all taken noContext (λ c. slotOk l z t m c ≡ true) f k (asks-all (slots-ask l z t m) cs e))

@@ -6,6 +6,7 @@ use Rattle.profile.specs.declared.Profile.{Profile}
 use Rattle.event.specs.declared.Name.{Name}
 use Rattle.context.specs.declared.Context.{Context}
 use Rattle.node.specs.declared.Message.{Message}
+use Rattle.node.specs.declared.Settings.{Settings}
 use Rattle.node.specs.declared.Node.{Node}
 use Rattle.node.specs.Sound.{Makes}
 use Rattle.node.specs.Step.{Steps}
@@ -35,8 +36,8 @@ batches-fixes p q = p .is ∙ sym (q .is)
 pub counts-fixes : {x : List ℕ} {n m : ℕ} → Counts x n → Counts x m → n ≡ m
 counts-fixes p q = p .is ∙ sym (q .is)
 
-pub tries-fixes : {p : Profile} {t : ℕ} {h : Message} {c c₁ c₂ : Context} {b b₁ b₂ : List ℕ} {a₁ a₂ w₁ w₂ : ℕ}
-    → Tries p t h c b b₁ a₁ c₁ w₁ → Tries p t h c b b₂ a₂ c₂ w₂ → _≡_ {A = ℕ × (Context × (ℕ × List ℕ))} (a₁, (c₁, (w₁, b₁))) (a₂, (c₂, (w₂, b₂)))
+pub tries-fixes : {p : Profile} {gs : Settings} {t : ℕ} {h : Message} {c c₁ c₂ : Context} {b b₁ b₂ : List ℕ} {a₁ a₂ w₁ w₂ : ℕ}
+    → Tries p gs t h c b b₁ a₁ c₁ w₁ → Tries p gs t h c b b₂ a₂ c₂ w₂ → _≡_ {A = ℕ × (Context × (ℕ × List ℕ))} (a₁, (c₁, (w₁, b₁))) (a₂, (c₂, (w₂, b₂)))
 tries-fixes p q = p .is ∙ sym (q .is)
 
 pub serves-fixes : {n n₁ n₂ : Node} {from to t : ℕ} {h : Message} {b b₁ b₂ : List ℕ} {a₁ a₂ w₁ w₂ : ℕ}

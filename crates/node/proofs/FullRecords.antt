@@ -16,6 +16,7 @@ use Rattle.container.specs.List.{padded, blanks}
 use Rattle.container.specs.Open.{used, roomy, running}
 use Rattle.container.specs.Open as O
 use Rattle.container.proofs.Padded.{padded-used, padded-more}
+use Rattle.limits.specs.declared.Limits.{Limits}
 use Rattle.profile.specs.declared.Profile.{Profile}
 use Rattle.context.specs.declared.Context.{Context}
 use Rattle.scdr.specs.declared.Record.{Record}
@@ -23,6 +24,7 @@ use Rattle.scdr.specs.Rules.{within}
 use Rattle.scdr.specs.Layout.{scdr}
 use Rattle.scdr.specs.Answers.{writeOf, Writes}
 use Rattle.node.specs.declared.Message.{Message}
+use Rattle.node.specs.declared.Settings.{Settings}
 use Rattle.node.specs.Meaning.{report}
 use Rattle.node.specs.Hear.{reported, timeAt, going, numberFor, recordOf, closedBy}
 use Rattle.node.specs.Step.{markedOctets}
@@ -86,22 +88,24 @@ module _ (p : Profile) (c : Context) (t : ℕ) (size : length (c .current .conta
       ap (λ (r : Record). holding r (set (r .containers) (c .current .count) (last up down)) (c .current .count + 1)) e
       ∙ rw (placed (c .current) size r (last up down), one-more (c .current) size r (last up down))
 
-  pub goes-on : c .current .count ≡ 0
+  pub goes-on : (l : Limits) → c .current .count ≡ 0
       → going c (record {
         opening = timeAt p t;
         qos = c .current .qos;
+        limits = l;
         uplink = 0;
         downlink = 0;
         changes = 0;
         containers = c .current .containers;
         count = c .current .count;
       }) (c .closed + 1)
-      ≡ going c (O.opened (timeAt p t) (c .current .qos)) (c .closed + 1)
-  goes-on e =
+      ≡ going c (O.opened (timeAt p t) (c .current .qos) l) (c .closed + 1)
+  goes-on l e =
       let b = blank-places (c .current) size r e in
       λ i. going c (record {
         opening = timeAt p t;
         qos = c .current .qos;
+        limits = l;
         uplink = 0;
         downlink = 0;
         changes = 0;
@@ -203,9 +207,9 @@ some-octets : (r : Record) → 2 ≤ length (markedOctets r)
 unfolding markedOctets
 some-octets r = omega arith
 
-module _ {p : Profile} {t : ℕ} {h : Message} {c : Context} {r : Record} {b b′ : List ℕ} {n : ℕ} (e : slotOut p t h c ≡ markedOctets r) (m : Marks r b b′ n)
+module _ {p : Profile} {gs : Settings} {t : ℕ} {h : Message} {c : Context} {r : Record} {b b′ : List ℕ} {n : ℕ} (e : slotOut p gs t h c ≡ markedOctets r) (m : Marks r b b′ n)
   where
-    pub tries-not : n ≡ 0 → Tries p t h c b b′ 11 c 0
+    pub tries-not : n ≡ 0 → Tries p gs t h c b b′ 11 c 0
     unfolding triedOf markedIn
     tries-not z =
         either (length (markedOctets r)) (length b)
@@ -216,7 +220,7 @@ module _ {p : Profile} {t : ℕ} {h : Message} {c : Context} {r : Record} {b b�
         let f : b′ ≡ b = ap (λ (q : ℕ × List ℕ). q .1) (rw (lt-leb (length (markedOctets r)) (length b) l) at (m .is)) in
         record { is = rw (e, lt-leb (length (markedOctets r)) (length b) l) (λ i. (11, (c, (0, f i)))) })
 
-    pub tries-closed : (n ≡ 0 → ⊥) → {d : Context} → d ≡ slotNext p t h c → Tries p t h c b b′ 0 d n
+    pub tries-closed : (n ≡ 0 → ⊥) → {d : Context} → d ≡ slotNext p gs t h c → Tries p gs t h c b b′ 0 d n
     unfolding triedOf markedIn
     tries-closed z {d} q =
         either (length (markedOctets r)) (length b)

@@ -9,7 +9,6 @@ use lib.ListN.{length}
 use borrow.Author.Tests.{eqb-true, eqb-false, eq-eqb}
 use Rattle.format.proofs.Tests.{both}
 use Rattle.scdr.specs.declared.Record.{Record}
-use Rattle.profile.specs.declared.Limits.{Limits}
 use Rattle.profile.specs.declared.Profile.{Profile}
 use Rattle.event.specs.declared.Name.{Name}
 use Rattle.event.specs.declared.Event.{Event}
@@ -28,6 +27,7 @@ use Rattle.history.proofs.Scans.{First, asks-all}
 use Rattle.history.proofs.Slots as S
 use Rattle.history.proofs.Hearing as H
 use Rattle.node.specs.declared.Message.{Message}
+use Rattle.node.specs.declared.Settings.{Settings}
 use Rattle.node.specs.Step.{Brought, handling, taken, seen, stood, markedOctets, octetsOf}
 use Rattle.node.specs.Held.{Shaped}
 use Rattle.node.specs.Private.Range.{slotNext, slotOut}
@@ -55,36 +55,36 @@ same-exactly a b = (
 abbrev pub Settled : Context → Type 0
 Settled c = S.Settled taken noContext c
 
-module _ (limits : Limits) (zone clock accepted : ℕ) where
-  settled : (c : Context) → Shaped c × (slotOk limits zone clock accepted c ≡ true) → Settled c
+module _ (count zone clock accepted : ℕ) where
+  settled : (c : Context) → Shaped c × (slotOk count zone clock accepted c ≡ true) → Settled c
   unfolding S.Settled
-  settled c s e = zero-is c (sym (slot-free limits zone clock accepted c (eqb-false (c .active) 1 e)) ∙ s .1) (s .0 .imsi) (s .0 .apn) (s .0 .containers)
+  settled c s e = zero-is c (sym (slot-free count zone clock accepted c (eqb-false (c .active) 1 e)) ∙ s .1) (s .0 .imsi) (s .0 .apn) (s .0 .containers)
 
-  pub all-settled : (cs : List Context) → All Shaped cs → slotsOk limits zone clock accepted cs ≡ true → All Settled cs
+  pub all-settled : (cs : List Context) → All Shaped cs → slotsOk count zone clock accepted cs ≡ true → All Settled cs
   all-settled cs s k =
-      all-map (λ c. Shaped c × (slotOk limits zone clock accepted c ≡ true)) Settled settled cs
-      (all-both Shaped (λ c. slotOk limits zone clock accepted c ≡ true) cs s (asks-all (slots-ask limits zone clock accepted) cs k))
+      all-map (λ c. Shaped c × (slotOk count zone clock accepted c ≡ true)) Settled settled cs
+      (all-both Shaped (λ c. slotOk count zone clock accepted c ≡ true) cs s (asks-all (slots-ask count zone clock accepted) cs k))
 
 -- ---- all hear, one hears
 
-module _ (p : Profile) (t : ℕ) (h : Message) where
-  abbrev K : Handling (Unit {0}) Name Brought Message (Event × List ℕ) Context Record
+module _ (p : Profile) (gs : Settings) (t : ℕ) (h : Message) where
+  abbrev K : Handling Settings Name Brought Message (Event × List ℕ) Context Record
   K = handling p
 
   module _ (cs : List Context) (s : All Settled cs) where
-    pub all-after : map stood (slotsHear K tt t (tellsAll h) (map seen cs)) ≡ across 0 (length cs) (slotNext p t h) cs
+    pub all-after : map stood (slotsHear K gs t (tellsAll h) (map seen cs)) ≡ across 0 (length cs) (slotNext p gs t h) cs
     unfolding slotNext
-    all-after = H.all-after K taken noContext tt t markedOctets h cs s
+    all-after = H.all-after K taken noContext gs t markedOctets h cs s
 
-    pub all-outs : octetsOf (slotsWrite K tt t (tellsAll h) (map seen cs)) ≡ along 0 (length cs) (slotOut p t h) cs
+    pub all-outs : octetsOf (slotsWrite K gs t (tellsAll h) (map seen cs)) ≡ along 0 (length cs) (slotOut p gs t h) cs
     unfolding slotOut octetsOf
-    all-outs = H.all-outs K taken noContext tt t markedOctets h cs s
+    all-outs = H.all-outs K taken noContext gs t markedOctets h cs s
 
   module _ (m : Name) {cs : List Context} {i : ℕ} (f : First (named m) cs i) (s : All Settled cs) (d : distinct contexts cs ≡ true) where
-    pub tells-after : map stood (slotsHear K tt t (tells m h) (map seen cs)) ≡ across i (suc i) (slotNext p t h) cs
+    pub tells-after : map stood (slotsHear K gs t (tells m h) (map seen cs)) ≡ across i (suc i) (slotNext p gs t h) cs
     unfolding slotNext
-    tells-after = H.tells-after K taken noContext tt t markedOctets h same-exactly m f s d
+    tells-after = H.tells-after K taken noContext gs t markedOctets h same-exactly m f s d
 
-    pub tells-outs : octetsOf (slotsWrite K tt t (tells m h) (map seen cs)) ≡ along i (suc i) (slotOut p t h) cs
+    pub tells-outs : octetsOf (slotsWrite K gs t (tells m h) (map seen cs)) ≡ along i (suc i) (slotOut p gs t h) cs
     unfolding slotOut octetsOf
-    tells-outs = H.tells-outs K taken noContext tt t markedOctets h same-exactly m f s d
+    tells-outs = H.tells-outs K taken noContext gs t markedOctets h same-exactly m f s d

@@ -70,8 +70,8 @@ held-all (s ∷ ss) (u ∷ us) p = (held-subscriber s u (p .0), held-all ss us (
 
 pub held-is : (n : Node) (vs : List Val) → Is (N.the-field .row) (N.the-field .into n) vs → Held n
 held-is n vs p =
-    let a = p .1 .1 .1 .1 .1 .0 in
-    let q = p .1 .1 .1 .1 .1 .1 .0 in
+    let a = p .1 .1 .1 .1 .1 .1 .0 in
+    let q = p .1 .1 .1 .1 .1 .1 .1 .0 in
     record {
       profile = record { sgsn = omega arith; nodeid = search (needs, length-of-map) };
       size = search (needs, length-of-map);

@@ -32,8 +32,8 @@ use Rattle.subscriber.specs.Tell.{stood as stayed, markedOctets as mmMarked, oc
 use Rattle.subscriber.proofs.Scans.{slots-ask}
 use Rattle.subscriber.proofs.Kept.{told-is}
 use Rattle.node.specs.declared.Node.{Node}
-use Rattle.node.specs.Step.{Attached, ToSubscribers, Words, toSubscribers, handling, subscribing, taken, stood, slots, places, octetsOf}
-use Rattle.node.specs.Step.{nodeAfter, recordsOf, mmRecordsOf, output}
+use Rattle.node.specs.Step.{Attached, ToSubscribers, Words, toSubscribers, settledBy, handling, subscribing, taken, stood, slots, places, octetsOf}
+use Rattle.node.specs.Step.{nodeAfter, recordsOf, mmRecordsOf, output, unknownSet, otherEdition}
 use Rattle.node.specs.Held.{Held}
 use Rattle.node.specs.Private.Range.{enrolled, told, notifiedOf}
 use Rattle.node.proofs.RefusalRows.{tableRows}
@@ -51,10 +51,10 @@ module _ (n : Node) (t : ℕ) (v : ToSubscribers) where
 
   subscribers-after : Sounding n t → Held n → {ss : List Subscriber} → ss ≡ map stayed (slotsAfter (subscribing (n .profile)) tt t v (places n))
       → enrolled n t ss ≡ nodeAfter n t w
-  unfolding nodeAfter
+  unfolding nodeAfter settledBy
   subscribers-after s z e =
       let u = sym (stand-all taken noContext (n .contexts) (settleds n t s z)) in
-      λ i. record { profile = n .profile; clock = t; accepted = n .accepted + 1; contexts = u i; subscribers = e i }
+      λ i. record { profile = n .profile; settings = n .settings; clock = t; accepted = n .accepted + 1; contexts = u i; subscribers = e i }
 
 -- ---- a subscriber hears
 
@@ -106,10 +106,10 @@ module _ (n : Node) (t : ℕ) (b : List ℕ) (s : Sounding n t) (z : Held n) whe
 
     pub outs-notify : (r : ℕ × (Node × (ℕ × List ℕ))) → r ≡ notifiedOf n i t m b
         → Outs (tableRows n t (toSubscribers (tells k m)) b) n t (toSubscribers (tells k m)) b (r .1 .1 .1) (r .0) (r .1 .0) (r .1 .1 .0)
-    unfolding notActive isActive allTaken
+    unfolding unknownSet otherEdition notActive isActive allTaken
     outs-notify r e =
         outs-by n t (toSubscribers (tells k m)) b
-        (record { known = refl; new = refl; room = refl; attached = rw (found-active (subscribing p) isAttached k f); detached = refl; vacant = refl })
+        (record { named = refl; edition = refl; known = refl; new = refl; room = refl; attached = rw (found-active (subscribing p) isAttached k f); detached = refl; vacant = refl })
         x (enrolled n t (set (n .subscribers) i (stayed (notices p here t m .next))))
         (subscribers-after n t (tells k m) s z (sym after)) (sym outs ∙ subscribers-out n t (tells k m)) (e ∙ plain)
 
@@ -119,10 +119,12 @@ module _ (n : Node) (t : ℕ) (b : List ℕ) (s : Sounding n t) (z : Held n) whe
     pub outs-attach : {i : ℕ} → All (λ s. bearing k s ≡ false) (n .subscribers) → First vacant (n .subscribers) i
         → Outs (tableRows n t (toSubscribers (activates k f)) b) n t (toSubscribers (activates k f)) b b 0
         (enrolled n t (set (n .subscribers) i (attached (n .profile) t (f tt .imsi) (f tt .place)))) 0
-    unfolding notActive isActive allTaken output recordsOf mmRecordsOf octetsOf mmOctetsOf
+    unfolding unknownSet otherEdition notActive isActive allTaken output recordsOf mmRecordsOf octetsOf mmOctetsOf
     outs-attach {i} none free =
         outs-done n t (toSubscribers (activates k f)) b
         (record {
+          named = refl;
+          edition = refl;
           known = refl;
           new = refl;
           room = refl;
@@ -139,7 +141,7 @@ module _ (n : Node) (t : ℕ) (b : List ℕ) (s : Sounding n t) (z : Held n) whe
 module _ (n : Node) (t : ℕ) (b : List ℕ) (k : ℕ) where
   pub outs-16 : (m : Notice) → All (λ s. bearing k s ≡ false) (n .subscribers)
       → Outs (tableRows n t (toSubscribers (tells k m)) b) n t (toSubscribers (tells k m)) b b 16 n 0
-  unfolding tableRows firstFit notActive isActive allTaken
+  unfolding tableRows firstFit unknownSet otherEdition notActive isActive allTaken
   outs-16 m none =
       outs-refused n t (toSubscribers (tells k m)) b (tableRows n t (toSubscribers (tells k m)) b) 16
       (rw (none-active (subscribing (n .profile)) isAttached k (n .subscribers) none)) (λ i. omega arith) refl refl refl
@@ -147,14 +149,14 @@ module _ (n : Node) (t : ℕ) (b : List ℕ) (k : ℕ) where
   module _ (f : Unit {0} → Attached) where
     pub outs-15 : {i : ℕ} → First (bearing k) (n .subscribers) i
         → Outs (tableRows n t (toSubscribers (activates k f)) b) n t (toSubscribers (activates k f)) b b 15 n 0
-    unfolding tableRows firstFit notActive isActive allTaken
+    unfolding tableRows firstFit unknownSet otherEdition notActive isActive allTaken
     outs-15 g =
         outs-refused n t (toSubscribers (activates k f)) b (tableRows n t (toSubscribers (activates k f)) b) 15
         (rw (found-active (subscribing (n .profile)) isAttached k g)) (λ i. omega arith) refl refl refl
 
     pub outs-17 : All (λ s. bearing k s ≡ false) (n .subscribers) → All (λ s. vacant s ≡ false) (n .subscribers)
         → Outs (tableRows n t (toSubscribers (activates k f)) b) n t (toSubscribers (activates k f)) b b 17 n 0
-    unfolding tableRows firstFit notActive isActive allTaken
+    unfolding tableRows firstFit unknownSet otherEdition notActive isActive allTaken
     outs-17 none full =
         outs-refused n t (toSubscribers (activates k f)) b (tableRows n t (toSubscribers (activates k f)) b) 17
         (rw (none-active (subscribing (n .profile)) isAttached k (n .subscribers) none, none-free isAttached noSubscriber (n .subscribers) full))

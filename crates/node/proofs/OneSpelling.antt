@@ -1,5 +1,7 @@
 -- "One spelling of an APN" (02, W5): a call cannot tell how the letters of an access point name are spelled. Whatever the node and the buffer, an
 -- activate and the same one in another spelling get the same answer, the same node after, the same octets.
+use mathlib.Core.Option.{some}
+use Rattle.limits.specs.Sets.{limitsOf}
 use mathlib.Core.Path.{_≡_, refl, sym, ap, _∙_}
 use mathlib.Core.List.{List}
 use Prim.Native.Nat.{ℕ}
@@ -16,8 +18,17 @@ use Rattle.node.specs.Step.{Words, toContexts, takes, saidOf, refusals, 
 -- what an activate says, by what it brings
 abbrev opens : Activation → ℕ → List ℕ → List ℕ → Words
 opens a f i n =
-    toContexts
-    (activates (a .name) (λ g. record { flags = f; imsi = i; apn = n; pdptype = a .pdptype; address = a .address; qos = a .qos }))
+    toContexts (some (a .set))
+    (activates (a .name) (λ g. record {
+      flags = f;
+      imsi = i;
+      apn = n;
+      pdptype = a .pdptype;
+      address = a .address;
+      set = a .set;
+      qos = a .qos;
+      limits = limitsOf (a .set) (g .sets);
+    }))
 
 module _ (s t : List ℕ) (o : OneSpelling s t) where
   -- what is said, and to whom

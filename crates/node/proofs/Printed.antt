@@ -22,7 +22,9 @@ use Rattle.event.specs.Kinds.{kinds, kindIn, wholeOf}
 use Rattle.event.specs.Rows.{firstFit, marked, known, measured, fieldsOk}
 use Rattle.event.specs.Event.{eventOf}
 use Rattle.event.specs.Sample.{activate, traffic, released}
-use Rattle.profile.specs.Profile.{limitsOk, profileOk}
+use Rattle.limits.specs.Limits.{limitsOk, blankLimits}
+use Rattle.limits.specs.Sets.{hasSet, firstEditions, setOk, blankSet, usedOk, setsOk, setAt, limitsOf}
+use Rattle.profile.specs.Profile.{profileOk}
 use Rattle.context.specs.Sound.{fieldsOk as storedOk, closedOk, contextOk, zeroOk, slotOk, slotsOk}
 use Rattle.context.specs.Slots.{sameName, isActive, isFree, bears}
 use Rattle.history.specs.Slots.{noneBears, distinct}
@@ -42,6 +44,9 @@ use Rattle.node.specs.Step.{
   recordsOf,
   output,
   mmRecordsOf,
+  settledBy,
+  unknownSet,
+  otherEdition,
   refusals,
   outcome,
   stepOf,
@@ -53,7 +58,7 @@ pub one-session : session (activate ∷ traffic ∷ released 0 ∷ []) ≡ (0, [
 unfolding intEnc lowest lenEnc tlvEnc halves leading allF imsiOk imsiEnc monthLen seek monthDay stampOk stampEnc qosOk sameQos containerOk
     isNew told eachOk oneOffset noContainers isBlank blanks midway timesTo qosRun openOk volumeOf isApn lowered lower allOf apnChar nodeChar apnOk nodeOk
     release releases lastTime duration body fillTo ofRecord fieldsOf inside scdr printed spelt octetsFrom numberIn kinds kindIn wholeOf activateOk fieldsOk
-    firstFit marked known measured eventOf activate traffic released limitsOk profileOk storedOk unusedOk closedOk countOk containersOk
+    firstFit marked known measured eventOf activate traffic released limitsOk blankLimits hasSet firstEditions setOk blankSet usedOk setsOk setAt limitsOf profileOk unknownSet otherEdition settledBy storedOk unusedOk closedOk countOk containersOk
     volumeOk soundOpen blankOpen contextOk zeroOk slotOk slotsOk sameName isActive isFree bears noneBears distinct reported qosAfter changeOf limitMet closing
     numberFor recordOf goesOn closedBy afterClosing hearWith hear sound activated markedOctets octetsOf nodeAfter recordsOf
     mmRecordsOf mmOctetsOf noChanges samePlace isUnused allUnused nobodyOk placeOk placesOk keys.isActive
@@ -67,7 +72,7 @@ pub other-session : session (activate ∷ traffic ∷ at 2 6 (named (0 ∷ 0 ∷
 unfolding first second third intEnc lowest lenEnc tlvEnc halves leading allF imsiOk imsiEnc monthLen seek monthDay stampOk stampEnc qosOk
     sameQos containerOk isNew told eachOk oneOffset noContainers isBlank blanks midway timesTo qosRun openOk volumeOf isApn lowered lower allOf apnChar nodeChar
     apnOk nodeOk release releases lastTime duration body fillTo ofRecord fieldsOf inside scdr spelt octetsFrom numberIn kinds kindIn wholeOf activateOk
-    fieldsOk firstFit marked known measured eventOf activate traffic limitsOk profileOk storedOk unusedOk closedOk countOk containersOk
+    fieldsOk firstFit marked known measured eventOf activate traffic limitsOk blankLimits hasSet firstEditions setOk blankSet usedOk setsOk setAt limitsOf profileOk unknownSet otherEdition settledBy storedOk unusedOk closedOk countOk containersOk
     volumeOk soundOpen blankOpen contextOk zeroOk slotOk slotsOk sameName isActive isFree bears noneBears distinct reported qosAfter changeOf limitMet closing
     numberFor recordOf goesOn closedBy afterClosing hearWith hear sound activated markedOctets octetsOf nodeAfter recordsOf
     mmRecordsOf mmOctetsOf noChanges samePlace isUnused allUnused nobodyOk placeOk placesOk keys.isActive

@@ -11,12 +11,13 @@ use Rattle.context.specs.declared.Context.{Context}
 use Rattle.context.proofs.Scans.{slots-ask}
 use Rattle.history.proofs.Scans.{asks-at}
 use Rattle.history.proofs.Ranges.{Writing}
+use Rattle.node.specs.declared.Settings.{Settings}
 use Rattle.node.specs.Private.Premises.{SoundSlot, SoundTable}
 
 -- a slot of a sound table
-pub slotted : (p : Profile) (t : ℕ) (cs : List Context) {i : ℕ} (d : Context) → i < length cs → SoundTable p t cs → SoundSlot p t (getD cs i d)
-slotted p t cs {i} d q r =
-    record { due = r .due; sound = asks-at (slots-ask (p .limits) (p .zone) (r .due .clock) (r .due .accepted)) cs i d (r .sound) q }
+pub slotted : (p : Profile) (gs : Settings) (t : ℕ) (cs : List Context) {i : ℕ} (d : Context) → i < length cs → SoundTable p gs t cs → SoundSlot p gs t (getD cs i d)
+slotted p gs t cs {i} d q r =
+    record { due = r .due; sound = asks-at (slots-ask (p .sets) (p .zone) (r .due .clock) (r .due .accepted)) cs i d (r .sound) q }
 
 pub puts : Writing Put length
 puts = record {

@@ -11,14 +11,16 @@ use Rattle.event.specs.Rows.{Row, row, firstFit, rows}
 use Rattle.history.specs.Table.{notActive, isActive, allTaken}
 use Rattle.node.specs.declared.Node.{Node}
 use Rattle.node.specs.Sound.{sound, latest, mostAccepted}
-use Rattle.node.specs.Step.{Words, handling, subscribing, slots, places, output, saidOf, refusals}
+use Rattle.node.specs.Step.{Words, handling, subscribing, slots, places, output, saidOf, unknownSet, otherEdition, refusals}
 
 -- ---- the table in parts
 
--- 8 to 11 with 15 to 17, by what an event says
+-- 18 and 19, then 8 to 11 with 15 to 17, by what an event says
 unfoldable pub tableRows : Node → ℕ → Words → List ℕ → List Row
 tableRows n t w b =
-    row 8 (notActive (handling (n .profile)) (w .contexts) (slots n))
+    row 18 (unknownSet (n .profile .sets) (w .set))
+    ∷ row 19 (otherEdition (n .settings) (w .replaces))
+    ∷ row 8 (notActive (handling (n .profile)) (w .contexts) (slots n))
     ∷ row 9 (isActive (handling (n .profile)) (w .contexts) (slots n))
     ∷ row 10 (allTaken (handling (n .profile)) (w .contexts) (slots n))
     ∷ row 16 (notActive (subscribing (n .profile)) (w .subscribers) (places n))

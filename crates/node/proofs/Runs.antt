@@ -4,9 +4,10 @@ use mathlib.Core.Bool.{true, false}
 use mathlib.Core.List.{List, [], _∷_, map}
 use Prim.Native.Nat.{ℕ, zero, suc}
 use lib.ListN.{replicate, length-replicate}
-use Rattle.profile.specs.declared.Limits.{Limits}
+use Rattle.limits.specs.Sets.{firstEditions, setsOk}
+use Rattle.profile.proofs.Ranges.{parts}
 use Rattle.profile.specs.declared.Profile.{Profile}
-use Rattle.profile.specs.Profile.{limitsOk, profileOk}
+use Rattle.profile.specs.Profile.{profileOk}
 use Rattle.event.specs.declared.Name.{Name}
 use Rattle.event.specs.Fields.{timeOf}
 use Rattle.context.specs.Context.{noContext}
@@ -36,7 +37,7 @@ use Rattle.node.proofs.BatchKept.{batch-kept, batch-not-13}
 
 -- ---- a fresh node
 
-module _ (l : Limits) (z clock accepted : ℕ) where
+module _ (l z clock accepted : ℕ) where
   free-slots : (k : ℕ) → slotsOk l z clock accepted (replicate k noContext) ≡ true
   unfolding slotsOk
   free-slots zero = refl
@@ -69,7 +70,7 @@ free-held (suc k) = (nothing-held, free-held k)
 module _ (p : Profile) where
   pub fresh-sound : profileOk p ≡ true → sound (freshNode p) ≡ true
   unfolding sound
-  fresh-sound ok = rw (ok, free-distinct 16, free-slots (p .limits) (p .zone) 0 0 16, nobody-distinct 16, nobody (p .zone) 0 0 16)
+  fresh-sound ok = rw (ok, parts p ok .sets, free-distinct 16, free-slots (p .sets) (p .zone) 0 0 16, nobody-distinct 16, nobody (p .zone) 0 0 16)
 
   pub fresh-held : HeldProfile p → Held (freshNode p)
   fresh-held h = record {
@@ -85,7 +86,7 @@ module _ (p : Profile) where
 
 -- what is handed back with 12 is not sound
 pub no-node : sound noNode ≡ false
-unfolding sound profileOk limitsOk
+unfolding sound profileOk firstEditions setsOk
 no-node = refl
 
 -- ---- calls one after another

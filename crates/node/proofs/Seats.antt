@@ -23,6 +23,7 @@ use Rattle.context.specs.declared.slots.Found.the-variants.{At}
 use Rattle.context.specs.Slots.{slotOf, bears, firstFrom}
 use Rattle.node.specs.declared.Node.{Node}
 use Rattle.node.specs.declared.Message.{Message}
+use Rattle.node.specs.declared.Settings.{Settings}
 use Rattle.node.specs.declared.task.Task.the-variants as K
 use Rattle.node.specs.Meaning.{report}
 use Rattle.node.specs.Hear.{closing, afterClosing, hearWith, hear}
@@ -41,18 +42,18 @@ use Rattle.node.proofs.Ones.{through}
 
 -- ---- the name stays
 
-module _ (p : Profile) (t up down : ℕ) (c : Context) where
-  next-name : (k : Option ℕ) → slotOf (stood (hearWith p c t (report up down) k .next)) ≡ slotOf c
+module _ (p : Profile) (gs : Settings) (t up down : ℕ) (c : Context) where
+  next-name : (k : Option ℕ) → slotOf (stood (hearWith p gs c t (report up down) k .next)) ≡ slotOf c
   unfolding hearWith afterClosing
   next-name none = refl
   next-name (some cause) = refl
 
-  slot-name : slotOf (slotNext p t (report up down) c) ≡ slotOf c
+  slot-name : slotOf (slotNext p gs t (report up down) c) ≡ slotOf c
   unfolding hear
   slot-name =
       by (eqb (c .active) 1)
-      (λ e. ap slotOf (slot-active p t (report up down) c (eqb-true (c .active) 1 e) .0) ∙ next-name (closing (p .limits) (c .current) t (report up down)))
-      (λ e. ap slotOf (slot-free p t (report up down) c (eqb-false (c .active) 1 e) .0))
+      (λ e. ap slotOf (slot-active p gs t (report up down) c (eqb-true (c .active) 1 e) .0) ∙ next-name (closing (c .current) t (report up down)))
+      (λ e. ap slotOf (slot-free p gs t (report up down) c (eqb-false (c .active) 1 e) .0))
 
 -- ---- one report
 
@@ -78,7 +79,7 @@ module _ (n : Node) (i t : ℕ) (d : Context) (m : Name) (until : t ≤ latest) 
     h = report (v .0) (v .1)
 
     abbrev r : ℕ × (Context × (ℕ × List ℕ))
-    r = triedOf (n .profile) t h (s .context) b
+    r = triedOf (n .profile) (n .settings) t h (s .context) b
 
     late : t < 256 ^ 4
     late = omega (arith, until)
@@ -101,7 +102,7 @@ module _ (n : Node) (i t : ℕ) (d : Context) (m : Name) (until : t ≤ latest) 
     served : servedOf (N s) i (i + 1) t h b ≡ through (seated n i) (seatThen s t r)
     unfolding seatThen
     served =
-        let x : Tries (n .profile) t h (getD (N s .contexts) i d) b (r .1 .1 .1) (r .0) (r .1 .0) (r .1 .1 .0) = rw there (record { is = refl }) in
+        let x : Tries (n .profile) (n .settings) t h (getD (N s .contexts) i d) b (r .1 .1 .1) (r .0) (r .1 .0) (r .1 .1 .0) = rw there (record { is = refl }) in
         let l : i < length (N s .contexts) = omega (arith, length-set (n .contexts) i (s .context)) in
         let y = served-one (N s) i t h d l x refl refl refl in
         sym (y .is) ∙ by (eqb (r .0) 0)
@@ -109,13 +110,13 @@ module _ (n : Node) (i t : ℕ) (d : Context) (m : Name) (until : t ≤ latest) 
         rw e (λ j. (
           z j,
           (
-            record { profile = n .profile; clock = t; accepted = s .accepted + 1; contexts = u j; subscribers = n .subscribers },
+            record { profile = n .profile; settings = n .settings; clock = t; accepted = s .accepted + 1; contexts = u j; subscribers = n .subscribers },
             (r .1 .1 .0, r .1 .1 .1),
           ),
         )))
         (λ e. rw e)
 
-    pub same : stepOf (N s) (event v) b ≡ through (seated n i) (seatStep (n .profile) t s v b)
+    pub same : stepOf (N s) (event v) b ≡ through (seated n i) (seatStep (n .profile) (n .settings) t s v b)
     unfolding seatStep doneBy
     same =
         by (leb mostAccepted (s .accepted))
@@ -126,24 +127,24 @@ module _ (n : Node) (i t : ℕ) (d : Context) (m : Name) (until : t ≤ latest) 
     tried-name : slotOf (seatThen s t r .1 .0 .context) ≡ slotOf (s .context)
     unfolding seatThen triedOf
     tried-name =
-        let x = slotOut (n .profile) t h (s .context) in
+        let x = slotOut (n .profile) (n .settings) t h (s .context) in
         either (length x) (length b)
-        (λ y. rw (le-leb (length x) (length b) y) (slot-name (n .profile) t (v .0) (v .1) (s .context)))
+        (λ y. rw (le-leb (length x) (length b) y) (slot-name (n .profile) (n .settings) t (v .0) (v .1) (s .context)))
         (λ y. rw (lt-leb (length x) (length b) y))
 
     tried-since : seatThen s t r .1 .0 .clock ≤ t
     unfolding seatThen
     tried-since = by (eqb (r .0) 0) (λ e. rw e (omega arith)) (λ e. rw e (w .since))
 
-    name-kept : slotOf (seatStep (n .profile) t s v b .1 .0 .context) ≡ slotOf (getD (n .contexts) i d)
+    name-kept : slotOf (seatStep (n .profile) (n .settings) t s v b .1 .0 .context) ≡ slotOf (getD (n .contexts) i d)
     unfolding seatStep
     name-kept = by (leb mostAccepted (s .accepted)) (λ e. rw e (w .name)) (λ e. rw e (tried-name ∙ w .name))
 
-    clock-kept : seatStep (n .profile) t s v b .1 .0 .clock ≤ t
+    clock-kept : seatStep (n .profile) (n .settings) t s v b .1 .0 .clock ≤ t
     unfolding seatStep
     clock-kept = by (leb mostAccepted (s .accepted)) (λ e. rw e (w .since)) (λ e. rw e tried-since)
 
-    pub kept : Good (seatStep (n .profile) t s v b .1 .0)
+    pub kept : Good (seatStep (n .profile) (n .settings) t s v b .1 .0)
     kept =
         let k = step-kept (N s) (event v) b (w .whole) (report-octets m t (v .0) (v .1)) in
         record { whole = rw same at k; name = name-kept; since = clock-kept }

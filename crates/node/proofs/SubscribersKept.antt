@@ -36,6 +36,7 @@ use Rattle.history.proofs.Scans.{asks-all, all-ask}
 use Rattle.history.proofs.Slots.{Keeps, same, freed, Pairs, pairs-all, pairs-distinct, pairs-length}
 use Rattle.history.proofs.Slots.{stand-all, fill-is, filled-all, filled-length, filled-distinct}
 use Rattle.history.proofs.Hearing.{none-bears, hear-pairs, hear-all}
+use Rattle.node.specs.declared.Settings.{Settings}
 use Rattle.node.specs.Step.{Attached, ToSubscribers, subscribing}
 use Rattle.node.specs.Held.{HeldProfile}
 use Rattle.node.specs.Private.Premises.{Due}
@@ -53,7 +54,7 @@ pub record Enrolled (z t m count : ℕ) (ss : List Subscriber) : Type 0 where
   pub held : All HeldSubscriber ss
   pub size : length ss ≡ count
 
-module _ (p : Profile) (t : ℕ) (u : Due p t) (o : HeldProfile p) where
+module _ (p : Profile) (gs : Settings) (t : ℕ) (u : Due p gs t) (o : HeldProfile p) where
   abbrev K : Handling (Unit {0}) ℕ Attached Notice (Event × List ℕ) Subscriber MmRecord
   K = subscribing p
 

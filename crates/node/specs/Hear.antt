@@ -11,12 +11,13 @@ use Rattle.container.specs.declared.OpenRecord.{OpenRecord}
 use Rattle.container.specs.Qos.{sameQos}
 use Rattle.container.specs.Open as O
 use Rattle.scdr.specs.declared.Record.{Record}
-use Rattle.profile.specs.declared.Limits.{Limits}
+use Rattle.limits.specs.Sets.{limitsOf}
 use Rattle.profile.specs.declared.Profile.{Profile}
 use Rattle.context.specs.declared.Context.{Context}
 use Rattle.history.specs.Lists.{isSome, orElse, test}
 use Rattle.history.specs.Table.{Step}
 use Rattle.node.specs.declared.Message.{Message}
+use Rattle.node.specs.declared.Settings.{Settings}
 
 -- ---- reports, changes, closings of an open record
 
@@ -34,15 +35,16 @@ changeOf o m = cond (m .brings) (cond (sameQos (o .qos) (m .qos)) none (some 0))
 
 -- The five closing conditions, with their causes: "(16) after a traffic event, uplink plus downlink since the record opened is at least
 -- the volume limit; (17) at a tick, now minus opening is at least the time limit; (19) the record's QoS and tariff changes reach the
--- change limit; (20) management; (0, 4, 18) release with that cause". The last two need no limit.
-unfoldable pub limitMet : Limits → OpenRecord → ℕ → Message → Option ℕ
-limitMet l o t m =
-    orElse (test (m .counts && O.volumeMet (l .volume) (reported o m)) 16)
-    (orElse (test (m .ticks && O.timeMet (l .seconds) t o) 17)
-    (test (isSome (changeOf o m) && O.changesMet (l .changes) o) 19))
+-- change limit; (20) management; (0, 4, 18) release with that cause". The last two need no limit. The limits are those that the record opened with (02,
+-- W6).
+unfoldable pub limitMet : OpenRecord → ℕ → Message → Option ℕ
+limitMet o t m =
+    orElse (test (m .counts && O.volumeMet (reported o m)) 16)
+    (orElse (test (m .ticks && O.timeMet t o) 17)
+    (test (isSome (changeOf o m) && O.changesMet o) 19))
 
-unfoldable pub closing : Limits → OpenRecord → ℕ → Message → Option ℕ
-closing l o t m = cond (m .closes) (some (m .cause)) (limitMet l o t m)
+unfoldable pub closing : OpenRecord → ℕ → Message → Option ℕ
+closing o t m = cond (m .closes) (some (m .cause)) (limitMet o t m)
 
 -- ---- what then stands
 
@@ -55,6 +57,7 @@ abbrev pub going : Context → OpenRecord → ℕ → Context
 going c o closed = record {
   active = c .active;
   flags = c .flags;
+  set = c .set;
   name = c .name;
   imsi = c .imsi;
   apn = c .apn;
@@ -102,13 +105,17 @@ goesOn p o t m (some condition) = O.changed (reported o m) condition (timeAt p t
 unfoldable pub closedBy : Profile → Context → ℕ → Message → ℕ → Record
 closedBy p c t m cause = recordOf p c (O.ended (reported (c .current) m) 2 (timeAt p t)) cause (numberFor (c .closed) (m .releases))
 
--- the context after it, none where it was released: "the next record opens at the same time with the QoS now in force"
-unfoldable pub afterClosing : Profile → Context → ℕ → Message → Option Context
-afterClosing p c t m = cond (m .releases) none (some (going c (O.opened (timeAt p t) (qosAfter (c .current) m)) (c .closed + 1)))
+-- the context after it, none where it was released: "the next record opens at the same time with the QoS now in force", and "takes the current edition"
+-- of its set (02, W6)
+unfoldable pub afterClosing : Profile → Settings → Context → ℕ → Message → Option Context
+afterClosing p g c t m =
+    cond (m .releases) none
+    (some (going c (O.opened (timeAt p t) (qosAfter (c .current) m) (limitsOf (c .set) (g .sets))) (c .closed + 1)))
 
-unfoldable pub hearWith : Profile → Context → ℕ → Message → Option ℕ → Step Context Record
-hearWith p c t m none = record { next = some (going c (goesOn p (c .current) t m (changeOf (c .current) m)) (c .closed)); out = [] }
-hearWith p c t m (some cause) = record { next = afterClosing p c t m; out = closedBy p c t m cause ∷ [] }
+-- p is the node's profile, g what it is set to
+unfoldable pub hearWith : Profile → Settings → Context → ℕ → Message → Option ℕ → Step Context Record
+hearWith p g c t m none = record { next = some (going c (goesOn p (c .current) t m (changeOf (c .current) m)) (c .closed)); out = [] }
+hearWith p g c t m (some cause) = record { next = afterClosing p g c t m; out = closedBy p c t m cause ∷ [] }
 
-unfoldable pub hear : Profile → Context → ℕ → Message → Step Context Record
-hear p c t m = hearWith p c t m (closing (p .limits) (c .current) t m)
+unfoldable pub hear : Profile → Settings → Context → ℕ → Message → Step Context Record
+hear p g c t m = hearWith p g c t m (closing (c .current) t m)

@@ -9,7 +9,7 @@ use Rattle.event.specs.declared.Event.{Event}
 use Rattle.event.specs.declared.Event.the-variants as E
 use Rattle.node.specs.declared.Message.{Message}
 use Rattle.node.specs.declared.meaning.Meaning.{Meaning}
-use Rattle.node.specs.declared.meaning.Meaning.the-variants.{Opens, Tells, TellsAll, Attaches, Notifies}
+use Rattle.node.specs.declared.meaning.Meaning.the-variants.{Opens, Tells, TellsAll, Attaches, Notifies, Replaces}
 use Rattle.mcdr.specs.declared.Place.{Place}
 use Rattle.subscriber.specs.declared.Notice.the-variants.{Moved, Managed, Detached}
 
@@ -60,7 +60,8 @@ abbrev pub placeWith : ℕ → ℕ → Place
 placeWith lac rac = record { lac = lac; rac = rac }
 
 -- Who hears an event, and what it is to them: an activate opens a context; traffic, QoS, release and management are told to the one that
--- they name, a tariff and a tick to all. An attach is a subscriber's; the other three kinds are told to the one that they name.
+-- they name, a tariff and a tick to all. An attach is a subscriber's; the other three kinds are told to the one that they name. A replacement of a
+-- set of limits is told to none (02, W6: "It cuts nothing and closes nothing").
 abbrev pub meaningOf : Event → Meaning
 meaningOf (E.Activate a) = Opens a
 meaningOf (E.Traffic n up down) = Tells n (report up down)
@@ -73,3 +74,4 @@ meaningOf (E.Attach k lac rac) = Attaches k (placeWith lac rac)
 meaningOf (E.Location k lac rac) = Notifies k (Moved (placeWith lac rac))
 meaningOf (E.ManageSubscriber k) = Notifies k Managed
 meaningOf (E.Detach k cause) = Notifies k (Detached cause)
+meaningOf (E.Replace r) = Replaces r

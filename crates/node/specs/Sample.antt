@@ -3,16 +3,18 @@ use mathlib.Core.List.{List, [], _∷_, _++_}
 use Prim.Native.Nat.{ℕ}
 use lib.ListN.{length, take, replicate}
 use Rattle.octets.specs.Filled.{fillTo}
+use Rattle.limits.specs.Limits.{noLimits}
 use Rattle.profile.specs.declared.Profile.{Profile}
 use Rattle.node.specs.declared.Node.{Node}
 use Rattle.node.specs.Sound.{freshNode}
 use Rattle.node.specs.Step.{stepOf}
 
--- volume limit 1,000, time 60, changes 2, offset 0, no node ID, SGSN 10.0.0.1
+-- volume limit 1,000, time 60, changes 2, which is set 1 and the only one; offset 0, no node ID, SGSN 10.0.0.1
 abbrev pub profile : Profile
 profile = record {
   sgsn = 0x0A000001;
-  limits = record { volume = 1000; seconds = 60; changes = 2 };
+  limits = record { volume = 1000; seconds = 60; changes = 2 } ∷ replicate 7 noLimits;
+  sets = 1;
   zone = 720;
   nodeid = fillTo 20 0 [];
   nodelen = 0;

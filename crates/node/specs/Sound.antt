@@ -7,6 +7,7 @@ use lib.Dec.{leb}
 use lib.ListN.{replicate}
 use Rattle.profile.specs.declared.Profile.{Profile}
 use Rattle.profile.specs.Profile.{profileOk, noProfile}
+use Rattle.limits.specs.Sets.{firstEditions, setsOk}
 use Rattle.context.specs.Context.{noContext}
 use Rattle.context.specs.Sound.{slotsOk}
 use Rattle.context.specs.Slots.{slotOf, distinct}
@@ -24,21 +25,23 @@ abbrev pub mostAccepted : ℕ
 mostAccepted = 10 ^ 15
 
 -- "Profile in range; clock and accepted count in range; active names distinct", and what each slot must be; and of subscribers (02, W4) "IMSIs
--- distinct", and what each slot must be
+-- distinct", and what each slot must be; and the sets of limits that are in force (02, W6), as many as the profile gave
 unfoldable pub sound : Node → Bool
 sound n =
     profileOk (n .profile)
+    && setsOk (n .profile .sets) (n .settings .sets)
     && leb (n .clock) latest
     && leb (n .accepted) mostAccepted
     && distinct (map slotOf (n .contexts))
-    && slotsOk (n .profile .limits) (n .profile .zone) (n .clock) (n .accepted) (n .contexts)
+    && slotsOk (n .profile .sets) (n .profile .zone) (n .clock) (n .accepted) (n .contexts)
     && named.distinct (map imsiSlot (n .subscribers))
     && subscribersOk (n .profile .zone) (n .clock) (n .accepted) (n .subscribers)
 
--- "Fresh node: clock 0, no contexts, no accepted events", and no subscribers
+-- "Fresh node: clock 0, no contexts, no accepted events", no subscribers, and the profile's sets of limits, each with edition 1 (02, W6)
 abbrev pub freshNode : Profile → Node
 freshNode p = record {
   profile = p;
+  settings = record { sets = firstEditions (p .sets) (p .limits) };
   clock = 0;
   accepted = 0;
   contexts = replicate 16 noContext;

@@ -1,19 +1,22 @@
 -- One call: the refusal table, and what an accepted event does to the node.
 use mathlib.Core.Path.{_≡_}
-use mathlib.Core.Bool.{Bool, not, cond, _||_}
-use mathlib.Core.Option.{Option}
+use mathlib.Core.Bool.{Bool, false, not, cond, _||_}
+use mathlib.Core.Option.{Option, none, some}
 use mathlib.Core.List.{List, [], _∷_, _++_, map}
 use Prim.Native.Nat.{ℕ, _+_}
 use lib.Dec.{leb, ltb, eqb}
 use lib.ListN.{length, drop}
 use Rattle.container.specs.declared.Qos.{Qos}
 use Rattle.container.specs.Open.{opened}
+use Rattle.limits.specs.declared.Limits.{Limits}
+use Rattle.limits.specs.Sets.{hasSet, limitsOf, isNext, replaced}
 use Rattle.scdr.specs.declared.Record.{Record}
 use Rattle.octets.specs.Filled.{fillTo}
 use Rattle.scdr.specs.Layout.{scdr}
 use Rattle.profile.specs.declared.Profile.{Profile}
 use Rattle.event.specs.declared.Name.{Name}
 use Rattle.event.specs.declared.Activation.{Activation}
+use Rattle.event.specs.declared.Replacement.{Replacement}
 use Rattle.event.specs.declared.Event.{Event}
 use Rattle.event.specs.Fields.{timeOf, flagsOf, imsiOf, apnOf, subscriberImsi}
 use Rattle.event.specs.Rows.{Row, row, firstFit, marked, known, measured, fieldsOk}
@@ -33,6 +36,7 @@ use Rattle.subscriber.specs.Subscriber.{nameOf as imsiName, taken as isAttached
 use Rattle.subscriber.specs.Hear.{attached, hear as notices}
 use Rattle.subscriber.specs.Tell.{stood as stayed, octetsOf as mmOctetsOf}
 use Rattle.node.specs.declared.Node.{Node}
+use Rattle.node.specs.declared.Settings.{Settings}
 use Rattle.node.specs.declared.Message.{Message}
 use Rattle.node.specs.declared.meaning.Meaning.{Meaning}
 use Rattle.node.specs.declared.meaning.Meaning.the-variants as W
@@ -42,17 +46,28 @@ use Rattle.node.specs.Sound.{sound, latest, mostAccepted}
 
 -- ---- what an event says to whom
 
--- what an activation brings: all of a context that is not the node's own doing
+-- what an activation brings: all of a context that is not the node's own doing, and the limits that are then in force in its set
 pub record Brought : Type 0 where
   pub flags : ℕ
   pub imsi : List ℕ
   pub apn : List ℕ
   pub pdptype : ℕ
   pub address : ℕ
+  pub set : ℕ
   pub qos : Qos
+  pub limits : Limits
 
-abbrev pub broughtBy : Activation → List ℕ → Brought
-broughtBy a s = record { flags = flagsOf s; imsi = imsiOf s; apn = apnOf s; pdptype = a .pdptype; address = a .address; qos = a .qos }
+abbrev pub broughtBy : Settings → Activation → List ℕ → Brought
+broughtBy g a s = record {
+  flags = flagsOf s;
+  imsi = imsiOf s;
+  apn = apnOf s;
+  pdptype = a .pdptype;
+  address = a .address;
+  set = a .set;
+  qos = a .qos;
+  limits = limitsOf (a .set) (g .sets);
+}
 
 -- what an attach brings (02, W4): the IMSI's octets, and the place
 pub record Attached : Type 0 where
@@ -61,56 +76,70 @@ pub record Attached : Type 0 where
 
 -- what is said to the table of contexts, and to that of subscribers: to one of them nothing
 abbrev pub ToContexts : Type 0
-ToContexts = Said (Unit {0}) Name Brought Message
+ToContexts = Said Settings Name Brought Message
 
 abbrev pub ToSubscribers : Type 0
 ToSubscribers = Said (Unit {0}) ℕ Attached Notice
 
+-- and to the node itself (02, W6): the number of a set of limits that it must have, and what replaces a set
 pub record Words : Type 0 where
   pub contexts : ToContexts
   pub subscribers : ToSubscribers
+  pub set : Option ℕ
+  pub replaces : Option Replacement
 
-abbrev pub toContexts : ToContexts → Words
-toContexts w = record { contexts = w; subscribers = nothing }
+abbrev pub toContexts : Option ℕ → ToContexts → Words
+toContexts number w = record { contexts = w; subscribers = nothing; set = number; replaces = none }
 
 abbrev pub toSubscribers : ToSubscribers → Words
-toSubscribers w = record { contexts = nothing; subscribers = w }
+toSubscribers w = record { contexts = nothing; subscribers = w; set = none; replaces = none }
+
+abbrev pub toSettings : Replacement → Words
+toSettings r = record { contexts = nothing; subscribers = nothing; set = some (r .set); replaces = some r }
 
 abbrev pub saying : Meaning → List ℕ → Words
-saying (W.Opens a) s = toContexts (activates (a .name) (λ g. broughtBy a s))
-saying (W.Tells n m) s = toContexts (tells n m)
-saying (W.TellsAll m) s = toContexts (tellsAll m)
+saying (W.Opens a) s = toContexts (some (a .set)) (activates (a .name) (λ g. broughtBy g a s))
+saying (W.Tells n m) s = toContexts none (tells n m)
+saying (W.TellsAll m) s = toContexts none (tellsAll m)
 saying (W.Attaches k q) s = toSubscribers (activates k (λ g. record { imsi = subscriberImsi s; place = q }))
 saying (W.Notifies k m) s = toSubscribers (tells k m)
+saying (W.Replaces r) s = toSettings r
 
 abbrev pub takes : Event → List ℕ → Words
 takes e s = saying (meaningOf e) s
+
+-- what the node is set to afterwards: a set is "replaced whole by an event that names the set and the next edition" (02, W6)
+unfoldable pub settledBy : Option Replacement → Settings → Settings
+settledBy none g = g
+settledBy (some r) g = record { sets = replaced (r .set) (record { edition = r .edition; limits = r .limits }) (g .sets) }
 
 -- "opens a record now with empty counters, no containers, change count 0"
 unfoldable pub activated : Profile → ℕ → Name → Brought → Context
 activated p t n b = record {
   active = 1;
   flags = b .flags;
+  set = b .set;
   name = n;
   imsi = b .imsi;
   apn = fillTo 63 0 (b .apn);
   apnlen = length (b .apn);
   pdptype = b .pdptype;
   address = b .address;
-  current = opened (timeAt p t) (b .qos);
+  current = opened (timeAt p t) (b .qos) (b .limits);
   closed = 0;
 }
 
 -- How the node handles contexts: a named event is heard by the context of that name, a tariff and a tick by all in slot order,
--- "activation takes the lowest free slot", "a freed slot is used again" (`slotsAfter`, `writes` of history's specs/Table.antt).
-abbrev pub handling : Profile → Handling (Unit {0}) Name Brought Message (Event × List ℕ) Context Record
+-- "activation takes the lowest free slot", "a freed slot is used again" (`slotsAfter`, `writes` of history's specs/Table.antt). What the node is set to
+-- says with which limits a record opens.
+abbrev pub handling : Profile → Handling Settings Name Brought Message (Event × List ℕ) Context Record
 handling p = record {
   same = sameName;
   name = λ c. c .name;
   says = λ w. takes (w .0) (w .1) .contexts;
-  settles = λ g w. g;
+  settles = λ g w. settledBy (takes (w .0) (w .1) .replaces) g;
   opening = λ t n b. activated p t n b;
-  hear = λ g c t h. hear p c t h;
+  hear = λ g c t h. hear p g c t h;
 }
 
 -- and subscribers likewise: "named by IMSI", "the lowest free place is taken"
@@ -155,15 +184,16 @@ module _ (n : Node) (t : ℕ) (w : Words) where
   unfoldable pub nodeAfter : Node
   nodeAfter = record {
     profile = n .profile;
+    settings = settledBy (w .replaces) (n .settings);
     clock = t;
     accepted = n .accepted + 1;
-    contexts = map stood (slotsAfter (handling (n .profile)) tt t (w .contexts) (slots n));
+    contexts = map stood (slotsAfter (handling (n .profile)) (n .settings) t (w .contexts) (slots n));
     subscribers = map stayed (slotsAfter (subscribing (n .profile)) tt t (w .subscribers) (places n));
   }
 
   -- the S-CDRs that it closes, and the M-CDRs
   unfoldable pub recordsOf : List Record
-  recordsOf = writes (handling (n .profile)) tt t (w .contexts) (slots n)
+  recordsOf = writes (handling (n .profile)) (n .settings) t (w .contexts) (slots n)
 
   unfoldable pub mmRecordsOf : List MmRecord
   mmRecordsOf = writes (subscribing (n .profile)) tt t (w .subscribers) (places n)
@@ -177,8 +207,17 @@ module _ (n : Node) (t : ℕ) (w : Words) where
 abbrev pub saidOf : List ℕ → Words
 saidOf s = takes (eventOf s) s
 
+-- it names a set that a node with so many does not have; it replaces a set by another edition than the next one
+unfoldable pub unknownSet : ℕ → Option ℕ → Bool
+unknownSet count none = false
+unknownSet count (some number) = not (hasSet count number)
+
+unfoldable pub otherEdition : Settings → Option Replacement → Bool
+otherEdition g none = false
+otherEdition g (some r) = not (isNext (r .set) (r .edition) (g .sets))
+
 -- 01's "Refusal numbers, tried in this order", all that a call gives, each with 01's words; 15 to 17 are those of 02's W4, "16 before 15 before
--- 17, before 11". (12 is a fresh node's, 14 a list's, 20 the reader's and 24 the writer's.) Each condition is true or false of any node, octets
+-- 17, before 11", 18 and 19 of its W6, "both after 7 and before 8". (12 is a fresh node's, 14 a list's, 20 the reader's and 24 the writer's.) Each condition is true or false of any node, octets
 -- and buffer.
 unfoldable pub refusals : Node → List ℕ → List ℕ → List Row
 refusals n s b =
@@ -188,9 +227,9 @@ refusals n s b =
     ∷ row 1 (ltb (length s) 7)
     -- "mark"
     ∷ row 2 (not (marked s))
-    -- "kind not 1..7", and now 1..11
+    -- "kind not 1..7", and now 1..12
     ∷ row 3 (not (known s))
-    -- "length not the kind's; activate under 36"
+    -- "length not the kind's; activate under 36", and now 37
     ∷ row 4 (not (measured s))
     -- "a field out of range"
     ∷ row 5 (not (fieldsOk s))
@@ -198,6 +237,10 @@ refusals n s b =
     ∷ row 6 (ltb latest (timeOf s) || ltb (timeOf s) (n .clock))
     -- "1,000,000,000,000,000 events accepted already"
     ∷ row 7 (leb mostAccepted (n .accepted))
+    -- kinds 1, 12: "an unknown set"
+    ∷ row 18 (unknownSet (n .profile .sets) (saidOf s .set))
+    -- kind 12: "an edition not one higher, or with none above 65,535"
+    ∷ row 19 (otherEdition (n .settings) (saidOf s .replaces))
     -- "kinds 2, 3, 5, 7: name not active"
     ∷ row 8 (notActive (handling (n .profile)) (saidOf s .contexts) (slots n))
     -- "kind 1: name active"

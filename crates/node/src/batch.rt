@@ -129,7 +129,7 @@ pub fn batch(node: Node, id: u32, ggsn: u32, t: u32, volumes: &[u32], out: &mut 
         (r .answer) (r .applied) (r .node) (r .written) ⌝ }
 {
     let p = node.profile;
-    let l = p.limits;
+    let g = node.settings;
     let none = Slot {
         active: 0,
         name: Name { id: 0, ggsn: 0 },
@@ -142,7 +142,7 @@ pub fn batch(node: Node, id: u32, ggsn: u32, t: u32, volumes: &[u32], out: &mut 
     let mut i: usize = 0;
     while i < 16 {
         let c = node.contexts[i];
-        good = good & context::sound::slot_ok(l, p.zone, node.clock, node.accepted, c);
+        good = good & context::sound::slot_ok(p.sets, p.zone, node.clock, node.accepted, c);
         let name = c.name;
         names[i] = Slot {
             active: c.active,
@@ -157,7 +157,7 @@ pub fn batch(node: Node, id: u32, ggsn: u32, t: u32, volumes: &[u32], out: &mut 
         };
         i += 1;
     }
-    let sound = sound::keeps_rules(p, node.clock, node.accepted, names, good, imsis, fine);
+    let sound = sound::keeps_rules(p, g, node.clock, node.accepted, names, good, imsis, fine);
     let name = Name { id, ggsn };
     let k = reports_for(
         sound,
@@ -173,7 +173,7 @@ pub fn batch(node: Node, id: u32, ggsn: u32, t: u32, volumes: &[u32], out: &mut 
         Reports::Nothing => unmoved(node, 0),
         Reports::Tell(at) => {
             let c = node.contexts[at];
-            let r = pairs::tell(p, node.clock, node.accepted, c, t, volumes, out);
+            let r = pairs::tell(p, g, node.clock, node.accepted, c, t, volumes, out);
             moved(node, at, t, r)
         }
     }

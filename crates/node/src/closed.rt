@@ -2,11 +2,13 @@
 //
 // emit::try_slot does this for any message, and sizes a record before it writes it. Here it is known that the record closes, by volume; the
 // writer itself says whether there is room; and a list of reports may close one record after another, so nothing is copied that need not be.
+use crate::Settings;
 use crate::standing;
 use calendar::Stamp;
 use container::Container;
 use container::open;
 use context::Context;
+use limits::sets;
 use profile::Profile;
 use scdr::Record;
 use scdr::write;
@@ -14,6 +16,7 @@ ghost use mathlib.Core.Path.{_≡_};
 ghost use mathlib.Core.Bool.{true};
 ghost use Prim.Native.Nat.{_+_, _<_};
 ghost use Rattle.container.specs.Open.{opened, roomy};
+ghost use Rattle.limits.specs.Sets.{limitsOf};
 ghost use Rattle.node.specs.Meaning.{report};
 ghost use Rattle.node.specs.Hear.{timeAt, going, closedBy};
 ghost use Rattle.node.specs.Sound.{mostAccepted};
@@ -61,11 +64,14 @@ pub fn close(p: Profile, c: Context, t: u32, up: u64, down: u64, out: &mut [u8])
     2 + w.n
 }
 
-// The context after it. Where no container had ended, every place is blank already.
-pub fn reopened(p: Profile, c: Context, t: u32) -> Context
+// The context after it, whose record opens with the limits that are in force in its set. Where no container had ended, every place is blank
+// already.
+pub fn reopened(p: Profile, g: Settings, c: Context, t: u32) -> Context
     requires { ⌜ (roomy (c .current) ≡ true) × (c .closed < mostAccepted) ⌝ }
-    ensures { λ r. ⌜ r ≡ going c (opened (timeAt p t) (c .current .qos)) (c .closed + 1) ⌝ }
+    ensures { λ r. ⌜ r ≡ going c (opened (timeAt p t) (c .current .qos) (limitsOf (c .set) (g .sets))) (c .closed + 1) ⌝ }
 {
+    let sets = g.sets;
+    let limits = sets::limits_of(sets, c.set);
     let mut n = c;
     n.closed = c.closed + 1;
     if c.current.count != 0 {
@@ -74,12 +80,15 @@ pub fn reopened(p: Profile, c: Context, t: u32) -> Context
             zone: p.zone,
         };
         let qos = c.current.qos;
-        let o = open::opened(now, qos);
+        let o = open::opened(now, qos, limits);
         n.current = o;
         return n;
     }
     n.current.opening.seconds = t;
     n.current.opening.zone = p.zone;
+    n.current.limits.volume = limits.volume;
+    n.current.limits.seconds = limits.seconds;
+    n.current.limits.changes = limits.changes;
     n.current.uplink = 0;
     n.current.downlink = 0;
     n.current.changes = 0;

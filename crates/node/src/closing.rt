@@ -4,7 +4,6 @@ use container::OpenRecord;
 use container::Qos;
 use container::open;
 use container::qos_profile as qos;
-use profile::Limits;
 ghost use mathlib.Core.Path.{_≡_};
 ghost use mathlib.Core.Bool.{true};
 ghost use Rattle.container.specs.Open.{ample};
@@ -68,14 +67,14 @@ fn is_change(o: OpenRecord, m: Message) -> bool
     }
 }
 
-// The cause with which it closes the record, if it does.
-pub fn cause_of(l: Limits, o: OpenRecord, t: u32, m: Message) -> Perhaps
+// The cause with which it closes the record, if it does: by the limits that the record opened with.
+pub fn cause_of(o: OpenRecord, t: u32, m: Message) -> Perhaps
     requires { ⌜ ample o ≡ true ⌝ }
-    ensures { λ r. ⌜ r ≡ perhaps (closing l o t m) ⌝ }
+    ensures { λ r. ⌜ r ≡ perhaps (closing o t m) ⌝ }
 {
-    let volume = m.counts & open::volume_met(reported(o, m), l.volume);
-    let time = m.ticks & open::time_met(o, l.seconds, t);
-    let changes = is_change(o, m) & open::changes_met(o, l.changes);
+    let volume = m.counts & open::volume_met(reported(o, m));
+    let time = m.ticks & open::time_met(o, t);
+    let changes = is_change(o, m) & open::changes_met(o);
     if m.closes {
         return Perhaps::Is(m.cause);
     }

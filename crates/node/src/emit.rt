@@ -1,5 +1,6 @@
 // What a context writes when it hears something: nothing, or one record after its mark.
 use crate::Message;
+use crate::Settings;
 use crate::closing;
 use crate::closing::Perhaps;
 use crate::standing;
@@ -37,14 +38,13 @@ fn put_record(r: Record, out: &mut [u8], at: usize) -> usize
 }
 
 // How many octets an active context writes.
-fn size_of(p: Profile, c: Context, t: u32, m: Message) -> usize
-    requires { ⌜ SoundContext p t c ⌝ }
+fn size_of(p: Profile, g: Settings, c: Context, t: u32, m: Message) -> usize
+    requires { ⌜ SoundContext p g t c ⌝ }
     requires { ⌜ InRange m ⌝ }
-    ensures { λ r. ⌜ Counts (octetsOf (hear p c t m .out)) r ⌝ }
+    ensures { λ r. ⌜ Counts (octetsOf (hear p g c t m .out)) r ⌝ }
 {
-    let l = p.limits;
     let o = c.current;
-    let k = closing::cause_of(l, o, t, m);
+    let k = closing::cause_of(o, t, m);
     match k {
         Perhaps::Is(cause) => 2 + write::record_size(standing::closed_by(p, c, t, m, cause)),
         Perhaps::Nothing => 0,
@@ -52,20 +52,27 @@ fn size_of(p: Profile, c: Context, t: u32, m: Message) -> usize
 }
 
 // An active context hears something, and writes at a place.
-fn hear(p: Profile, c: Context, t: u32, m: Message, out: &mut [u8], at: usize) -> SlotAfter
-    requires { ⌜ SoundContext p t c ⌝ }
+fn hear(
+    p: Profile,
+    g: Settings,
+    c: Context,
+    t: u32,
+    m: Message,
+    out: &mut [u8],
+    at: usize,
+) -> SlotAfter
+    requires { ⌜ SoundContext p g t c ⌝ }
     requires { ⌜ InRange m ⌝ }
-    requires { ⌜ at + length (octetsOf (hear p c t m .out)) ≤ length (now out) ⌝ }
-    ensures { λ r. ⌜ Stands (stood (hear p c t m .next)) (octetsOf (hear p c t m .out)) (now (out .entry)) (now (out .exit)) at (r .context) (r .at) ⌝ }
+    requires { ⌜ at + length (octetsOf (hear p g c t m .out)) ≤ length (now out) ⌝ }
+    ensures { λ r. ⌜ Stands (stood (hear p g c t m .next)) (octetsOf (hear p g c t m .out)) (now (out .entry)) (now (out .exit)) at (r .context) (r .at) ⌝ }
 {
-    let l = p.limits;
     let o = c.current;
-    let k = closing::cause_of(l, o, t, m);
+    let k = closing::cause_of(o, t, m);
     match k {
         Perhaps::Is(cause) => {
             let r = standing::closed_by(p, c, t, m, cause);
             let next = put_record(r, out, at);
-            let context = standing::after_closing(p, c, t, m);
+            let context = standing::after_closing(p, g, c, t, m);
             SlotAfter { context, at: next }
         }
         Perhaps::Nothing => {
@@ -76,25 +83,33 @@ fn hear(p: Profile, c: Context, t: u32, m: Message, out: &mut [u8], at: usize) -
 }
 
 // The same of a slot, which may be free.
-pub fn slot_size(p: Profile, c: Context, t: u32, m: Message) -> usize
-    requires { ⌜ SoundSlot p t c ⌝ }
+pub fn slot_size(p: Profile, g: Settings, c: Context, t: u32, m: Message) -> usize
+    requires { ⌜ SoundSlot p g t c ⌝ }
     requires { ⌜ InRange m ⌝ }
-    ensures { λ r. ⌜ Counts (slotOut p t m c) r ⌝ }
+    ensures { λ r. ⌜ Counts (slotOut p g t m c) r ⌝ }
 {
     if c.active == 1 {
-        return size_of(p, c, t, m);
+        return size_of(p, g, c, t, m);
     }
     0
 }
 
-pub fn hear_slot(p: Profile, c: Context, t: u32, m: Message, out: &mut [u8], at: usize) -> SlotAfter
-    requires { ⌜ SoundSlot p t c ⌝ }
+pub fn hear_slot(
+    p: Profile,
+    g: Settings,
+    c: Context,
+    t: u32,
+    m: Message,
+    out: &mut [u8],
+    at: usize,
+) -> SlotAfter
+    requires { ⌜ SoundSlot p g t c ⌝ }
     requires { ⌜ InRange m ⌝ }
-    requires { ⌜ at + length (slotOut p t m c) ≤ length (now out) ⌝ }
-    ensures { λ r. ⌜ Stands (slotNext p t m c) (slotOut p t m c) (now (out .entry)) (now (out .exit)) at (r .context) (r .at) ⌝ }
+    requires { ⌜ at + length (slotOut p g t m c) ≤ length (now out) ⌝ }
+    ensures { λ r. ⌜ Stands (slotNext p g t m c) (slotOut p g t m c) (now (out .entry)) (now (out .exit)) at (r .context) (r .at) ⌝ }
 {
     if c.active == 1 {
-        return hear(p, c, t, m, out, at);
+        return hear(p, g, c, t, m, out, at);
     }
     SlotAfter { context: c, at }
 }
@@ -108,12 +123,12 @@ pub struct Tried {
 }
 
 // A slot hears something alone, and writes from the start of out: first the room is looked for.
-pub fn try_slot(p: Profile, c: Context, t: u32, m: Message, out: &mut [u8]) -> Tried
-    requires { ⌜ SoundSlot p t c ⌝ }
+pub fn try_slot(p: Profile, g: Settings, c: Context, t: u32, m: Message, out: &mut [u8]) -> Tried
+    requires { ⌜ SoundSlot p g t c ⌝ }
     requires { ⌜ InRange m ⌝ }
-    ensures { λ r. ⌜ Tries p t m c (now (out .entry)) (now (out .exit)) (r .answer) (r .context) (r .written) ⌝ }
+    ensures { λ r. ⌜ Tries p g t m c (now (out .entry)) (now (out .exit)) (r .answer) (r .context) (r .written) ⌝ }
 {
-    let n = slot_size(p, c, t, m);
+    let n = slot_size(p, g, c, t, m);
     if out.len() < n {
         return Tried {
             answer: 11,
@@ -121,7 +136,7 @@ pub fn try_slot(p: Profile, c: Context, t: u32, m: Message, out: &mut [u8]) -> T
             written: 0,
         };
     }
-    let e = hear_slot(p, c, t, m, out, 0);
+    let e = hear_slot(p, g, c, t, m, out, 0);
     let context = e.context;
     Tried {
         answer: 0,

@@ -1,4 +1,5 @@
-// The node: its profile, clock, sixteen contexts and sixteen subscribers as one value; when it is sound; and what an event does to it.
+// The node: its profile, what it is set to, its clock, sixteen contexts and sixteen subscribers as one value; when it is sound; and what an
+// event does to it.
 //
 // sound has the rules of a node and a fresh one; step the whole call. Under it: task finds out what a call is to do; meaning says who
 // hears an event and what it is to them, closing what that does to an open record, standing what then stands, emit what is written, table
@@ -19,13 +20,22 @@ mod task;
 
 use container::Qos;
 use context::Context;
+use limits::LimitSet;
 use profile::Profile;
 use subscriber::Subscriber;
 
-// The whole node. Once it is handed back, nothing of it is kept anywhere else.
+// What events set, and is in force now: the sets of limits. How many of them are used the profile says.
+#[repr(C)]
+pub struct Settings {
+    pub sets: [LimitSet; 8],
+}
+
+// The whole node. Once it is handed back, nothing of it is kept anywhere else. The profile is the one that it was set up with: no event
+// changes it.
 #[repr(C)]
 pub struct Node {
     pub profile: Profile,
+    pub settings: Settings,
     // local seconds since 2000-01-01 00:00:00
     pub clock: u32,
     // events accepted so far

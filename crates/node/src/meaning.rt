@@ -5,6 +5,7 @@ use container::qos_profile as qos;
 use event::Activation;
 use event::Event;
 use event::Name;
+use event::Replacement;
 use mcdr::Place;
 use subscriber::Notice;
 ghost use mathlib.Core.Path.{_≡_};
@@ -19,6 +20,8 @@ pub enum Meaning {
     Attaches(u64, Place),
     // the subscriber of a name hears this
     Notifies(u64, Notice),
+    // a set of limits is replaced
+    Replaces(Replacement),
 }
 
 pub fn meaning_of(e: Event) -> Meaning
@@ -39,6 +42,7 @@ pub fn meaning_of(e: Event) -> Meaning
         }
         Event::ManageSubscriber(imsi) => Meaning::Notifies(imsi, Notice::Managed),
         Event::Detach(imsi, cause) => Meaning::Notifies(imsi, Notice::Detached(cause)),
+        Event::Replace(r) => Meaning::Replaces(r),
     }
 }
 

@@ -1,7 +1,8 @@
 // Reports told to one context, pair by pair: what a batch does to the slot that it names.
 //
 // A pair that closes nothing is three additions. So what was reported since the last closing is kept beside the context, and is added to it
-// only when something closes, and at the end: a context has 760 octets, and each function that takes it copies it.
+// only when something closes, and at the end: a context has 776 octets, and each function that takes it copies it.
+use crate::Settings;
 use crate::closed;
 use container::open;
 use context::Context;
@@ -44,10 +45,12 @@ fn stopped(answer: u8, applied: usize, context: Context, written: usize) -> Told
     }
 }
 
-// The pairs of a list, one after another, at a time: each writes where the last ended. The first that is refused ends them: by 7 where so many
+// The pairs of a list, one after another, at a time: each writes where the last ended. The record that is open keeps its own limits, and those
+// that open after it have the ones that are in force in the context's set. The first that is refused ends them: by 7 where so many
 // events were accepted already, by 11 where there is no room for what it closes.
 pub fn tell(
     p: Profile,
+    g: Settings,
     clock: u32,
     accepted: u64,
     c: Context,
@@ -55,16 +58,15 @@ pub fn tell(
     volumes: &[u32],
     out: &mut [u8],
 ) -> Told
-    requires { ⌜ Listens p clock accepted c t ⌝ }
-    ensures { λ r. ⌜ Tells p clock accepted c t (now (volumes .entry)) (now (out .entry)) (now (out .exit))
+    requires { ⌜ Listens p g clock accepted c t ⌝ }
+    ensures { λ r. ⌜ Tells p g clock accepted c t (now (volumes .entry)) (now (out .entry)) (now (out .exit))
         (r .answer) (r .applied) (r .context) (r .written) ⌝ }
 {
-    let l = p.limits;
     let o = c.current;
     let mut last = c;
     let mut up: u64 = 0;
     let mut down: u64 = 0;
-    let mut left = open::volume_left(o, l.volume);
+    let mut left = open::volume_left(o);
     let mut at: usize = 0;
     let mut k: usize = 0;
     while k < volumes.len() / 2 {
@@ -85,11 +87,11 @@ pub fn tell(
         if n == 0 {
             return stopped(11, k, counted(last, up, down), at);
         }
-        last = closed::reopened(p, last, t);
+        last = closed::reopened(p, g, last, t);
         at += n;
         up = 0;
         down = 0;
-        left = l.volume;
+        left = last.current.limits.volume;
         k += 1;
     }
     stopped(0, k, counted(last, up, down), at)

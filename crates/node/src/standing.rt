@@ -1,11 +1,13 @@
 // What stands of a context after a message: the record that goes on, the record that closed, the next one.
 use crate::Message;
+use crate::Settings;
 use crate::closing;
 use crate::closing::Perhaps;
 use calendar::Stamp;
 use container::OpenRecord;
 use container::open;
 use context::Context;
+use limits::sets;
 use profile::Profile;
 use scdr::Record;
 ghost use mathlib.Core.Path.{_≡_};
@@ -106,10 +108,10 @@ pub fn closed_by(p: Profile, c: Context, t: u32, m: Message, cause: u8) -> Recor
     record_of(p, c, e, cause, number)
 }
 
-// What stands in the slot after a closing.
-pub fn after_closing(p: Profile, c: Context, t: u32, m: Message) -> Context
+// What stands in the slot after a closing: the next record opens with the limits that are in force in the context's set.
+pub fn after_closing(p: Profile, g: Settings, c: Context, t: u32, m: Message) -> Context
     requires { ⌜ CanGrow c ⌝ }
-    ensures { λ r. ⌜ r ≡ stood (afterClosing p c t m) ⌝ }
+    ensures { λ r. ⌜ r ≡ stood (afterClosing p g c t m) ⌝ }
 {
     if m.releases {
         return context::no_context();
@@ -117,5 +119,7 @@ pub fn after_closing(p: Profile, c: Context, t: u32, m: Message) -> Context
     let o = c.current;
     let q = closing::qos_after(o, m);
     let now = time_at(p, t);
-    going(c, open::opened(now, q), c.closed + 1)
+    let sets = g.sets;
+    let limits = sets::limits_of(sets, c.set);
+    going(c, open::opened(now, q, limits), c.closed + 1)
 }

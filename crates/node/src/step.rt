@@ -1,6 +1,7 @@
 // One call: an event's octets, a lent buffer, and the node that the last call handed back.
 use crate::Message;
 use crate::Node;
+use crate::Settings;
 use crate::emit;
 use crate::emit::Tried;
 use crate::sound;
@@ -13,6 +14,8 @@ use context::Context;
 use context::slots::Slot;
 use event::Activation;
 use event::Name;
+use event::Replacement;
+use limits::sets;
 use mcdr::Place;
 use octets::names;
 use profile::Profile;
@@ -30,7 +33,7 @@ ghost use Rattle.event.specs.Private.Activated.{Activated};
 ghost use Rattle.node.specs.Sound.{mostAccepted};
 ghost use Rattle.node.specs.Step.{Steps, broughtBy, activated};
 ghost use Rattle.node.specs.Private.Premises.{InRange, SoundTable};
-ghost use Rattle.node.specs.Private.Range.{advanced, placed, told, Serves};
+ghost use Rattle.node.specs.Private.Range.{advanced, placed, told, resettled, Serves};
 
 // The answer, the node, and how many octets were written.
 pub struct Stepped {
@@ -69,25 +72,26 @@ fn accepted(node: Node, t: u32, contexts: [Context; 16], written: usize) -> Step
 
 // All slots hear m: first the room is looked for, then each writes where the last ended.
 fn serve(node: Node, t: u32, m: Message, out: &mut [u8]) -> Stepped
-    requires { ⌜ SoundTable (node .profile) t (node .contexts) ⌝ }
+    requires { ⌜ SoundTable (node .profile) (node .settings) t (node .contexts) ⌝ }
     requires { ⌜ InRange m ⌝ }
     requires { ⌜ node .accepted < mostAccepted ⌝ }
     ensures { λ r. ⌜ Serves node 0 16 t m (now (out .entry)) (now (out .exit)) (r .answer) (r .node) (r .written) ⌝ }
 {
     let p = node.profile;
+    let g = node.settings;
     let cs = node.contexts;
-    let n = table::size_all(p, cs, t, m);
+    let n = table::size_all(p, g, cs, t, m);
     if out.len() < n {
         return refused(node, 11);
     }
-    let e = table::hear_all(p, cs, t, m, out);
+    let e = table::hear_all(p, g, cs, t, m, out);
     let contexts = e.contexts;
     accepted(node, t, contexts, e.at)
 }
 
 // The IMSI of an activate.
 fn imsi_of(event: &[u8]) -> [u8; 8]
-    requires { ⌜ 36 ≤ length (now event) ⌝ }
+    requires { ⌜ 37 ≤ length (now event) ⌝ }
     ensures { λ r. ⌜ r ≡ imsiOf (now (event .entry)) ⌝ }
 {
     let mut imsi = [0u8; 8];
@@ -95,14 +99,15 @@ fn imsi_of(event: &[u8]) -> [u8; 8]
     imsi
 }
 
-// The context that an activate opens. Its name was checked with the event; here the check is asked for what it hands back, the name in lower case.
-fn opening(p: Profile, t: u32, a: Activation, event: &[u8]) -> Context
+// The context that an activate opens, with the limits that are in force in its set. Its name was checked with the event; here the check is asked
+// for what it hands back, the name in lower case.
+fn opening(p: Profile, g: Settings, t: u32, a: Activation, event: &[u8]) -> Context
     requires { ⌜ Activated (now event) a ⌝ }
-    ensures { λ r. ⌜ r ≡ activated p t (a .name) (broughtBy a (now (event .entry))) ⌝ }
+    ensures { λ r. ⌜ r ≡ activated p t (a .name) (broughtBy g a (now (event .entry))) ⌝ }
 {
     let name = a.name;
     let imsi = imsi_of(event);
-    let checked = names::check_apn(&event[36..]);
+    let checked = names::check_apn(&event[37..]);
     let apn = checked.apn;
     let qos = a.qos;
     let flags = event[15];
@@ -110,10 +115,13 @@ fn opening(p: Profile, t: u32, a: Activation, event: &[u8]) -> Context
         seconds: t,
         zone: p.zone,
     };
-    let current = open::opened(now, qos);
+    let sets = g.sets;
+    let limits = sets::limits_of(sets, a.set);
+    let current = open::opened(now, qos, limits);
     Context {
         active: 1,
         flags,
+        set: a.set,
         name,
         imsi,
         apn,
@@ -126,11 +134,11 @@ fn opening(p: Profile, t: u32, a: Activation, event: &[u8]) -> Context
 }
 
 // What comes of the slot that it fills: nothing is written.
-fn opened(p: Profile, t: u32, a: Activation, event: &[u8]) -> Tried
+fn opened(p: Profile, g: Settings, t: u32, a: Activation, event: &[u8]) -> Tried
     requires { ⌜ Activated (now event) a ⌝ }
-    ensures { λ r. ⌜ (r .answer ≡ 0) × ((r .context ≡ activated p t (a .name) (broughtBy a (now (event .entry)))) × (r .written ≡ 0)) ⌝ }
+    ensures { λ r. ⌜ (r .answer ≡ 0) × ((r .context ≡ activated p t (a .name) (broughtBy g a (now (event .entry)))) × (r .written ≡ 0)) ⌝ }
 {
-    let context = opening(p, t, a, event);
+    let context = opening(p, g, t, a, event);
     Tried {
         answer: 0,
         context,
@@ -193,17 +201,38 @@ fn told(node: Node, i: usize, t: u32, k: Told) -> Stepped
     }
 }
 
+// The node one event on, with a set of limits replaced. No context hears of it: each open record keeps the limits that it opened with.
+fn resettled(node: Node, t: u32, r: Replacement) -> Stepped
+    requires { ⌜ node .accepted < mostAccepted ⌝ }
+    ensures { λ z. ⌜ (z .answer ≡ 0) × ((z .node ≡ resettled node t r) × (z .written ≡ 0)) ⌝ }
+{
+    let g = node.settings;
+    let before = g.sets;
+    let limits = r.limits;
+    let sets = sets::replaced(before, r.set, r.edition, limits);
+    let settings = Settings { sets };
+    let mut n = node;
+    n.settings = settings;
+    n.clock = t;
+    n.accepted = node.accepted + 1;
+    Stepped {
+        answer: 0,
+        node: n,
+        written: 0,
+    }
+}
+
 // Takes an event: any octets, any node, any buffer. The answer is 0, or the number of the first refusal that fits; then the node is the
 // same and nothing is written. Accepted, it answers the node after the event, and the records that it closed are written from the
 // start of out, each after its mark.
 //
 // The loop looks at every slot, whether it is as it must be, and takes its name down. (It stands here because a function that takes the
-// node copies its 15,816 octets.)
+// node copies its 16,384 octets.)
 pub fn step(node: Node, event: &[u8], out: &mut [u8]) -> Stepped
     ensures { λ r. ⌜ Steps node (now (event .entry)) (now (out .entry)) (now (out .exit)) (r .answer) (r .node) (r .written) ⌝ }
 {
     let p = node.profile;
-    let l = p.limits;
+    let g = node.settings;
     let none = Slot {
         active: 0,
         name: Name { id: 0, ggsn: 0 },
@@ -216,7 +245,7 @@ pub fn step(node: Node, event: &[u8], out: &mut [u8]) -> Stepped
     let mut i: usize = 0;
     while i < 16 {
         let c = node.contexts[i];
-        good = good & context::sound::slot_ok(l, p.zone, node.clock, node.accepted, c);
+        good = good & context::sound::slot_ok(p.sets, p.zone, node.clock, node.accepted, c);
         let name = c.name;
         names[i] = Slot {
             active: c.active,
@@ -231,20 +260,30 @@ pub fn step(node: Node, event: &[u8], out: &mut [u8]) -> Stepped
         };
         i += 1;
     }
-    let sound = sound::keeps_rules(p, node.clock, node.accepted, names, good, imsis, fine);
-    let k = task::task_for(sound, node.clock, node.accepted, names, imsis, event);
+    let sound = sound::keeps_rules(p, g, node.clock, node.accepted, names, good, imsis, fine);
+    let k = task::task_for(
+        sound,
+        p.sets,
+        g,
+        node.clock,
+        node.accepted,
+        names,
+        imsis,
+        event,
+    );
     match k {
         Task::Refuse(answer) => refused(node, answer),
         Task::One(at, t, m) => {
             let c = node.contexts[at];
-            placed(node, at, t, emit::try_slot(p, c, t, m, out))
+            placed(node, at, t, emit::try_slot(p, g, c, t, m, out))
         }
         Task::All(t, m) => serve(node, t, m, out),
-        Task::Open(at, t, a) => placed(node, at, t, opened(p, t, a, event)),
+        Task::Open(at, t, a) => placed(node, at, t, opened(p, g, t, a, event)),
         Task::Notify(at, t, m) => {
             let s = node.subscribers[at];
             told(node, at, t, tell::tell(p, s, t, m, out))
         }
         Task::Attach(at, t, place) => told(node, at, t, attached(p, t, place, event)),
+        Task::Replace(t, r) => resettled(node, t, r),
     }
 }

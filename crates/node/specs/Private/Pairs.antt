@@ -8,6 +8,7 @@ use lib.ListN.{set}
 use Rattle.container.specs.Open as O
 use Rattle.profile.specs.declared.Profile.{Profile}
 use Rattle.profile.specs.Profile.{profileOk}
+use Rattle.limits.specs.Sets.{setsOk}
 use Rattle.event.specs.declared.Name.{Name}
 use Rattle.context.specs.declared.Context.{Context}
 use Rattle.context.specs.declared.slots.Slot.{Slot}
@@ -16,6 +17,7 @@ use Rattle.context.specs.declared.slots.Found.the-variants as F
 use Rattle.context.specs.Slots.{bears, firstFrom}
 use Rattle.context.specs.Sound.{contextOk}
 use Rattle.node.specs.declared.Node.{Node}
+use Rattle.node.specs.declared.Settings.{Settings}
 use Rattle.node.specs.declared.batch.Reports.{Reports}
 use Rattle.node.specs.declared.batch.Reports.the-variants.{Refuse, Nothing, Tell}
 use Rattle.node.specs.Meaning.{report}
@@ -37,6 +39,7 @@ pub record Seat : Type 0 where
 abbrev pub seated : Node → ℕ → Seat → Node
 seated n i s = record {
   profile = n .profile;
+  settings = n .settings;
   clock = s .clock;
   accepted = s .accepted;
   contexts = set (n .contexts) i (s .context);
@@ -58,8 +61,8 @@ seatThen s t r =
     (0, (record { clock = t; accepted = s .accepted + 1; context = r .1 .0 }, (r .1 .1 .0, r .1 .1 .1)))
     (r .0, (s, (0, r .1 .1 .1)))
 
-unfoldable pub seatStep : Profile → ℕ → Seat → ℕ × ℕ → List ℕ → ℕ × (Seat × (ℕ × List ℕ))
-seatStep p t s v b = cond (leb mostAccepted (s .accepted)) (7, (s, (0, b))) (seatThen s t (triedOf p t (report (v .0) (v .1)) (s .context) b))
+unfoldable pub seatStep : Profile → Settings → ℕ → Seat → ℕ × ℕ → List ℕ → ℕ × (Seat × (ℕ × List ℕ))
+seatStep p g t s v b = cond (leb mostAccepted (s .accepted)) (7, (s, (0, b))) (seatThen s t (triedOf p g t (report (v .0) (v .1)) (s .context) b))
 
 -- ---- all pairs of a list
 
@@ -68,19 +71,20 @@ abbrev pub counted : Context → ℕ → ℕ → Context
 counted c up down = going c (O.reported (c .current) up down) (c .closed)
 
 -- a context of a sound node, at a time that the node takes
-pub record Listens (p : Profile) (clock accepted : ℕ) (c : Context) (t : ℕ) : Type 0 where
+pub record Listens (p : Profile) (g : Settings) (clock accepted : ℕ) (c : Context) (t : ℕ) : Type 0 where
   pub profile : profileOk p ≡ true
+  pub sets : setsOk (p .sets) (g .sets) ≡ true
   pub since : clock ≤ t
   pub until : t ≤ latest
   pub few : accepted ≤ mostAccepted
   pub active : c .active ≡ 1
-  pub sound : contextOk (p .limits) (p .zone) clock accepted c ≡ true
+  pub sound : contextOk (p .sets) (p .zone) clock accepted c ≡ true
   pub shape : Shaped c
 
-pub record Tells (p : Profile) (clock accepted : ℕ) (c : Context) (t : ℕ) (vs b b′ : List ℕ) (answer applied : ℕ) (d : Context) (written : ℕ) : Type 0 where
+pub record Tells (p : Profile) (g : Settings) (clock accepted : ℕ) (c : Context) (t : ℕ) (vs b b′ : List ℕ) (answer applied : ℕ) (d : Context) (written : ℕ) : Type 0 where
   pub is : _≡_ {A = Done Seat}
       (record { answer = answer; applied = applied; left = seatAt clock accepted t applied d; written = written; buffer = b′ })
-      (oneByOne (seatStep p t) (seatAt clock accepted t 0 c) (pairsOf vs) b)
+      (oneByOne (seatStep p g t) (seatAt clock accepted t 0 c) (pairsOf vs) b)
   pub few : accepted + applied ≤ mostAccepted
 
 -- ---- what a list of k numbers is to do

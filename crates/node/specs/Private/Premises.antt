@@ -9,9 +9,11 @@ use Rattle.container.specs.Open.{ample, roomy}
 use Rattle.event.specs.Fields.{release}
 use Rattle.profile.specs.declared.Profile.{Profile}
 use Rattle.profile.specs.Profile.{profileOk}
+use Rattle.limits.specs.Sets.{setsOk}
 use Rattle.context.specs.declared.Context.{Context}
 use Rattle.context.specs.Sound.{contextOk, slotOk, slotsOk}
 use Rattle.node.specs.declared.Message.{Message}
+use Rattle.node.specs.declared.Settings.{Settings}
 use Rattle.node.specs.declared.closing.Perhaps.{Perhaps}
 use Rattle.node.specs.declared.closing.Perhaps.the-variants.{Is, Nothing}
 use Rattle.node.specs.Sound.{sound, latest, mostAccepted}
@@ -41,24 +43,25 @@ pub record CanGrow (c : Context) : Type 0 where
   pub changes : c .current .changes < 255
   pub closed : c .closed < mostAccepted
 
--- a time that a sound node takes, and its profile
-pub record Due (p : Profile) (t : ℕ) : Type 0 where
+-- a time that a sound node takes, its profile, and what it is set to
+pub record Due (p : Profile) (g : Settings) (t : ℕ) : Type 0 where
   pub clock : ℕ
   pub accepted : ℕ
   pub profile : profileOk p ≡ true
+  pub sets : setsOk (p .sets) (g .sets) ≡ true
   pub since : clock ≤ t
   pub until : t ≤ latest
   pub few : accepted < mostAccepted
 
 -- then: an active context, a slot, the whole table
-pub record SoundContext (p : Profile) (t : ℕ) (c : Context) : Type 0 where
-  pub due : Due p t
-  pub sound : contextOk (p .limits) (p .zone) (due .clock) (due .accepted) c ≡ true
+pub record SoundContext (p : Profile) (g : Settings) (t : ℕ) (c : Context) : Type 0 where
+  pub due : Due p g t
+  pub sound : contextOk (p .sets) (p .zone) (due .clock) (due .accepted) c ≡ true
 
-pub record SoundSlot (p : Profile) (t : ℕ) (c : Context) : Type 0 where
-  pub due : Due p t
-  pub sound : slotOk (p .limits) (p .zone) (due .clock) (due .accepted) c ≡ true
+pub record SoundSlot (p : Profile) (g : Settings) (t : ℕ) (c : Context) : Type 0 where
+  pub due : Due p g t
+  pub sound : slotOk (p .sets) (p .zone) (due .clock) (due .accepted) c ≡ true
 
-pub record SoundTable (p : Profile) (t : ℕ) (cs : List Context) : Type 0 where
-  pub due : Due p t
-  pub sound : slotsOk (p .limits) (p .zone) (due .clock) (due .accepted) cs ≡ true
+pub record SoundTable (p : Profile) (g : Settings) (t : ℕ) (cs : List Context) : Type 0 where
+  pub due : Due p g t
+  pub sound : slotsOk (p .sets) (p .zone) (due .clock) (due .accepted) cs ≡ true

@@ -22,12 +22,12 @@ use Rattle.node.proofs.batch.batch.Statement.{statement}
 use Rattle.node.proofs.batch.batch.Tie as tie
 
 abbrev Inv-loop : tie.InvT-loop
-Inv-loop id ggsn t volumes out node p l names₀ good₀ imsis₀ fine₀ i₀ names good imsis fine i =
-    Looking slotOf (slotsOk l (p .zone) (node .clock) (node .accepted)) (node .contexts) names good i
+Inv-loop id ggsn t volumes out node p gs names₀ good₀ imsis₀ fine₀ i₀ names good imsis fine i =
+    Looking slotOf (slotsOk (p .sets) (p .zone) (node .clock) (node .accepted)) (node .contexts) names good i
     × Looking imsiSlot (subscribersOk (p .zone) (node .clock) (node .accepted)) (node .subscribers) imsis fine i
 
 abbrev μ-loop : tie.MeasureT-loop
-μ-loop id ggsn t volumes out node p l names₀ good₀ imsis₀ fine₀ i₀ names good imsis fine i = 16 - i
+μ-loop id ggsn t volumes out node p gs names₀ good₀ imsis₀ fine₀ i₀ names good imsis fine i = 16 - i
 
 -- what the types say of the node, of the name and the time, and of the numbers
 held : (c : tie.Start Inv-loop μ-loop) → Held (c .args .t1)

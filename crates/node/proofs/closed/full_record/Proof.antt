@@ -11,7 +11,7 @@ use Rattle.node.proofs.closed.full_record.Tie as tie
 
 -- the places of the containers
 places : (c : tie.Start) → length (c .args .c .current .containers) ≡ 15
-places c = search (needs, length-of-map, c .good .1 .0 .1 .1 .1 .1 .1 .1 .1 .1 .1 .1 .0)
+places c = search (needs, length-of-map, c .good .1 .0 .1 .1 .1 .1 .1 .1 .1 .1 .1 .1 .1 .0)
 
 few : (c : tie.Start) → c .args .c .current .count < 15
 few c = below (c .args .c .current) (places c) (c .pre .place)

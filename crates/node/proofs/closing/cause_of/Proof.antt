@@ -8,13 +8,13 @@ returns : tie.Need-returns
 returns c =
     let x = c in
     let a = x .before .before .before .before .before .before .before .before .args in
-    at-once (a .l) (a .o) (a .t) (a .m) (x .if1 .taken)
+    at-once (a .o) (a .t) (a .m) (x .if1 .taken)
 
 returns-2 : tie.Need-returns-2
 returns-2 c =
     let x = c .before in
     let a = x .before .before .before .before .before .before .before .before .args in
-    by-volume (a .l) (a .o) (a .t) (a .m) (x .before .before .before .before .before .before .before .reported .ensures)
+    by-volume (a .o) (a .t) (a .m) (x .before .before .before .before .before .before .before .reported .ensures)
     (x .before .before .before .before .before .before .volume-met .ensures) (x .before .before .before .before .time-met .ensures)
     (x .before .before .is-change .ensures) (x .before .changes-met .ensures) (x .if1 .left) (c .if2 .taken)
 
@@ -22,7 +22,7 @@ returns-3 : tie.Need-returns-3
 returns-3 c =
     let x = c .before .before in
     let a = x .before .before .before .before .before .before .before .before .args in
-    by-time (a .l) (a .o) (a .t) (a .m) (x .before .before .before .before .before .before .before .reported .ensures)
+    by-time (a .o) (a .t) (a .m) (x .before .before .before .before .before .before .before .reported .ensures)
     (x .before .before .before .before .before .before .volume-met .ensures) (x .before .before .before .before .time-met .ensures)
     (x .before .before .is-change .ensures) (x .before .changes-met .ensures) (x .if1 .left) (c .before .if2 .left) (c .if3 .taken)
 
@@ -30,7 +30,7 @@ returns-4 : tie.Need-returns-4
 returns-4 c =
     let x = c .before .before .before in
     let a = x .before .before .before .before .before .before .before .before .args in
-    by-changes (a .l) (a .o) (a .t) (a .m) (x .before .before .before .before .before .before .before .reported .ensures)
+    by-changes (a .o) (a .t) (a .m) (x .before .before .before .before .before .before .before .reported .ensures)
     (x .before .before .before .before .before .before .volume-met .ensures) (x .before .before .before .before .time-met .ensures)
     (x .before .before .is-change .ensures) (x .before .changes-met .ensures) (x .if1 .left) (c .before .before .if2 .left) (c .before .if3 .left)
     (c .if4 .taken)
@@ -39,7 +39,7 @@ returns-5 : tie.Need-returns-5
 returns-5 c =
     let x = c .before .before .before in
     let a = x .before .before .before .before .before .before .before .before .args in
-    by-none (a .l) (a .o) (a .t) (a .m) (x .before .before .before .before .before .before .before .reported .ensures)
+    by-none (a .o) (a .t) (a .m) (x .before .before .before .before .before .before .before .reported .ensures)
     (x .before .before .before .before .before .before .volume-met .ensures) (x .before .before .before .before .time-met .ensures)
     (x .before .before .is-change .ensures) (x .before .changes-met .ensures) (x .if1 .left) (c .before .before .if2 .left) (c .before .if3 .left)
     (c .if4 .left)

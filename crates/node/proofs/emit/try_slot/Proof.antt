@@ -9,7 +9,7 @@ slot-size-requires : tie.Need-slot-size-requires
 slot-size-requires c κs = search needs
 
 returns : tie.Need-returns
-returns c = let a = c .before .before .before .args in tries-full (a .p) (a .t) (a .m) (a .c) (a .out .now) (c .before .slot-size .ensures .is) (c .if1 .taken)
+returns c = let a = c .before .before .before .args in tries-full (a .p) (a .g) (a .t) (a .m) (a .c) (a .out .now) (c .before .slot-size .ensures .is) (c .if1 .taken)
 
 hear-slot-requires : tie.Need-hear-slot-requires
 hear-slot-requires c κs = (
@@ -23,7 +23,7 @@ hear-slot-requires c κs = (
 
 returns-2 : tie.Need-returns-2
 returns-2 c =
-    let a = c .before .before .before .before .before .before .before .before .args in tries-done (a .p) (a .t) (a .m) (a .c) (a .out .now)
+    let a = c .before .before .before .before .before .before .before .before .args in tries-done (a .p) (a .g) (a .t) (a .m) (a .c) (a .out .now)
     (omega (arith, c .before .before .before .before .before .before .slot-size .ensures .is, c .before .before .before .before .before .if1 .left))
     (c .before .before .before .hear-slot .ensures)
 

@@ -36,11 +36,14 @@ returns-10 c = rw (c .before .e8 .given .1)
 returns-11 : tie.Need-returns-11
 returns-11 c = rw (c .before .e9 .given .1)
 
+returns-12 : tie.Need-returns-12
+returns-12 c = rw (c .before .e10 .given .1)
+
 pub meaning-of-spec : {M : Type 1} → statement M
 meaning-of-spec =
     tie.close
     (tie.spec (λ c. search needs) (λ c. search needs) (λ c κs. search needs) (λ c. search needs)
     (λ c κs. search needs) (λ c. search needs) (λ c κs. search needs) (λ c. search needs) (λ c κs. search needs)
     (λ c. search needs) (λ c κs. search needs) (λ c. search needs) (λ c κs. search needs)
-    (λ c. search needs) (λ c. search needs) (λ c. search needs) (λ c. search needs)
-    returns returns-2 returns-3 returns-4 returns-5 returns-6 returns-7 returns-8 returns-9 returns-10 returns-11)
+    (λ c. search needs) (λ c. search needs) (λ c. search needs) (λ c. search needs) (λ c. search needs)
+    returns returns-2 returns-3 returns-4 returns-5 returns-6 returns-7 returns-8 returns-9 returns-10 returns-11 returns-12)

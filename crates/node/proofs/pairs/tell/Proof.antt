@@ -12,16 +12,16 @@ use Rattle.node.proofs.pairs.tell.Statement.{statement}
 use Rattle.node.proofs.pairs.tell.Tie as tie
 
 abbrev Inv-loop : tie.InvT-loop
-Inv-loop p clock accepted t volumes out₀ l last₀ up₀ down₀ left₀ at₀ k₀ out last up down left at k =
-    (length out ≡ length out₀) × Telling p clock accepted last₀ t volumes out₀ out last up down left at k
+Inv-loop p gs clock accepted t volumes out₀ last₀ up₀ down₀ left₀ at₀ k₀ out last up down left at k =
+    (length out ≡ length out₀) × Telling p gs clock accepted last₀ t volumes out₀ out last up down left at k
 
 abbrev μ-loop : tie.MeasureT-loop
-μ-loop p clock accepted t volumes out₀ l last₀ up₀ down₀ left₀ at₀ k₀ out last up down left at k = length volumes / 2 - k
+μ-loop p gs clock accepted t volumes out₀ last₀ up₀ down₀ left₀ at₀ k₀ out last up down left at k = length volumes / 2 - k
 
 -- ---- in a turn of the loop
 
 abbrev begun : tie.At-loop Inv-loop μ-loop → tie.Start Inv-loop μ-loop
-begun l = l .before .before .before .before .before .before
+begun l = l .before .before .before .before .before
 
 -- both numbers of the pair are read
 abbrev turn : tie.After-shared-slice-known3 Inv-loop μ-loop → tie.At-loop Inv-loop μ-loop
@@ -38,7 +38,7 @@ due e = record {
 -- ---- the needs
 
 loop-holds : tie.Need-loop-holds Inv-loop μ-loop
-loop-holds c = (refl, telling-none (c .before .before .before .before .before .pre) _ _ (c .volume-left .ensures))
+loop-holds c = (refl, telling-none (c .before .before .before .before .pre) _ _ (c .volume-left .ensures))
 
 add-if1 : tie.Need-add-if1 Inv-loop μ-loop
 add-if1 c = omega (arith, c .before .loop .inv .1 .few)

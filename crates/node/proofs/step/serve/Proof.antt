@@ -10,18 +10,18 @@ size-all-requires c κs = search needs
 
 returns : tie.Need-returns
 returns c =
-    let s = c .before .before .before .before .before .before in
+    let s = c .before .before .before .before .before .before .before in
     serves-full (s .args .node) 0 16 (s .args .t) (s .args .m) (s .args .out .now) (c .before .before .size-all .ensures) (c .before .if1 .taken)
     (c .refused .ensures .0) (c .refused .ensures .1 .0) (c .refused .ensures .1 .1)
 
 hear-all-requires : tie.Need-hear-all-requires
 hear-all-requires c κs =
-    let s = c .before .before .before .before .before .before in
+    let s = c .before .before .before .before .before .before .before in
     (s .pre .0, (s .pre .1 .0, omega (arith, c .before .before .size-all .ensures, c .before .if1 .left)))
 
 returns-2 : tie.Need-returns-2
 returns-2 c =
-    let s = c .before .before .before .before .before .before .before .before .before .before .before in
+    let s = c .before .before .before .before .before .before .before .before .before .before .before .before in
     serves-done (s .args .node) 0 16 (s .args .t) (s .args .m) (s .args .out .now)
     (omega (
       arith,

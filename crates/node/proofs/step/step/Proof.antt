@@ -14,18 +14,18 @@ use Rattle.node.specs.Held.{Held}
 use Rattle.node.proofs.Holds.{held-is}
 use Rattle.node.proofs.Ranges.{slotted}
 use Rattle.node.proofs.Served.{ready}
-use Rattle.node.proofs.Tasks.{Tasked, tasked-by, steps-refused, steps-one, steps-all, steps-open, steps-notify, steps-attach}
+use Rattle.node.proofs.Tasks.{Tasked, tasked-by, steps-refused, steps-one, steps-all, steps-open, steps-notify, steps-attach, steps-replace}
 use borrow.Author.Needs.{needs}
 use Rattle.node.proofs.step.step.Statement.{statement}
 use Rattle.node.proofs.step.step.Tie as tie
 
 abbrev Inv-loop : tie.InvT-loop
-Inv-loop event out node p l names₀ good₀ imsis₀ fine₀ i₀ names good imsis fine i =
-    Looking slotOf (slotsOk l (p .zone) (node .clock) (node .accepted)) (node .contexts) names good i
+Inv-loop event out node p gs names₀ good₀ imsis₀ fine₀ i₀ names good imsis fine i =
+    Looking slotOf (slotsOk (p .sets) (p .zone) (node .clock) (node .accepted)) (node .contexts) names good i
     × Looking imsiSlot (subscribersOk (p .zone) (node .clock) (node .accepted)) (node .subscribers) imsis fine i
 
 abbrev μ-loop : tie.MeasureT-loop
-μ-loop event out node p l names₀ good₀ imsis₀ fine₀ i₀ names good imsis fine i = 16 - i
+μ-loop event out node p gs names₀ good₀ imsis₀ fine₀ i₀ names good imsis fine i = 16 - i
 
 -- what the types say of the node
 held : (c : tie.Start Inv-loop μ-loop) → Held (c .args .t1)
@@ -75,7 +75,7 @@ try-slot-requires c κs =
     let w = c .before .before .before .before .before in
     let s = start w in
     let t = the-task w _ (c .before .before .before .k2 .given .1) in (
-      slotted (s .args .t1 .profile) _ (s .args .t1 .contexts) _ (omega (arith, held s .size, t .fit .0)) (ready (s .args .t1) _ (t .fit .1)),
+      slotted (s .args .t1 .profile) (s .args .t1 .settings) _ (s .args .t1 .contexts) _ (omega (arith, held s .size, t .fit .0)) (ready (s .args .t1) _ (t .fit .1)),
       rw (c .before .before .before .k2 .given .1) at (w .task-for .ensures .1),
     )
 
@@ -161,6 +161,17 @@ returns-6 c =
     steps-attach (s .args .t1) (s .args .event .now) (s .args .out .now) (the-task w _ (c .before .before .before .k6 .given .1)) (c .before .attached .ensures)
     (c .told2 .ensures)
 
+-- a set of limits is replaced
+
+resettled-requires : tie.Need-resettled-requires Inv-loop μ-loop
+resettled-requires c κs = the-task (c .before .before .before) _ (c .before .k7 .given .1) .fit .few
+
+returns-7 : tie.Need-returns-7 Inv-loop μ-loop
+returns-7 c =
+    let w = c .before .before .before .before in
+    let s = start w in
+    steps-replace (s .args .t1) (s .args .event .now) (s .args .out .now) (the-task w _ (c .before .before .k7 .given .1)) (c .resettled .ensures)
+
 -- nothing is done
 
 returns : tie.Need-returns Inv-loop μ-loop
@@ -178,5 +189,5 @@ step-spec =
     (λ c. search needs) (λ c. search needs) loop-again (λ c κs. search needs) (λ c κs. search needs) (λ c. search needs) (λ c κs. search needs)
     (λ c. search needs) mul-c-2 element-copy-out-c-2 try-slot-requires placed-requires (λ c. search needs) serve-requires (λ c. search needs)
     opened-requires placed-requires-2 (λ c. search needs) mul-s-2 element-copy-out-s-2 (λ c κs. search needs) told-requires (λ c. search needs)
-    attached-requires told-requires-2 returns (λ c. search needs) returns-2 (λ c. search needs) returns-3 returns-4 (λ c. search needs) returns-5
-    returns-6)
+    attached-requires told-requires-2 (λ c. search needs) resettled-requires returns (λ c. search needs) returns-2 (λ c. search needs) returns-3 returns-4 (λ c. search needs) returns-5
+    returns-6 returns-7)

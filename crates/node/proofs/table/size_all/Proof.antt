@@ -12,23 +12,23 @@ use Rattle.node.proofs.table.size_all.Statement.{statement}
 use Rattle.node.proofs.table.size_all.Tie as tie
 
 abbrev Inv-loop : tie.InvT-loop
-Inv-loop p t h cs i₀ n₀ i n = Sizing 1026 (slotOut p t h) 0 16 cs i n
+Inv-loop p gs t h cs i₀ n₀ i n = Sizing 1026 (slotOut p gs t h) 0 16 cs i n
 
 abbrev μ-loop : tie.MeasureT-loop
-μ-loop p t h cs i₀ n₀ i n = 16 - i
+μ-loop p gs t h cs i₀ n₀ i n = 16 - i
 
 -- the table has 16 slots
-whole : (c : tie.Start Inv-loop μ-loop) → length (c .args .t2) ≡ 16
+whole : (c : tie.Start Inv-loop μ-loop) → length (c .args .t3) ≡ 16
 whole c = search (needs, length-of-map)
 
 loop-holds : tie.Need-loop-holds Inv-loop μ-loop
-loop-holds c = let a = c .args in sizing-none (slotOut (a .p) (a .t) (a .m)) 0 16 (a .t2) 1026 (omega arith)
+loop-holds c = let a = c .args in sizing-none (slotOut (a .p) (a .g) (a .t) (a .m)) 0 16 (a .t3) 1026 (omega arith)
 
 slot-size-requires : tie.Need-slot-size-requires Inv-loop μ-loop
 slot-size-requires c κs =
     let s = c .before .before .before in
     let a = s .args in
-    (slotted (a .p) (a .t) (a .t2) _ (omega (arith, whole s, c .before .loop-test .taken)) (s .pre .0), s .pre .1)
+    (slotted (a .p) (a .g) (a .t) (a .t3) _ (omega (arith, whole s, c .before .loop-test .taken)) (s .pre .0), s .pre .1)
 
 add-n : tie.Need-add-n Inv-loop μ-loop
 add-n c = omega (arith, c .before .before .before .loop .inv .few, c .slot-size .ensures .most)
@@ -38,14 +38,14 @@ loop-again c =
     let s = c .before .before .before .before in
     let a = s .args in
     let k = c .slot-size .ensures in
-    sizing-more (slotOut (a .p) (a .t) (a .m)) 0 16 (a .t2) _ (c .before .before .loop-test .taken) (omega (arith, whole s))
+    sizing-more (slotOut (a .p) (a .g) (a .t) (a .m)) 0 16 (a .t3) _ (c .before .before .loop-test .taken) (omega (arith, whole s))
     (c .before .before .before .loop .inv) (k .is) (k .most)
 
 returns : tie.Need-returns Inv-loop μ-loop
 returns c =
     let s = c .before .before in
     let a = s .args in
-    sizing-end (slotOut (a .p) (a .t) (a .m)) 0 16 (a .t2) (c .loop-test .left) (c .before .loop .inv)
+    sizing-end (slotOut (a .p) (a .g) (a .t) (a .m)) 0 16 (a .t3) (c .loop-test .left) (c .before .loop .inv)
 
 pub size-all-spec : {M : Type 1} → statement M
 size-all-spec =

@@ -30,8 +30,13 @@ returns-5 : tie.Need-returns-5
 unfolding taskOf
 returns-5 c = rw (c .before .before .w5 .given .1) (c .notify .ensures)
 
+returns-6 : tie.Need-returns-6
+unfolding taskOf
+returns-6 c = rw (c .before .before .w6 .given .1) (c .replace .ensures)
+
 pub task-of-spec : {M : Type 1} → statement M
 task-of-spec =
     tie.close
     (tie.spec (λ c. search needs) (λ c κs. search needs) (λ c. search needs) named-requires (λ c. search needs) (λ c. search needs)
-    (λ c κs. search needs) (λ c. search needs) notify-requires returns returns-2 returns-3 returns-4 returns-5)
+    (λ c κs. search needs) (λ c. search needs) notify-requires (λ c. search needs) (λ c κs. search needs) returns returns-2 returns-3 returns-4
+    returns-5 returns-6)
