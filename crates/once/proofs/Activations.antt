@@ -36,7 +36,7 @@ back a b h = omega arith
 
 module _ (p : Profile) (name : Name) where
   abbrev R : Rules Force Heard
-  R = rules (p .limits)
+  R = rules
 
   abbrev activation : History Force Heard → Activation
   activation h = record {
@@ -100,5 +100,5 @@ each-activation-once p ok h calls octets name =
       open-under =
           rw (run-same (o .recordsBy) calls (freshNode p), same-log) at (d .open-now)
           ∙ sym (each-of-map (λ a. a .still-open) (activation p name) hs);
-      charged = all-of-map (InTime (rules (p .limits))) (ChargedOnce p name) (activation p name) (charged-once p name) hs (rw same-log at (d .in-time));
+      charged = all-of-map (InTime rules) (ChargedOnce p name) (activation p name) (charged-once p name) hs (rw same-log at (d .in-time));
     }

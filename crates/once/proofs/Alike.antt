@@ -14,10 +14,17 @@ use Rattle.history.proofs.Tables.{admits}
 
 -- ---- the same in other words
 
-module _ {N S E W C B S′ E′ W′ : Type 0} (K : Handling (Unit {0}) N S E W C B) (K′ : Handling (Unit {0}) N S′ E′ W′ C B) (words : E → E′)
+-- what all subjects are told, if they are told anything
+abbrev pub allTold : {G N S E : Type 0} → Option E → Said G N S E
+allTold none = nothing
+allTold (some e) = tellsAll e
+
+-- What a subject is told by its name is one word for another; of what all are told, some may be nothing to the node (`all`).
+module _ {G N S E W C B S′ E′ W′ : Type 0} (K : Handling G N S E W C B) (K′ : Handling G N S′ E′ W′ C B) (words : E → E′) (all : E → Option E′)
     (same : (m : N) (c : C) → K′ .same m (K′ .name c) ≡ K .same m (K .name c))
     (same-too : (c : C) (m : N) → K′ .same (K′ .name c) m ≡ K .same (K .name c) m)
-    (heard : (c : C) (t : ℕ) (e : E) → K′ .hear tt c t (words e) ≡ K .hear tt c t e) where
+    (heard : (g : G) (c : C) (t : ℕ) (e : E) → K′ .hear g c t (words e) ≡ K .hear g c t e)
+    (heard-all : (g : G) (c : C) (t : ℕ) (e : E) → listen K′ g c t (all e) ≡ K .hear g c t e) where
   active-alike : (m : N) (os : List (Option C)) → active K′ m os ≡ active K m os
   active-alike m [] = refl
   active-alike m (none ∷ os) = active-alike m os
@@ -25,53 +32,77 @@ module _ {N S E W C B S′ E′ W′ : Type 0} (K : Handling (Unit {0}) N S E W 
 
   -- what an event says, by what an activation brings
   module _ (brings : S → S′) where
-    abbrev pub said : Said (Unit {0}) N S E → Said (Unit {0}) N S′ E′
+    abbrev pub said : Said G N S E → Said G N S′ E′
     said (activates m s) = activates m (λ g. brings (s g))
     said (tells m e) = tells m (words e)
-    said (tellsAll e) = tellsAll (words e)
+    said (tellsAll e) = allTold (all e)
     said nothing = nothing
 
-    -- a slot hears the same
-    listens : (t : ℕ) (c : C) (b : Bool) (e : E) → listen K′ tt c t (cond b (some (words e)) none) ≡ listen K tt c t (cond b (some e) none)
-    listens t c true e = heard c t e
-    listens t c false e = refl
+    module _ (g : G) (t : ℕ) where
+      -- a slot hears the same
+      listens : (c : C) (b : Bool) (e : E) → listen K′ g c t (cond b (some (words e)) none) ≡ listen K g c t (cond b (some e) none)
+      listens c true e = heard g c t e
+      listens c false e = refl
 
-    slot-alike : (t : ℕ) (w : Said (Unit {0}) N S E) (o : Option C) → slot K′ tt t (said w) o ≡ slot K tt t w o
-    slot-alike t w none = refl
-    slot-alike t (activates m s) (some c) = refl
-    slot-alike t (tells m e) (some c) = rw (same-too c m) (listens t c (K .same (K .name c) m) e)
-    slot-alike t (tellsAll e) (some c) = heard c t e
-    slot-alike t nothing (some c) = refl
+      all-listens : (c : C) (o : Option E′) → slot K′ g t (allTold o) (some c) ≡ listen K′ g c t o
+      all-listens c none = refl
+      all-listens c (some e) = refl
 
-    hear-alike : (t : ℕ) (w : Said (Unit {0}) N S E) (os : List (Option C)) → slotsHear K′ tt t (said w) os ≡ slotsHear K tt t w os
-    hear-alike t w [] = refl
-    hear-alike t w (o ∷ os) = rw (slot-alike t w o, hear-alike t w os)
+      slot-alike : (w : Said G N S E) (o : Option C) → slot K′ g t (said w) o ≡ slot K g t w o
+      slot-alike w none = refl
+      slot-alike (activates m s) (some c) = refl
+      slot-alike (tells m e) (some c) = rw (same-too c m) (listens c (K .same (K .name c) m) e)
+      slot-alike (tellsAll e) (some c) = all-listens c (all e) ∙ heard-all g c t e
+      slot-alike nothing (some c) = refl
 
-    write-alike : (t : ℕ) (w : Said (Unit {0}) N S E) (os : List (Option C)) → slotsWrite K′ tt t (said w) os ≡ slotsWrite K tt t w os
-    write-alike t w [] = refl
-    write-alike t w (o ∷ os) = rw (slot-alike t w o, write-alike t w os)
+      hear-alike : (w : Said G N S E) (os : List (Option C)) → slotsHear K′ g t (said w) os ≡ slotsHear K g t w os
+      hear-alike w [] = refl
+      hear-alike w (o ∷ os) = rw (slot-alike w o, hear-alike w os)
 
-    -- an activation stores the same
-    abbrev pub Opens : ℕ → Said (Unit {0}) N S E → Type 0
-    Opens t (activates m s) = K′ .opening t m (brings (s tt)) ≡ K .opening t m (s tt)
-    Opens t (tells m e) = Unit {0}
-    Opens t (tellsAll e) = Unit {0}
-    Opens t nothing = Unit {0}
+      write-alike : (w : Said G N S E) (os : List (Option C)) → slotsWrite K′ g t (said w) os ≡ slotsWrite K g t w os
+      write-alike w [] = refl
+      write-alike w (o ∷ os) = rw (slot-alike w o, write-alike w os)
 
-    pub after-alike : (t : ℕ) (w : Said (Unit {0}) N S E) (os : List (Option C)) → Opens t w → slotsAfter K′ tt t (said w) os ≡ slotsAfter K tt t w os
-    after-alike t (activates m s) os o = ap (λ (c : C). fill c os) o
-    after-alike t (tells m e) os o = hear-alike t (tells m e) os
-    after-alike t (tellsAll e) os o = hear-alike t (tellsAll e) os
-    after-alike t nothing os o = refl
+      -- what is nothing to the node changes no slot, and writes nothing
+      still : (os : List (Option C)) → os ≡ slotsHear K′ g t nothing os
+      still [] = refl
+      still (none ∷ os) = rw (← still os)
+      still (some c ∷ os) = rw (← still os)
 
-    pub writes-alike : (t : ℕ) (w : Said (Unit {0}) N S E) (os : List (Option C)) → writes K′ tt t (said w) os ≡ writes K tt t w os
-    writes-alike t (activates m s) os = refl
-    writes-alike t (tells m e) os = write-alike t (tells m e) os
-    writes-alike t (tellsAll e) os = write-alike t (tellsAll e) os
-    writes-alike t nothing os = refl
+      silent : (os : List (Option C)) → [] ≡ slotsWrite K′ g t nothing os
+      silent [] = refl
+      silent (none ∷ os) = silent os
+      silent (some c ∷ os) = silent os
+
+      all-after : (o : Option E′) (os : List (Option C)) → slotsAfter K′ g t (allTold o) os ≡ slotsHear K′ g t (allTold o) os
+      all-after none os = still os
+      all-after (some e) os = refl
+
+      all-writes : (o : Option E′) (os : List (Option C)) → writes K′ g t (allTold o) os ≡ slotsWrite K′ g t (allTold o) os
+      all-writes none os = silent os
+      all-writes (some e) os = refl
+
+      -- an activation stores the same
+      abbrev pub Opens : Said G N S E → Type 0
+      Opens (activates m s) = K′ .opening t m (brings (s g)) ≡ K .opening t m (s g)
+      Opens (tells m e) = Unit {0}
+      Opens (tellsAll e) = Unit {0}
+      Opens nothing = Unit {0}
+
+      pub after-alike : (w : Said G N S E) (os : List (Option C)) → Opens w → slotsAfter K′ g t (said w) os ≡ slotsAfter K g t w os
+      after-alike (activates m s) os o = ap (λ (c : C). fill c os) o
+      after-alike (tells m e) os o = hear-alike (tells m e) os
+      after-alike (tellsAll e) os o = all-after (all e) os ∙ hear-alike (tellsAll e) os
+      after-alike nothing os o = refl
+
+      pub writes-alike : (w : Said G N S E) (os : List (Option C)) → writes K′ g t (said w) os ≡ writes K g t w os
+      writes-alike (activates m s) os = refl
+      writes-alike (tells m e) os = write-alike (tells m e) os
+      writes-alike (tellsAll e) os = all-writes (all e) os ∙ write-alike (tellsAll e) os
+      writes-alike nothing os = refl
 
     -- the table takes the event
-    pub admitted : (w : Said (Unit {0}) N S E) (os : List (Option C)) → notActive K′ (said w) os ≡ false → isActive K′ (said w) os ≡ false
+    pub admitted : (w : Said G N S E) (os : List (Option C)) → notActive K′ (said w) os ≡ false → isActive K′ (said w) os ≡ false
         → allTaken K′ (said w) os ≡ false → admits K w os ≡ true
     unfolding notActive isActive allTaken
     admitted (activates m s) os a i r = rw (← active-alike m os, i, not-false (free os) r)
@@ -81,7 +112,7 @@ module _ {N S E W C B S′ E′ W′ : Type 0} (K : Handling (Unit {0}) N S E W 
 
 -- ---- the slots that are taken
 
-module _ {N S E W C B : Type 0} (K : Handling (Unit {0}) N S E W C B) (act : C → Bool) where
+module _ {G N S E W C B : Type 0} (K : Handling G N S E W C B) (act : C → Bool) where
   abbrev pub Taken : Option C → Type 0
   Taken none = Unit {0}
   Taken (some c) = act c ≡ true
@@ -89,12 +120,12 @@ module _ {N S E W C B : Type 0} (K : Handling (Unit {0}) N S E W C B) (act : C �
   abbrev pub Takens : List (Option C) → Type 0
   Takens os = All Taken os
 
-  module _ (keeps : (c : C) (t : ℕ) (e : E) → act c ≡ true → Taken (K .hear tt c t e .next)) (t : ℕ) where
-    listen-taken : (c : C) (o : Option E) → act c ≡ true → Taken (listen K tt c t o .next)
+  module _ (g : G) (keeps : (c : C) (t : ℕ) (e : E) → act c ≡ true → Taken (K .hear g c t e .next)) (t : ℕ) where
+    listen-taken : (c : C) (o : Option E) → act c ≡ true → Taken (listen K g c t o .next)
     listen-taken c none e = e
     listen-taken c (some x) e = keeps c t x e
 
-    hear-taken : (w : Said (Unit {0}) N S E) (os : List (Option C)) → Takens os → Takens (slotsHear K tt t w os)
+    hear-taken : (w : Said G N S E) (os : List (Option C)) → Takens os → Takens (slotsHear K g t w os)
     hear-taken w [] z = tt
     hear-taken w (none ∷ os) z = (tt, hear-taken w os (z .1))
     hear-taken w (some c ∷ os) z = (listen-taken c (hears K (K .name c) w) (z .0), hear-taken w os (z .1))
@@ -104,9 +135,9 @@ module _ {N S E W C B : Type 0} (K : Handling (Unit {0}) N S E W C B) (act : C �
     fill-taken c (none ∷ os) e z = (e, z .1)
     fill-taken c (some b ∷ os) e z = (z .0, fill-taken c os e (z .1))
 
-    pub after-taken : ((m : N) (s : S) → act (K .opening t m s) ≡ true) → (w : Said (Unit {0}) N S E) (os : List (Option C)) → Takens os
-        → Takens (slotsAfter K tt t w os)
-    after-taken o (activates m s) os z = fill-taken (K .opening t m (s tt)) os (o m (s tt)) z
+    pub after-taken : ((m : N) (s : S) → act (K .opening t m s) ≡ true) → (w : Said G N S E) (os : List (Option C)) → Takens os
+        → Takens (slotsAfter K g t w os)
+    after-taken o (activates m s) os z = fill-taken (K .opening t m (s g)) os (o m (s g)) z
     after-taken o (tells m e) os z = hear-taken (tells m e) os z
     after-taken o (tellsAll e) os z = hear-taken (tellsAll e) os z
     after-taken o nothing os z = z

@@ -32,13 +32,15 @@ use Rattle.history.proofs.Everything as everything
 use Rattle.node.specs.declared.Node.{Node}
 use Rattle.node.specs.Sound.{freshNode}
 use Rattle.node.specs.Run.{Call}
-use Rattle.once.specs.Charging.{Force, Heard, says, same, meaning, up, down, releases, rules, container, recordFrom, contextFrom, forms}
+use Rattle.limits.specs.declared.LimitSet.{LimitSet}
+use Rattle.once.specs.Charging.{Force, Heard, says, same, meaning, up, down, releases, rules, container, recordFrom, contextFrom, forms, numberOf, newSet, settingsOf}
 use Rattle.once.specs.Once.{machine, sight, Once}
 use Rattle.once.specs.Activations.{containersOf}
 
 -- ---- what every context hears reports nothing
 
-module _ (counts : Heard → ℕ) (tariff : counts Heard.tariff ≡ 0) (tick : counts Heard.tick ≡ 0) where
+module _ (counts : Heard → ℕ) (tariff : counts Heard.tariff ≡ 0) (tick : counts Heard.tick ≡ 0)
+    (replaces : (i : ℕ) (x : LimitSet) → counts (Heard.replaces i x) ≡ 0) where
   uncounted : (s : List ℕ) (e : Heard) → says s ≡ tellsAll e → counts e ≡ 0
   unfolding says
   uncounted s e i =
@@ -50,7 +52,9 @@ module _ (counts : Heard → ℕ) (tariff : counts Heard.tariff ≡ 0) (tick : c
       (λ d. by (eqb k 5) (λ f. let j = rw (a, b, c, d, f) at i in absurd (let z : _≡_ {A = ℕ} 0 1 = cc in omega arith))
       (λ f. by (eqb k 6) (λ g. let j = rw (a, b, c, d, f, g) at i in let q : Heard.tick ≡ e = cc in rw q at tick)
       (λ g. by (eqb k 7) (λ h. let j = rw (a, b, c, d, f, g, h) at i in absurd (let z : _≡_ {A = ℕ} 0 1 = cc in omega arith))
-      (λ h. let j = rw (a, b, c, d, f, g, h) at i in absurd (let z : _≡_ {A = ℕ} 0 1 = cc in omega arith))))))))
+      (λ h. by (eqb k 12)
+      (λ l. let j = rw (a, b, c, d, f, g, h, l) at i in let q : Heard.replaces (numberOf s) (newSet s) ≡ e = cc in rw q at (replaces (numberOf s) (newSet s)))
+      (λ l. let j = rw (a, b, c, d, f, g, h, l) at i in absurd (let z : _≡_ {A = ℕ} 0 1 = cc in omega arith)))))))))
 
 -- ---- of any calls
 
@@ -77,33 +81,33 @@ module _ (p : Profile) (o : Once p) (cs : List Call) (n : Name) where
   kept = demand.under same (sight .name) n (demand.held (sight .slots (run X (freshNode p) cs)))
 
   abbrev pub histories : List (History Force Heard)
-  histories = demand.historiesOf (rules (p .limits)) meaning (forms p) sight X (freshNode p) tt cs n
+  histories = demand.historiesOf rules meaning (forms p) sight X (freshNode p) (settingsOf p) cs n
 
-  pub containers-once : each containersOf billed ++ each used kept ≡ each (λ h. map (container p) (stretches (rules (p .limits)) h)) histories
+  pub containers-once : each containersOf billed ++ each used kept ≡ each (λ h. map (container p) (stretches rules h)) histories
   containers-once =
-      everything.containers-once (rules (p .limits)) (forms p) n (entry p) containersOf used (carried p n) (carries p n)
-      meaning sight X (freshNode p) tt cs (o .sessions .demand cs n)
+      everything.containers-once rules (forms p) n (entry p) containersOf used (carried p n) (carries p n)
+      meaning sight X (freshNode p) (settingsOf p) cs (o .sessions .demand cs n)
       ∙ go histories
     where
       go : (hs : List (History Force Heard))
-          → each (λ h. each (entry p) (stretches (rules (p .limits)) h)) hs ≡ each (λ h. map (container p) (stretches (rules (p .limits)) h)) hs
+          → each (λ h. each (entry p) (stretches rules h)) hs ≡ each (λ h. map (container p) (stretches rules h)) hs
       go [] = refl
-      go (h ∷ hs) = rw (each-map (container p) (stretches (rules (p .limits)) h), go hs)
+      go (h ∷ hs) = rw (each-map (container p) (stretches rules h), go hs)
 
   -- octets up, and octets down
   pub uplink-once : sumOf (λ c. c .uplink) (each containersOf billed ++ each used kept) + sumOf (λ c. c .current .uplink) kept
-      ≡ reported (rules (p .limits)) meaning n up (log X (freshNode p) cs)
+      ≡ reported rules meaning n up (log X (freshNode p) cs)
   uplink-once =
-      everything.octets-once (rules (p .limits)) (forms p) n (entry p) containersOf used (carried p n) (carries p n)
-      meaning sight X (freshNode p) tt cs (o .sessions .demand cs n) up
-      (uncounted up refl refl) (λ c. c .uplink) (λ c. c .current .uplink) (λ x. add-zero _) (λ s. refl)
+      everything.octets-once rules (forms p) n (entry p) containersOf used (carried p n) (carries p n)
+      meaning sight X (freshNode p) (settingsOf p) cs (o .sessions .demand cs n) up
+      (uncounted up refl refl (λ i x. refl)) (λ c. c .uplink) (λ c. c .current .uplink) (λ x. add-zero _) (λ s. refl)
 
   pub downlink-once : sumOf (λ c. c .downlink) (each containersOf billed ++ each used kept) + sumOf (λ c. c .current .downlink) kept
-      ≡ reported (rules (p .limits)) meaning n down (log X (freshNode p) cs)
+      ≡ reported rules meaning n down (log X (freshNode p) cs)
   downlink-once =
-      everything.octets-once (rules (p .limits)) (forms p) n (entry p) containersOf used (carried p n) (carries p n)
-      meaning sight X (freshNode p) tt cs (o .sessions .demand cs n) down
-      (uncounted down refl refl) (λ c. c .downlink) (λ c. c .current .downlink) (λ x. add-zero _) (λ s. refl)
+      everything.octets-once rules (forms p) n (entry p) containersOf used (carried p n) (carries p n)
+      meaning sight X (freshNode p) (settingsOf p) cs (o .sessions .demand cs n) down
+      (uncounted down refl refl (λ i x. refl)) (λ c. c .downlink) (λ c. c .current .downlink) (λ x. add-zero _) (λ s. refl)
 
 -- ---- durations: from a record's opening to the event that closed it
 
@@ -114,7 +118,7 @@ last-time (y ∷ xs) x t = last-time xs x (y .time .seconds)
 
 module _ (p : Profile) (n : Name) where
   abbrev R : Rules Force Heard
-  R = rules (p .limits)
+  R = rules
 
   abbrev pub Lasts : Record Force Heard → Type 0
   Lasts r = duration (recordFrom p n r) ≡ r .time - began (r .past)

@@ -37,11 +37,11 @@ module _ (records : Node → Call → List Cdr) where
 -- ---- one call
 
 -- A kind whose rules work out its closing conditions, and whose records have the causes that they are closed with.
-module _ {N S E C B : Type 0} (K : Kind N S E C B) (p : Profile) (calls : List Call) (s b : List ℕ)
+module _ {G N S E C B : Type 0} (K : Kind G N S E C B) (p : Profile) (calls : List Call) (s b : List ℕ)
     (says-so : (r : History S E) (t : ℕ) (e : E) (c : ℕ) → causeFor (K .rules) r t e ≡ some c → K .Closes r t e c)
     (holds-so : (r : History S E) (t : ℕ) (e : E) (c : ℕ) → K .Closes r t e c → causeFor (K .rules) r t e ≡ some c)
     (for : (name : N) (r : Record S E) → K .causeOf (K .forms .asWritten name r) ≡ r .cause)
-    (one-call : (name : N) → OneCall (K .rules) (K .meaning) (K .forms) (K .sight) (machine wrote) (freshNode p) tt calls (step s b) name) where
+    (one-call : (name : N) → OneCall (K .rules) (K .meaning) (K .forms) (K .sight) (machine wrote) (freshNode p) (K .settings) calls (step s b) name) where
   abbrev R : Rules S E
   R = K .rules
 

@@ -81,7 +81,7 @@ module _ (p : Profile) where
     brings q = record { imsi = imsi; place = q }
 
     abbrev pub noted : Said (Unit {0}) ℕ Place Noted → step.ToSubscribers
-    noted w = alike.said K K′ notice (λ m c. refl) (λ c m. refl) (λ c t e. refl) brings w
+    noted w = alike.said K K′ notice (λ e. some (notice e)) (λ m c. refl) (λ c m. refl) (λ g c t e. refl) (λ g c t e. refl) brings w
 
     -- the octets are those of the name
     abbrev pub Right : Said (Unit {0}) ℕ Place Noted → Type 0
@@ -92,9 +92,9 @@ module _ (p : Profile) where
 
     pub after-alike : (t : ℕ) (w : Said (Unit {0}) ℕ Place Noted) (os : List (Option Subscriber)) → Right w
         → table.slotsAfter K′ tt t (noted w) os ≡ table.slotsAfter K tt t w os
-    after-alike t w os r = alike.after-alike K K′ notice (λ m c. refl) (λ c m. refl) (λ c t e. refl) brings t w os (opens w r)
+    after-alike t w os r = alike.after-alike K K′ notice (λ e. some (notice e)) (λ m c. refl) (λ c m. refl) (λ g c t e. refl) (λ g c t e. refl) brings tt t w os (opens w r)
       where
-        opens : (w : Said (Unit {0}) ℕ Place Noted) → Right w → alike.Opens K K′ notice (λ m c. refl) (λ c m. refl) (λ c t e. refl) brings t w
+        opens : (w : Said (Unit {0}) ℕ Place Noted) → Right w → alike.Opens K K′ notice (λ e. some (notice e)) (λ m c. refl) (λ c m. refl) (λ g c t e. refl) (λ g c t e. refl) brings tt t w
         opens (activates m q) r = ap (λ (l : List ℕ). attached p t l (q tt)) r
         opens (tells m e) r = tt
         opens (tellsAll e) r = tt
@@ -102,11 +102,11 @@ module _ (p : Profile) where
 
     pub writes-alike : (t : ℕ) (w : Said (Unit {0}) ℕ Place Noted) (os : List (Option Subscriber))
         → table.writes K′ tt t (noted w) os ≡ table.writes K tt t w os
-    writes-alike = alike.writes-alike K K′ notice (λ m c. refl) (λ c m. refl) (λ c t e. refl) brings
+    writes-alike = alike.writes-alike K K′ notice (λ e. some (notice e)) (λ m c. refl) (λ c m. refl) (λ g c t e. refl) (λ g c t e. refl) brings tt
 
     pub admitted : (w : Said (Unit {0}) ℕ Place Noted) (os : List (Option Subscriber)) → table.notActive K′ (noted w) os ≡ false
         → table.isActive K′ (noted w) os ≡ false → table.allTaken K′ (noted w) os ≡ false → admits K w os ≡ true
-    admitted = alike.admitted K K′ notice (λ m c. refl) (λ c m. refl) (λ c t e. refl) brings
+    admitted = alike.admitted K K′ notice (λ e. some (notice e)) (λ m c. refl) (λ c m. refl) (λ g c t e. refl) (λ g c t e. refl) brings
 
   -- ---- what hearing keeps
 
@@ -136,7 +136,7 @@ module _ (p : Profile) where
       → map (S.seen taken) (map stood (table.slotsAfter K tt t w (map (S.seen taken) ss))) ≡ table.slotsAfter K tt t w (map (S.seen taken) ss)
   seen-after t w ss =
       alike.seen-stood K taken noSubscriber refl (table.slotsAfter K tt t w (map (S.seen taken) ss))
-      (alike.after-taken K taken stay t (λ m s. refl) w (map (S.seen taken) ss) (alike.slots-taken K taken ss))
+      (alike.after-taken K taken tt stay t (λ m s. refl) w (map (S.seen taken) ss) (alike.slots-taken K taken ss))
 
   -- ---- the kind is sound
 

@@ -6,10 +6,12 @@ use mathlib.Core.List.{List, [], _∷_, map, append-nil}
 use mathlib.Core.Option.{Option}
 use Prim.Native.Nat.{ℕ}
 use native.Mathlib.Omega.{arith}
+use lib.Dec.{eqb}
+use Rattle.format.proofs.Tests.{by}
 use Rattle.scdr.specs.declared.Record as scdr
 use Rattle.profile.specs.declared.Profile.{Profile}
 use Rattle.event.specs.declared.Name.{Name}
-use Rattle.event.specs.Fields.{timeOf, subscriberImsi}
+use Rattle.event.specs.Fields.{kindOf, timeOf, subscriberImsi}
 use Rattle.mcdr.specs.declared.Place.{Place}
 use Rattle.mcdr.specs.declared.MmRecord.{MmRecord}
 use Rattle.cdrs.specs.Cdr.{Cdr, pdp, mm}
@@ -27,10 +29,11 @@ use Rattle.history.proofs.Lists.{each-append, each-picks, each-passes}
 use Rattle.history.proofs.Tables.{admits}
 use Rattle.history.proofs.Runs.{Outcome, did, refused, Serves, serves, OneByOne, serves-too}
 use Rattle.node.specs.declared.Node.{Node}
+use Rattle.node.specs.declared.Settings.{Settings}
 use Rattle.node.specs.Step as step
 use Rattle.node.specs.Run.{Call}
 use Rattle.node.proofs.Singles.{One, got}
-use Rattle.once.specs.Charging.{says}
+use Rattle.once.specs.Charging.{says, settles}
 use Rattle.once.specs.Attaching as attaching
 use Rattle.once.specs.Attaching.{Noted}
 use Rattle.once.specs.Once.{nodeNow, machine, sessions, sight, mobility, mmSight}
@@ -56,20 +59,27 @@ module _ (n : Node) (c : One) (z : Takes n c) where
   unfolding step.nodeAfter
   clock-is = ap (λ (m : Node). m .clock) (z .node)
 
+  -- what the node is set to
+  pub settings-are : got n c .1 .0 .settings ≡ settles (n .settings) s
+  unfolding step.nodeAfter step.settledBy settles
+  settings-are =
+      ap (λ (m : Node). m .settings) (z .node) ∙ ap (λ (v : step.Words). step.settledBy (v .replaces) (n .settings)) is-said
+      ∙ by (eqb (kindOf s) 12) (λ e. rw e) (λ e. rw e)
+
   -- contexts
 
   pub admits-it : admits (handling p) (says s) (step.slots n) ≡ true
   admits-it = admitted p (says s) (step.slots n) (rw is-said at (z .fits .known)) (rw is-said at (z .fits .new)) (rw is-said at (z .fits .room))
 
-  contexts-after : got n c .1 .0 .contexts ≡ map step.stood (table.slotsAfter (handling p) tt (timeOf s) (says s) (step.slots n))
+  contexts-after : got n c .1 .0 .contexts ≡ map step.stood (table.slotsAfter (handling p) (n .settings) (timeOf s) (says s) (step.slots n))
   unfolding step.nodeAfter
   contexts-after =
       ap (λ (m : Node). m .contexts) (z .node)
-      ∙ ap (λ (v : step.Words). map step.stood (table.slotsAfter (step.handling p) tt (timeOf s) (v .contexts) (step.slots n))) is-said
-      ∙ ap (λ (os : List (Option Context)). map step.stood os) (after-alike p (timeOf s) (says s) (step.slots n))
+      ∙ ap (λ (v : step.Words). map step.stood (table.slotsAfter (step.handling p) (n .settings) (timeOf s) (v .contexts) (step.slots n))) is-said
+      ∙ ap (λ (os : List (Option Context)). map step.stood os) (after-alike p (n .settings) (timeOf s) (says s) (step.slots n))
 
-  pub slots-are : step.slots (got n c .1 .0) ≡ table.slotsAfter (handling p) tt (timeOf s) (says s) (step.slots n)
-  slots-are = ap (λ (cs : List Context). map step.seen cs) contexts-after ∙ seen-after p (timeOf s) (says s) (n .contexts)
+  pub slots-are : step.slots (got n c .1 .0) ≡ table.slotsAfter (handling p) (n .settings) (timeOf s) (says s) (step.slots n)
+  slots-are = ap (λ (cs : List Context). map step.seen cs) contexts-after ∙ seen-after p (n .settings) (timeOf s) (says s) (n .contexts)
 
   sessions-are : each sessions (wroteOne n c) ≡ step.recordsOf n (timeOf s) (step.saidOf s)
   sessions-are =
@@ -80,12 +90,12 @@ module _ (n : Node) (c : One) (z : Takes n c) where
         each-passes sessions mm (λ r. refl) (step.mmRecordsOf n (timeOf s) (step.saidOf s)),
       ) (append-nil (step.recordsOf n (timeOf s) (step.saidOf s))))
 
-  pub wrote-so : each sessions (wroteOne n c) ≡ table.writes (handling p) tt (timeOf s) (says s) (step.slots n)
+  pub wrote-so : each sessions (wroteOne n c) ≡ table.writes (handling p) (n .settings) (timeOf s) (says s) (step.slots n)
   unfolding step.recordsOf
   wrote-so =
       sessions-are
-      ∙ ap (λ (v : step.Words). table.writes (step.handling p) tt (timeOf s) (v .contexts) (step.slots n)) is-said
-      ∙ writes-alike p (timeOf s) (says s) (step.slots n)
+      ∙ ap (λ (v : step.Words). table.writes (step.handling p) (n .settings) (timeOf s) (v .contexts) (step.slots n)) is-said
+      ∙ writes-alike p (n .settings) (timeOf s) (says s) (step.slots n)
 
   -- subscribers
 
@@ -127,17 +137,18 @@ module _ (n : Node) (c : One) (z : Takes n c) where
 -- ---- a node without its profile
 
 pub record State : Type 0 where
+  pub settings : Settings
   pub clock : ℕ
   pub accepted : ℕ
   pub contexts : List Context
   pub subscribers : List Subscriber
 
 abbrev pub state : Node → State
-state n = record { clock = n .clock; accepted = n .accepted; contexts = n .contexts; subscribers = n .subscribers }
+state n = record { settings = n .settings; clock = n .clock; accepted = n .accepted; contexts = n .contexts; subscribers = n .subscribers }
 
 module _ (p : Profile) where
   abbrev pub node : State → Node
-  node a = record { profile = p; clock = a .clock; accepted = a .accepted; contexts = a .contexts; subscribers = a .subscribers }
+  node a = record { profile = p; settings = a .settings; clock = a .clock; accepted = a .accepted; contexts = a .contexts; subscribers = a .subscribers }
 
   -- a machine of nodes with this profile
   module _ {I : Type 0} (X : Machine Node I (List ℕ) Cdr) where
@@ -155,7 +166,7 @@ module _ (p : Profile) where
       node-after a i =
           let q = kept (node a) i in
           let n = X .after (node a) i in
-          λ j. record { profile = q j; clock = n .clock; accepted = n .accepted; contexts = n .contexts; subscribers = n .subscribers }
+          λ j. record { profile = q j; settings = n .settings; clock = n .clock; accepted = n .accepted; contexts = n .contexts; subscribers = n .subscribers }
 
       pub run-is : (is : List I) (a : State) → run X (node a) is ≡ node (run apart a is)
       run-is [] a = refl
@@ -177,7 +188,7 @@ module _ (p : Profile) where
 
   -- ---- calls of one event
 
-  outcome : (a : State) (c : One) → Outcome (handling p) view (apart single) (λ b. tt) (λ b. b .clock) a c
+  outcome : (a : State) (c : One) → Outcome (handling p) view (apart single) (λ b. b .settings) (λ b. b .clock) a c
   outcome a c = called (node a) c
       (λ z. did (record { time = timeOf (c .event); event = c .event }) (record {
         events = rw (z .answers);
@@ -185,7 +196,7 @@ module _ (p : Profile) where
         since = z .fits .since;
         clock-after = omega (arith, clock-is (node a) c z);
         slots-after = slots-are (node a) c z;
-        settings-after = refl;
+        settings-after = settings-are (node a) c z;
         wrote = wrote-so (node a) c z;
       }))
       (λ z. refused (record {
@@ -217,9 +228,9 @@ module _ (p : Profile) where
   calls = apart (machine wrote)
 
   -- of either kind
-  module _ {N S E C B : Type 0} (K : table.Handling (Unit {0}) N S E (List ℕ) C B) (L : Sight N C B State Cdr)
-      (named : (c : C) → K .name c ≡ L .name c) (out : (a : State) (c : One) → Outcome K L (apart single) (λ b. tt) (λ b. b .clock) a c) where
-    one-by-one : (a : State) (c : Call) → OneByOne K L (λ b. tt) (λ b. b .clock) calls (apart single) a c
+  module _ {G N S E C B : Type 0} (K : table.Handling G N S E (List ℕ) C B) (L : Sight N C B State Cdr) (settings : State → G)
+      (named : (c : C) → K .name c ≡ L .name c) (out : (a : State) (c : One) → Outcome K L (apart single) settings (λ b. b .clock) a c) where
+    one-by-one : (a : State) (c : Call) → OneByOne K L settings (λ b. b .clock) calls (apart single) a c
     one-by-one a c =
         let n = node a in
         record {
@@ -229,15 +240,15 @@ module _ (p : Profile) where
           wrote = wrote-is n c ∙ written-is single profile-kept (ones n c) a;
         }
 
-    serve : Serves K L calls (λ b. tt) (λ b. b .clock)
-    serve = serves-too K L (λ b. tt) (λ b. b .clock) calls (apart single)
-        (serves K L (apart single) (λ b. tt) (λ b. b .clock) named out) one-by-one
+    serve : Serves K L calls settings (λ b. b .clock)
+    serve = serves-too K L settings (λ b. b .clock) calls (apart single)
+        (serves K L (apart single) settings (λ b. b .clock) named out) one-by-one
 
-  pub served : Serves (handling p) view calls (λ b. tt) (λ b. b .clock)
-  served = serve (handling p) view (λ c. refl) outcome
+  pub served : Serves (handling p) view calls (λ b. b .settings) (λ b. b .clock)
+  served = serve (handling p) view (λ b. b .settings) (λ c. refl) outcome
 
   pub mm-served : Serves (enrolling p) mmView calls (λ b. tt) (λ b. b .clock)
-  mm-served = serve (enrolling p) mmView (λ c. refl) mm-outcome
+  mm-served = serve (enrolling p) mmView (λ b. tt) (λ c. refl) mm-outcome
 
 -- no call changes the profile
 pub all-kept : (n : Node) (c : Call) → nodeNow n c .profile ≡ n .profile

@@ -25,7 +25,10 @@ use Rattle.scdr.specs.Sample.{only, sample, printed}
 use Rattle.scdr.proofs.Printed.{sample-octets}
 use Rattle.scdr.specs.Layout as layout
 use Rattle.profile.specs.Sample.{session}
-use Rattle.profile.specs.Profile.{limitsOk, profileOk}
+use Rattle.limits.specs.declared.LimitSet.{LimitSet}
+use Rattle.limits.specs.Limits.{limitsOk, blankLimits}
+use Rattle.limits.specs.Sets.{hasSet, firstEditions, setOk, blankSet, usedOk, setsOk, setAt, limitsOf, isNext, replaced}
+use Rattle.profile.specs.Profile.{profileOk}
 use Rattle.event.specs.declared.Name.{Name}
 use Rattle.event.specs.Sample.{activate, traffic, released}
 use Rattle.event.specs.Traffic.{trafficEvent}
@@ -56,12 +59,12 @@ use Rattle.node.specs.Step as step
 use Rattle.node.specs.Sound.{freshNode, sound}
 use Rattle.node.specs.Batch.{pairsOf, andThen, oneByOne, listRefusals, batchBy, batchOf}
 use Rattle.node.specs.Run.{Call, afterOne, after}
-use Rattle.once.specs.Charging.{Force, Heard, says, meaning, inForceBy, rules, recordFrom}
+use Rattle.once.specs.Charging.{Force, Heard, says, settingsOf, meaning, inForceBy, rules, recordFrom}
 use Rattle.once.specs.Once.{answer, marked, machine, outputs, nodeThen, contexts, activations}
 use Rattle.once.proofs.Calls.{wrote}
 
 abbrev R : Rules Force Heard
-R = rules (session .limits)
+R = rules
 
 -- charging ID 1, GGSN 10.0.0.2
 abbrev name : Name
@@ -75,24 +78,27 @@ at t s = record { time = t; event = s }
 abbrev short : List (Accepted (List ℕ))
 short = at 0 activate ∷ at 5 traffic ∷ at 6 (released 0) ∷ []
 
-short-history : histories R meaning name tt short ≡ (start 0 (inForceBy activate) ▸ 5 ∶ Heard.traffic 400 599 ▸ 6 ∶ Heard.release 0) ∷ []
+short-history : histories R meaning name (settingsOf session) short ≡ (start 0 (inForceBy (settingsOf session) activate) ▸ 5 ∶ Heard.traffic 400 599 ▸ 6 ∶ Heard.release 0) ∷ []
 unfolding activate traffic released says spelt octetsFrom numberIn
 short-history = refl
 
-short-records : map (recordFrom session name) (records R (start 0 (inForceBy activate) ▸ 5 ∶ Heard.traffic 400 599 ▸ 6 ∶ Heard.release 0)) ≡ sample ∷ []
-unfolding activate sample only spelt octetsFrom numberIn fillTo noContainers lowered lower
+short-records : map (recordFrom session name)
+    (records R (start 0 (inForceBy (settingsOf session) activate) ▸ 5 ∶ Heard.traffic 400 599 ▸ 6 ∶ Heard.release 0))
+    ≡ sample ∷ []
+unfolding activate sample only spelt octetsFrom numberIn fillTo noContainers lowered lower firstEditions setAt limitsOf
 short-records = refl
 
 -- the 113 octets that 01 prints
 pub short-octets : marked (map (λ r. pdp (recordFrom session name r))
-    (records R (start 0 (inForceBy activate) ▸ 5 ∶ Heard.traffic 400 599 ▸ 6 ∶ Heard.release 0)))
+    (records R (start 0 (inForceBy (settingsOf session) activate) ▸ 5 ∶ Heard.traffic 400 599 ▸ 6 ∶ Heard.release 0)))
     ≡ 0xC3 ∷ 0x5A ∷ printed ++ []
+unfolding activate firstEditions setAt limitsOf
 short-octets = ap (λ (rs : List scdr.Record). marked (map pdp rs)) short-records ∙ ap (λ (x : List ℕ). 0xC3 ∷ 0x5A ∷ x ++ []) sample-octets
 
 -- ---- instead at 6 the report that meets the limit; a tariff, a tick too early, a tick, the release
 
 abbrev long : History Force Heard
-long = start 0 (inForceBy activate) ▸ 5 ∶ Heard.traffic 400 599 ▸ 6 ∶ Heard.traffic 0 1 ▸ 10 ∶ Heard.tariff ▸ 65 ∶ Heard.tick
+long = start 0 (inForceBy (settingsOf session) activate) ▸ 5 ∶ Heard.traffic 400 599 ▸ 6 ∶ Heard.traffic 0 1 ▸ 10 ∶ Heard.tariff ▸ 65 ∶ Heard.tick
     ▸ 66 ∶ Heard.tick ▸ 66 ∶ Heard.release 0
 
 -- an S-CDR's number, cause, opening, duration and containers
@@ -120,8 +126,27 @@ long-records : map (λ r. brief (recordFrom session name r)) (records R long) �
     ∷ record { number = 2; cause = 17; opening = 6; lasts = 60; parts = part 0 0 1 10 ∷ part 0 0 2 66 ∷ [] }
     ∷ record { number = 3; cause = 0; opening = 66; lasts = 0; parts = part 0 0 2 66 ∷ [] }
     ∷ []
-unfolding activate fillTo noContainers duration lastTime
+unfolding activate fillTo noContainers duration lastTime firstEditions setAt limitsOf
 long-records = refl
+
+-- ---- and with a replacement (02, W6): at 6 set 1 is replaced by edition 2, with a volume limit of 500 and a change limit of 1. The open record has counted
+-- 999 by then, and goes on: the tariff at 7 is its first change of two, the report at 8 meets its own limit. The next record has those of edition 2: the
+-- report at 9 meets 500, and in the one after it the tariff at 10 is its one change.
+
+abbrev secondEdition : LimitSet
+secondEdition = record { edition = 2; limits = record { volume = 500; seconds = 60; changes = 1 } }
+
+abbrev resettled : History Force Heard
+resettled = start 0 (inForceBy (settingsOf session) activate) ▸ 5 ∶ Heard.traffic 400 599 ▸ 6 ∶ Heard.replaces 1 secondEdition ▸ 7 ∶ Heard.tariff
+    ▸ 8 ∶ Heard.traffic 0 1 ▸ 9 ∶ Heard.traffic 500 0 ▸ 10 ∶ Heard.tariff
+
+resettled-records : map (λ r. brief (recordFrom session name r)) (records R resettled) ≡
+    record { number = 1; cause = 16; opening = 0; lasts = 8; parts = part 400 599 1 7 ∷ part 0 1 2 8 ∷ [] }
+    ∷ record { number = 2; cause = 16; opening = 8; lasts = 1; parts = part 500 0 2 9 ∷ [] }
+    ∷ record { number = 3; cause = 19; opening = 9; lasts = 1; parts = part 0 0 2 10 ∷ [] }
+    ∷ []
+unfolding activate fillTo noContainers duration lastTime firstEditions setAt limitsOf replaced
+resettled-records = refl
 
 -- ---- the same of the node itself, by calls
 
@@ -139,11 +164,11 @@ abbrev listed : ℕ → List Call
 listed room = call activate ∷ reports room ∷ []
 
 abbrev both-reports : History Force Heard
-both-reports = start 0 (inForceBy activate) ▸ 6 ∶ Heard.traffic 400 599 ▸ 6 ∶ Heard.traffic 0 1
+both-reports = start 0 (inForceBy (settingsOf session) activate) ▸ 6 ∶ Heard.traffic 400 599 ▸ 6 ∶ Heard.traffic 0 1
 
 both-close : map (λ r. brief (recordFrom session name r)) (records R both-reports) ≡
     record { number = 1; cause = 16; opening = 0; lasts = 6; parts = part 400 600 2 6 ∷ [] } ∷ []
-unfolding activate fillTo noContainers duration lastTime
+unfolding activate fillTo noContainers duration lastTime firstEditions setAt limitsOf
 both-close = refl
 
 pub record SessionRun : Type 0 where
@@ -168,7 +193,7 @@ unfolding activate traffic released printed says spelt octetsFrom numberIn fillT
     step.nodeAfter step.activated batchOf batchBy listRefusals pairsOf oneByOne andThen trafficEvent afterOne after
     firstFit rows.marked known measured kinds kindIn wholeOf rows.fieldsOk activateOk eventOf
     imsiOk halves leading allF qosOk isApn lowered lower allOf apnChar release fields.release nodeChar
-    sound profileOk limitsOk nodeOk apnOk stampOk distinct slots.isActive isFree bears noneBears sameName
+    sound profileOk limitsOk blankLimits hasSet firstEditions setOk blankSet usedOk setsOk setAt limitsOf step.settledBy step.unknownSet step.otherEdition nodeOk apnOk stampOk distinct slots.isActive isFree bears noneBears sameName
     context.fieldsOk unusedOk closedOk countOk containersOk volumeOk soundOpen blankOpen contextOk zeroOk slotOk slotsOk openOk eachOk midway oneOffset
     timesTo qosRun volumeOf isBlank blanks sameQos
     reported qosAfter changeOf limitMet closing numberFor recordOf goesOn closedBy afterClosing hearWith hear

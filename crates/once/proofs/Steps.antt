@@ -1,16 +1,17 @@
 -- What a call of one event does, by its answer: accepted, the table does what the histories say of its event; refused, nothing.
 use mathlib.Core.Path.{_≡_, refl, sym, ap, _∙_}
 use mathlib.Core.Bool.{true, false, cond}
+use mathlib.Core.Option.{none, some}
 use mathlib.Core.List.{List, [], _∷_, _++_, map}
 use Prim.Native.Nat.{ℕ, zero, suc}
 use lib.Dec.{eqb}
-use lib.ListN.{length, take, drop}
+use lib.ListN.{length, take, drop, getD}
 use lib.Seq.{take-at}
 use borrow.Author.Tests.{eqb-true, eqb-false}
 use Rattle.format.proofs.Tests.{by}
 use Rattle.scdr.specs.declared.Record as scdr
 use Rattle.profile.specs.declared.Profile.{Profile}
-use Rattle.event.specs.Fields.{kindOf, timeOf, subscriberImsi}
+use Rattle.event.specs.Fields.{kindOf, timeOf, setOf, subscriberImsi, replacementOf}
 use Rattle.event.specs.Rows.{known}
 use Rattle.event.specs.Kinds.{kinds}
 use Rattle.event.specs.Event.{eventOf}
@@ -35,7 +36,12 @@ use Rattle.once.proofs.Enrolls.{noted}
 
 -- The octets of a known kind say to the node what they mean: to contexts, and to subscribers.
 abbrev pub meant : Profile → List ℕ → step.Words
-meant p s = record { contexts = said p (says s); subscribers = noted p (subscriberImsi s) (attaching.says s) }
+meant p s = record {
+  contexts = said p (says s);
+  subscribers = noted p (subscriberImsi s) (attaching.says s);
+  set = cond (eqb (kindOf s) 1) (some (setOf s)) (cond (eqb (kindOf s) 12) (some (getD s 7 0)) none);
+  replaces = cond (eqb (kindOf s) 12) (some (replacementOf s)) none;
+}
 
 pub says-alike : (p : Profile) (s : List ℕ) → known s ≡ true → step.saidOf s ≡ meant p s
 unfolding says attaching.says eventOf kinds Every
@@ -56,7 +62,7 @@ says-alike p s z = row-has (λ k. k .number ≡ kindOf s → step.takes (k .says
                 (λ e. rw (← e)),
                 (
                   (λ e. rw (← e)),
-                  ((λ e. rw (← e)), ((λ e. rw (← e)), ((λ e. rw (← e)), ((λ e. rw (← e)), tt)))),
+                  ((λ e. rw (← e)), ((λ e. rw (← e)), ((λ e. rw (← e)), ((λ e. rw (← e)), ((λ e. rw (← e)), tt))))),
                 ),
               ),
             ),

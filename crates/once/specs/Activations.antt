@@ -40,11 +40,11 @@ containersRead a = each containersOf (a .closed) ++ each used (a .still-open)
 
 pub record ChargedOnce (p : Profile) (name : Name) (a : Activation) : Type 0 where
   -- The records are those that its history makes, and the context is what it leaves, unless a release has ended it.
-  pub made : a .closed ≡ map (recordFrom p name) (records (rules (p .limits)) (a .history))
+  pub made : a .closed ≡ map (recordFrom p name) (records rules (a .history))
   pub left : a .still-open
-      ≡ cond (ended (rules (p .limits)) (a .history)) [] (contextFrom p name (leaves (rules (p .limits)) (a .history)) ∷ [])
+      ≡ cond (ended rules (a .history)) [] (contextFrom p name (leaves rules (a .history)) ∷ [])
   -- Its containers are those of its stretches, once each, in order.
-  pub containers : containersRead a ≡ map (container p) (stretches (rules (p .limits)) (a .history))
+  pub containers : containersRead a ≡ map (container p) (stretches rules (a .history))
   -- Their times do not fall: from its start on, through all its records, and within each record from its opening to its end.
   pub times : NotFalling (began (a .history)) (map (λ c. c .time .seconds) (containersRead a)) (latest (a .history))
   pub times-within : All (λ r. NotFalling (r .opening .seconds) (map (λ c. c .time .seconds) (containersOf r)) (r .opening .seconds + duration r))

@@ -22,10 +22,11 @@ use Rattle.history.specs.Lists.{each, All}
 use Rattle.history.specs.Run.{Machine, ifZero, allWritten, log}
 use Rattle.history.specs.History.{History}
 use Rattle.history.specs.Records.{Rules, sinceOpening}
-use Rattle.history.specs.Log.{Meaning, tells, heard, histories}
+use Rattle.history.specs.Log.{Accepted, Meaning, tells, heard, histories}
 use Rattle.history.specs.Demand.{ClosesNow, Unchanged, Forms, Sight, under, Demand3}
 use Rattle.history.specs.Calls.{openOne, closesIn, OneCall}
 use Rattle.node.specs.declared.Node.{Node}
+use Rattle.node.specs.declared.Settings.{Settings}
 use Rattle.node.specs.Sound.{freshNode, freshOf}
 use Rattle.node.specs.Step.{stepOf, slots, places}
 use Rattle.subscriber.specs.declared.Subscriber.{Subscriber}
@@ -33,7 +34,7 @@ use Rattle.subscriber.specs.Subscriber.{nameOf}
 use Rattle.node.specs.Batch.{reportsOf, batchOf}
 use Rattle.node.specs.Run.{Call, step, batch, afterOne, after, Given}
 use Rattle.node.specs.Held.{HeldProfile}
-use Rattle.once.specs.Charging.{Force, Heard, says, meaning, Closes, which, rules, forms}
+use Rattle.once.specs.Charging.{Force, Heard, says, settles, settingsOf, meaning, Closes, which, rules, forms}
 use Rattle.once.specs.Attaching.{Noted}
 use Rattle.once.specs.Attaching as attaching
 
@@ -122,32 +123,35 @@ nodeThen p calls = after (freshNode p) calls
 
 -- ---- the two kinds of subject
 
--- What a kind is, for the statement: its rules, what events mean for it, what it is written and stored as, where the node has it, the cause of
+-- What a kind is, for the statement: its rules, what events mean for it, what a fresh node is set to of that which matters to it, what it is written and stored as, where the node has it, the cause of
 -- a record, and its closing conditions one by one.
-pub record Kind (N S E C B : Type 0) : Type 1 where
+pub record Kind (G N S E C B : Type 0) : Type 1 where
   pub rules : Rules S E
-  pub meaning : Meaning (Unit {0}) N S E (List ℕ)
+  pub meaning : Meaning G N S E (List ℕ)
+  pub settings : G
   pub forms : Forms N S E C B
   pub sight : Sight N C B Node Cdr
   pub causeOf : B → ℕ
   pub Closes : History S E → ℕ → E → ℕ → Type 0
 
 -- PDP contexts, and their S-CDRs
-abbrev pub contexts : Profile → Kind Name Force Heard Context scdr.Record
+abbrev pub contexts : Profile → Kind Settings Name Force Heard Context scdr.Record
 contexts p = record {
-  rules = rules (p .limits);
+  rules = rules;
   meaning = meaning;
+  settings = settingsOf p;
   forms = forms p;
   sight = sight;
   causeOf = λ r. r .cause;
-  Closes = Closes (p .limits);
+  Closes = Closes;
 }
 
 -- subscribers, and their M-CDRs
-abbrev pub subscribers : Profile → Kind ℕ Place Noted Subscriber MmRecord
+abbrev pub subscribers : Profile → Kind (Unit {0}) ℕ Place Noted Subscriber MmRecord
 subscribers p = record {
   rules = attaching.rules;
   meaning = attaching.meaning;
+  settings = tt;
   forms = attaching.forms p;
   sight = mmSight;
   causeOf = λ r. r .cause;
@@ -155,8 +159,13 @@ subscribers p = record {
 }
 
 -- The activations of a name of a kind: its histories in the accepted events, first to last. What the calls write is no part of them.
-abbrev pub activations : {N S E C B : Type 0} → Kind N S E C B → Profile → List Call → N → List (History S E)
-activations K p calls name = histories (K .rules) (K .meaning) name tt (log (machine (λ n c. [])) (freshNode p) calls)
+abbrev pub activations : {G N S E C B : Type 0} → Kind G N S E C B → Profile → List Call → N → List (History S E)
+activations K p calls name = histories (K .rules) (K .meaning) name (K .settings) (log (machine (λ n c. [])) (freshNode p) calls)
+
+-- What a node that was set to g is set to after accepted events.
+abbrev pub setTo : Settings → List (Accepted (List ℕ)) → Settings
+setTo g [] = g
+setTo g (c ∷ cs) = setTo (settles g (c .event)) cs
 
 -- ---- a pair of a list
 
@@ -174,7 +183,7 @@ pub record OneFor {B : Type 0} (causeOf : B → ℕ) (rs : List B) (cause : ℕ)
   pub for : causeOf sole ≡ cause
 
 -- A call with the event s after any calls from a fresh node with this profile, and a kind.
-module _ {N S E C B : Type 0} (K : Kind N S E C B) (p : Profile) (recordsBy : Node → Call → List Cdr) (calls : List Call) (s b : List ℕ) where
+module _ {G N S E C B : Type 0} (K : Kind G N S E C B) (p : Profile) (recordsBy : Node → Call → List Cdr) (calls : List Call) (s b : List ℕ) where
   -- what is answered to it
   abbrev pub answerThen : ℕ
   answerThen = answer (nodeThen p calls) (step s b)
@@ -205,14 +214,14 @@ module _ {N S E C B : Type 0} (K : Kind N S E C B) (p : Profile) (recordsBy : No
     pub exactly : (name : N) (cause : ℕ) → OneFor (K .causeOf) (recordsUnder name) cause ↔ ClosesUnder name cause
 
 -- What must hold of a kind, where `recordsBy` says which records a call writes.
-pub record Charged {N S E C B : Type 0} (K : Kind N S E C B) (p : Profile) (recordsBy : Node → Call → List Cdr) : Type 0 where
+pub record Charged {G N S E C B : Type 0} (K : Kind G N S E C B) (p : Profile) (recordsBy : Node → Call → List Cdr) : Type 0 where
   -- Under every name these records, and what is stored, are exactly what its histories make and leave.
-  pub demand : (calls : List Call) (name : N) → Demand3 (K .rules) (K .meaning) (K .forms) (K .sight) (machine recordsBy) (freshNode p) tt calls name
+  pub demand : (calls : List Call) (name : N) → Demand3 (K .rules) (K .meaning) (K .forms) (K .sight) (machine recordsBy) (freshNode p) (K .settings) calls name
   -- Each call writes what its events close, and nothing else: said of a call of one event, and of any call as the theory says it of calls that
   -- may apply any number of events.
   pub each-call : (calls : List Call) (s b : List ℕ) → EachCall K p recordsBy calls s b
   pub one-call : (calls : List Call) (c : Call) (name : N)
-      → OneCall (K .rules) (K .meaning) (K .forms) (K .sight) (machine recordsBy) (freshNode p) tt calls c name
+      → OneCall (K .rules) (K .meaning) (K .forms) (K .sight) (machine recordsBy) (freshNode p) (K .settings) calls c name
   -- In every history a record closes exactly when one of the closing conditions holds, read over the open record's past alone.
   pub conditions : (h : History S E) (t : ℕ) (e : E) (cause : ℕ) → ClosesNow (K .rules) h t e cause ↔ K .Closes (sinceOpening (K .rules) h) t e cause
   -- No event meets two of them with two causes.
@@ -244,11 +253,13 @@ pub record Once (p : Profile) : Type 0 where
   -- Each accepted event, and each applied pair of a list, is one of those that the node counts: 02, "Demand 3 counts each applied pair as one
   -- event".
   pub counted : (calls : List Call) → nodeThen p calls .accepted ≡ length (log (machine recordsBy) (freshNode p) calls)
+  -- What the node is set to is what the accepted replacements made of the profile's sets of limits (02, W6).
+  pub set-to : (calls : List Call) → nodeThen p calls .settings ≡ setTo (settingsOf p) (log (machine recordsBy) (freshNode p) calls)
   -- "No event meets two of them for one context": it is the same one of the five, with the same cause.
-  pub one-condition : (r : History Force Heard) (t : ℕ) (e : Heard) (j k : ℕ) (a : Closes (p .limits) r t e j) (b : Closes (p .limits) r t e k)
+  pub one-condition : (r : History Force Heard) (t : ℕ) (e : Heard) (j k : ℕ) (a : Closes r t e j) (b : Closes r t e k)
       → which a ≡ which b
   -- Nor does one meet two of the three for one subscriber.
   pub mm-one-condition : (r : History Place Noted) (t : ℕ) (e : Noted) (j k : ℕ) (a : attaching.Closes r t e j) (b : attaching.Closes r t e k)
       → attaching.which a ≡ attaching.which b
   -- What an activation brings stands in every part of its history.
-  pub brought : (h : History Force Heard) → Unchanged (rules (p .limits)) (λ s. s .brought) h
+  pub brought : (h : History Force Heard) → Unchanged rules (λ s. s .brought) h
