@@ -22,6 +22,7 @@ use Rattle.scdr.specs.declared.Record.{Record}
 use Rattle.scdr.specs.Rules.{release, causeOk, numberOk, changeOk, listRule, within}
 use Rattle.limits.proofs.Ranges.{limits-hold}
 use Rattle.profile.specs.declared.Profile.{Profile}
+use Rattle.profile.proofs.Ranges.{parts}
 use Rattle.context.specs.declared.Context.{Context}
 use Rattle.history.specs.Lists.{isSome, orElse, test}
 use Rattle.node.specs.declared.Message.{Message}
@@ -29,7 +30,7 @@ use Rattle.node.specs.declared.Settings.{Settings}
 use Rattle.node.specs.Hear.{reported, changeOf, limitMet, closing, timeAt, numberFor, recordOf, closedBy}
 use Rattle.node.specs.Sound.{mostAccepted}
 use Rattle.node.specs.Private.Premises.{InRange, ReportFits, SoundContext}
-use Rattle.node.proofs.Fits.{fit, apt-good, apt-grows, apt-few}
+use Rattle.node.proofs.Fits.{apt-good, apt-grows, apt-few}
 use Rattle.node.proofs.Perhaps.{test-is}
 use Rattle.node.proofs.Causes.{closing-once, closing-limit}
 
@@ -131,7 +132,7 @@ module _ (p : Profile) (gs : Settings) (t : ℕ) (c : Context) (a : SoundContext
   last-ok =
       let g = apt-good p gs t c a .current in
       let l = limits-hold (c .current .limits) (g .limits) in
-      let k = fit p (a .due .profile) in
+      let k = parts p (a .due .profile) in
       running-ok (reported (c .current) m) 2 t (p .zone) (omega arith) (g .qos) (omega (arith, g .volume, l .few-octets, u .up))
       (omega (arith, g .volume, l .few-octets, u .down)) (a .due .until) (k .zone)
 
@@ -153,7 +154,7 @@ module _ (p : Profile) (gs : Settings) (t : ℕ) (c : Context) (a : SoundContext
   unfolding within closedBy recordOf reported
   closed-within cause e =
       let g = apt-good p gs t c a in
-      let k = fit p (a .due .profile) in
+      let k = parts p (a .due .profile) in
       let w = closes (c .current) t m (c .closed) (apt-grows p gs t c a .closed) f e in
       let o =
       opening-ok (p .zone) (a .due .clock) (c .current) (g .current) t (a .due .since) (a .due .until) (k .zone) in

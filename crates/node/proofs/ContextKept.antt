@@ -28,6 +28,7 @@ use Rattle.scdr.proofs.Theorems.{at-most-1024, round-trip}
 use Rattle.limits.specs.Sets.{limitsOf}
 use Rattle.limits.proofs.Numbers.{limits-in-range}
 use Rattle.profile.specs.declared.Profile.{Profile}
+use Rattle.profile.proofs.Ranges.{parts}
 use Rattle.context.specs.declared.Context.{Context}
 use Rattle.context.specs.Sound.{contextOk}
 use Rattle.context.proofs.Sounds.{good, good-is}
@@ -54,7 +55,7 @@ use Rattle.node.specs.Hear.{
 }
 use Rattle.node.specs.Private.Premises.{InRange, ReportFits, SoundContext}
 use Rattle.node.specs.Held.{Shaped, HeldContext, HeldProfile}
-use Rattle.node.proofs.Fits.{fit, apt-good, apt-limits, apt-grows, apt-few}
+use Rattle.node.proofs.Fits.{apt-good, apt-limits, apt-grows, apt-few}
 use Rattle.node.proofs.ClosedRecord.{closed-within}
 use Rattle.node.proofs.Perhaps.{test-none, neither-none}
 use Rattle.node.proofs.Causes.{closing-once, closing-limit}
@@ -194,7 +195,7 @@ module _ (p : Profile) (gs : Settings) (t : ℕ) (c : Context) (a : SoundContext
   unfolding reported
   cut-ok k h =
       let g = apt-good p gs t c a .current in
-      let x = fit p (a .due .profile) in
+      let x = parts p (a .due .profile) in
       let l = apt-limits p gs t c a in
       running-ok (reported o m) k t (p .zone) h (g .qos) (omega (arith, g .volume, l .few-octets, u .up)) (omega (arith, g .volume, l .few-octets, u .down))
       (a .due .until) (x .zone)

@@ -1,35 +1,13 @@
--- What a profile in range and a sound context say, as the code and the laws want it.
-use mathlib.Core.Path.{_≡_}
-use mathlib.Core.Bool.{Bool, true, _&&_}
-use Prim.Native.Nat.{ℕ, _+_, _^_, _≤_, _<_}
+-- What a sound context says, as the code and the laws want it.
+use Prim.Native.Nat.{ℕ, _^_, _<_}
 use native.Mathlib.Omega.{arith}
-use lib.Dec.{leb}
-use borrow.Author.Tests.{leb-true, lt-ltb}
-use Rattle.format.proofs.Tests.{both}
-use Rattle.octets.specs.Names.{nodeOk}
-use Rattle.limits.specs.Sets.{firstEditions, setsOk}
+use borrow.Author.Tests.{lt-ltb}
 use Rattle.limits.proofs.Ranges.{LimitsHold, limits-hold}
 use Rattle.profile.specs.declared.Profile.{Profile}
-use Rattle.profile.specs.Profile.{profileOk}
 use Rattle.context.specs.declared.Context.{Context}
 use Rattle.context.proofs.Sounds.{Good, good}
 use Rattle.node.specs.declared.Settings.{Settings}
 use Rattle.node.specs.Private.Premises.{CanGrow, SoundContext}
-
--- ---- a profile in range
-
-pub record Fit (p : Profile) : Type 0 where
-  pub zone : p .zone ≤ 1560
-  pub node : nodeOk (p .nodeid) (p .nodelen) ≡ true
-
-pub fit : (p : Profile) → profileOk p ≡ true → Fit p
-unfolding profileOk
-fit p h =
-    let sets = setsOk (p .sets) (firstEditions (p .sets) (p .limits)) in
-    let h₂ = both (sets && leb (p .zone) 1560) (nodeOk (p .nodeid) (p .nodelen)) h in
-    record { zone = leb-true (p .zone) 1560 (both sets (leb (p .zone) 1560) (h₂ .0) .1); node = h₂ .1 }
-
--- ---- a context of a sound node
 
 module _ (p : Profile) (gs : Settings) (t : ℕ) (c : Context) (a : SoundContext p gs t c) where
   pub apt-good : Good (p .sets) (p .zone) (a .due .clock) (a .due .accepted) c

@@ -7,7 +7,7 @@
 //   Once              what is answered to calls, which events they hold and apply, what one call writes, and the statement over the octets
 //   Activations       the same read activation by activation: its containers are those of its stretches, nothing lost, nothing twice
 // None of these says how the node works: of the node they take a fresh one, the answers to its calls (`stepOf`, and `batchOf`, a fold of
-// it over the traffic events of a list), where its slots are, and what the code can hold. `stepOf` is what the code's step is proved to
+// it over the traffic events of a list), where its slots are, the sets of limits that it keeps, and what the code can hold. `stepOf` is what the code's step is proved to
 // answer (crates/node).
 //
 // That an S-CDR's octets read back as that S-CDR is `round-trip` of crates/scdr, for every record within the rules; that what a

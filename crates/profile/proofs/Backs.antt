@@ -23,7 +23,7 @@ use Rattle.profile.proofs.Firsts.{clash, both, is-none, met-unless, non
 use Rattle.profile.proofs.Numbers.{by, most-is, most-over}
 use Rattle.profile.proofs.Marks.{cut-is, past-some}
 use Rattle.profile.proofs.Digits.{digits-plain, fault-plain, numeral-some, number-back}
-use Rattle.profile.proofs.Ranges.{Low}
+use Rattle.limits.proofs.Ranges.{LimitsHold}
 use Rattle.profile.proofs.Lines.{Tail, spaced-back}
 
 -- ---- addresses
@@ -85,7 +85,7 @@ capped-back m v e k h =
 
 -- ---- the three limits of a set
 
-three-back : (v : List ℕ) → threeFault v ≡ None → Low (limitsOf v) → limitsText (limitsOf v) ≡ v
+three-back : (v : List ℕ) → threeFault v ≡ None → LimitsHold (limitsOf v) → limitsText (limitsOf v) ≡ v
 unfolding threeFault limitsOf limitsText
 three-back v e h =
     let w = past space v in
@@ -94,9 +94,9 @@ three-back v e h =
     let hw = past-some space w (fault-plain (changesIn v) c .some) in
     let hv = past-some space v (cut-long space w hw) in
     rw (
-      capped-back (2 ^ 64 - 1) (volumeIn v) a (omega arith) (omega (arith, h .volume)),
-      capped-back (2 ^ 32 - 1) (secondsIn v) b (omega arith) (omega (arith, h .seconds)),
-      capped-back 255 (changesIn v) c (omega arith) (omega (arith, h .changes)),
+      capped-back (2 ^ 64 - 1) (volumeIn v) a (omega arith) (omega (arith, h .few-octets)),
+      capped-back (2 ^ 32 - 1) (secondsIn v) b (omega arith) (omega (arith, h .few-seconds)),
+      capped-back 255 (changesIn v) c (omega arith) (omega (arith, h .few-changes)),
     )
     (ap (λ (l : List ℕ). upTo space v ++ space ∷ l) (sym (cut-is space w hw)) ∙ sym (cut-is space v hv))
 
@@ -166,6 +166,6 @@ module _ (v t : List ℕ) (e : v ≡ past space t) where
   pub node-back : Tail Rest t → length v ≤ 20 → nodeText (nodeOctets v) (length v) ≡ t
   node-back f h = rw e (rest-back t (f .lead) (rw e at h))
 
-pub limits-back : (t : List ℕ) → Tail Three t → Low (limitsOf (past space t)) → limitsTail (limitsOf (past space t)) ≡ t
+pub limits-back : (t : List ℕ) → Tail Three t → LimitsHold (limitsOf (past space t)) → limitsTail (limitsOf (past space t)) ≡ t
 limits-back t f h =
     spaced-back (λ (w : List ℕ). limitsText (limitsOf w)) (past space t) t (f .lead) refl (three-back (past space t) (f .fault) h)

@@ -6,10 +6,11 @@ use Prim.Native.Nat.{ℕ, zero, suc, _^_, _≤_, _<_}
 use native.Mathlib.Omega.{arith}
 use lib.Dec.{leb, eqb}
 use lib.ListN.{length, take, drop}
-use borrow.Author.Tests.{leb-true, eqb-true}
+use borrow.Author.Tests.{leb-true}
 use Rattle.limits.specs.declared.Limits.{Limits}
 use Rattle.limits.specs.Limits.{limitsOk, noLimits, blankLimits}
 use Rattle.limits.specs.Sets.{given, firstEditions, setOk, blankSet, usedOk, setsOk}
+use Rattle.limits.proofs.Ranges.{LimitsHold, limits-hold, blank-limits}
 use Rattle.limits.proofs.Numbers.{sets-hold}
 use Rattle.octets.specs.Chars.{allOf, nodeChar, isZero}
 use Rattle.octets.specs.Names.{nodeOk}
@@ -17,47 +18,13 @@ use Rattle.profile.specs.Profile.{profileOk}
 use Rattle.profile.specs.declared.Profile.{Profile}
 use Rattle.profile.proofs.Firsts.{both}
 
--- ---- limits
-
--- no limit is too large for its type
-pub record Low (l : Limits) : Type 0 where
-  pub volume : l .volume ≤ 10 ^ 12
-  pub seconds : l .seconds ≤ 604800
-  pub changes : l .changes ≤ 15
-
-pub low : (l : Limits) → limitsOk l ≡ true → Low l
-unfolding limitsOk
-low l e =
-    let (a, u) =
-    both (leb 1 (l .volume) && leb (l .volume) (10 ^ 12) && leb 1 (l .seconds) && leb (l .seconds) 604800 && leb 1 (l .changes)) (leb (l .changes) 15) e in
-    let (b, v) = both (leb 1 (l .volume) && leb (l .volume) (10 ^ 12) && leb 1 (l .seconds) && leb (l .seconds) 604800) (leb 1 (l .changes)) a in
-    let (c, w) = both (leb 1 (l .volume) && leb (l .volume) (10 ^ 12) && leb 1 (l .seconds)) (leb (l .seconds) 604800) b in
-    let (d, x) = both (leb 1 (l .volume) && leb (l .volume) (10 ^ 12)) (leb 1 (l .seconds)) c in
-    record {
-      volume = leb-true (l .volume) (10 ^ 12) (both (leb 1 (l .volume)) (leb (l .volume) (10 ^ 12)) d .1);
-      seconds = leb-true (l .seconds) 604800 w;
-      changes = leb-true (l .changes) 15 u;
-    }
-
-blank : (l : Limits) → blankLimits l ≡ true → l ≡ noLimits
-unfolding blankLimits
-blank l e =
-    let (a, w) = both (eqb (l .volume) 0 && eqb (l .seconds) 0) (eqb (l .changes) 0) e in
-    let (u, v) = both (eqb (l .volume) 0) (eqb (l .seconds) 0) a in
-    let same : these (l .volume) (l .seconds) (l .changes) ≡ these 0 0 0 =
-    rw (eqb-true (l .volume) 0 u, eqb-true (l .seconds) 0 v, eqb-true (l .changes) 0 w) in
-    same
-  where
-    these : ℕ → ℕ → ℕ → Limits
-    these v s c = record { volume = v; seconds = s; changes = c }
-
 -- ---- the sets
 
--- k sets of limits that are low, and none in the places after them
+-- k sets of limits in range, and none in the places after them
 pub data Sets : ℕ → List Limits → Type 0 where
   none : Sets zero []
   unused : (ls : List Limits) → Sets zero ls → Sets zero (noLimits ∷ ls)
-  used : (k : ℕ) (l : Limits) (ls : List Limits) → Low l → Sets k ls → Sets (suc k) (l ∷ ls)
+  used : (k : ℕ) (l : Limits) (ls : List Limits) → LimitsHold l → Sets k ls → Sets (suc k) (l ∷ ls)
 
 sets-are : (k : ℕ) (ls : List Limits) → k ≤ length ls → usedOk k (firstEditions k ls) ≡ true → Sets k ls
 unfolding usedOk firstEditions setOk blankSet
@@ -65,10 +32,10 @@ sets-are zero [] h e = none
 sets-are (suc k) [] h e = absurd (omega arith)
 sets-are zero (l ∷ ls) h e =
     let (a, b) = both (blankSet (given false l)) (usedOk zero (firstEditions zero ls)) e in
-    rw (blank l (both (eqb 0 0) (blankLimits l) a .1)) (unused ls (sets-are zero ls (omega arith) b))
+    rw (blank-limits l (both (eqb 0 0) (blankLimits l) a .1)) (unused ls (sets-are zero ls (omega arith) b))
 sets-are (suc k) (l ∷ ls) h e =
     let (a, b) = both (setOk (given true l)) (usedOk k (firstEditions k ls)) e in
-    used k l ls (low l (both (leb 1 1) (limitsOk l) a .1)) (sets-are k ls (omega arith) b)
+    used k l ls (limits-hold l (both (leb 1 1) (limitsOk l) a .1)) (sets-are k ls (omega arith) b)
 
 -- ---- the profile
 

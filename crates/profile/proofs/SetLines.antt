@@ -15,7 +15,8 @@ use Rattle.profile.specs.Text.{Row, setRow}
 use Rattle.profile.specs.Print.{limitsText, limitsTail, linesOf}
 use Rattle.profile.specs.declared.line.Kind.the-variants.{Three}
 use Rattle.profile.proofs.Lines.{Tail, tail-is, Lines, line, line-past, line-value}
-use Rattle.profile.proofs.Ranges.{Low, Sets, none, unused, used}
+use Rattle.limits.proofs.Ranges.{LimitsHold}
+use Rattle.profile.proofs.Ranges.{Sets, none, unused, used}
 use Rattle.profile.proofs.Values.{three-is}
 use Rattle.profile.proofs.Backs.{limits-back}
 
@@ -31,10 +32,10 @@ unfolding limitsIn has
 set-in n k t r f =
     ap₂ {C = List Limits} (λ v u. limitsOf v ∷ limitsIn n k u) (line-value limitsName t r Three refl refl f) (set-past t r f)
 
-set-tail : (l : Limits) → Low l → Tail Three (limitsTail l)
+set-tail : (l : Limits) → LimitsHold l → Tail Three (limitsTail l)
 set-tail l h = let f = three-is l h in tail-is Three (limitsText l) refl (f .value) (f .fault)
 
-set-said : (l : Limits) → Low l → limitsOf (past space (limitsTail l)) ≡ l
+set-said : (l : Limits) → LimitsHold l → limitsOf (past space (limitsTail l)) ≡ l
 unfolding past
 set-said l h = three-is l h .same
 
@@ -89,7 +90,7 @@ module _ {rs : List Row} {ts : List (List ℕ)} (e : Lines rs ts) where
 
 -- ---- and back
 
-first-used : {k : ℕ} {l : Limits} {ls : List Limits} → Sets (suc k) (l ∷ ls) → Low l × Sets k ls
+first-used : {k : ℕ} {l : Limits} {ls : List Limits} → Sets (suc k) (l ∷ ls) → LimitsHold l × Sets k ls
 first-used (used k l ls h s) = (h, s)
 
 -- lines that are those of the sets, and the lines of other rows after them

@@ -25,7 +25,7 @@ use Rattle.profile.proofs.Firsts.{clash, both, unless-met}
 use Rattle.profile.proofs.Numbers.{by, most-is}
 use Rattle.profile.proofs.Marks.{absent, absent-both, up-to-here, past-here}
 use Rattle.profile.proofs.Digits.{Plain, plain-digits, plain-fault, Spells, number-spells}
-use Rattle.profile.proofs.Ranges.{Low}
+use Rattle.limits.proofs.Ranges.{LimitsHold}
 use Rattle.profile.proofs.Lines.{Value, Tail}
 
 -- ---- digits have no mark among them
@@ -107,7 +107,7 @@ pub record Three (l : Limits) (v : List ℕ) : Type 0 where
   pub value : Value v
 
 module _ (l : Limits) {p q r : List ℕ} (fp : Spells p (l .volume)) (fq : Spells q (l .seconds)) (fr : Spells r (l .changes)) where
-  apart : Low l → Three l (p ++ space ∷ (q ++ space ∷ r))
+  apart : LimitsHold l → Three l (p ++ space ∷ (q ++ space ∷ r))
   unfolding threeFault limitsOf unless has
   apart h =
       let w = q ++ space ∷ r in
@@ -116,9 +116,9 @@ module _ (l : Limits) {p q r : List ℕ} (fp : Spells p (l .volume)) (fq : Spell
       let u1 = up-to-here space w p (no-mark (fp .plain) space refl) in
       let u2 = up-to-here space r q (no-mark (fq .plain) space refl) in
       let first = List·getD-append p (space ∷ w) 0 0 (fp .plain .some) in
-      let volume = number-same fp (2 ^ 64 - 1) (omega (arith, h .volume)) in
-      let seconds = number-same fq (2 ^ 32 - 1) (omega (arith, h .seconds)) in
-      let changes = number-same fr 255 (omega (arith, h .changes)) in
+      let volume = number-same fp (2 ^ 64 - 1) (omega (arith, h .few-octets)) in
+      let seconds = number-same fq (2 ^ 32 - 1) (omega (arith, h .few-seconds)) in
+      let changes = number-same fr 255 (omega (arith, h .few-changes)) in
       record {
         fault = rw (p1, p2, u1, u2, plain-fault (fp .plain), plain-fault (fq .plain), plain-fault (fr .plain));
         same = rw (p1, p2, u1, u2, volume, seconds, changes);
@@ -131,11 +131,11 @@ module _ (l : Limits) {p q r : List ℕ} (fp : Spells p (l .volume)) (fq : Spell
             };
       }
 
-pub three-is : (l : Limits) → Low l → Three l (limitsText l)
+pub three-is : (l : Limits) → LimitsHold l → Three l (limitsText l)
 unfolding limitsText
 three-is l h =
-    apart l (number-spells (l .volume) (omega (arith, h .volume))) (number-spells (l .seconds) (omega (arith, h .seconds)))
-    (number-spells (l .changes) (omega (arith, h .changes))) h
+    apart l (number-spells (l .volume) (omega (arith, h .few-octets))) (number-spells (l .seconds) (omega (arith, h .few-seconds)))
+    (number-spells (l .changes) (omega (arith, h .few-changes))) h
 
 -- ---- offsets
 

@@ -1,19 +1,18 @@
 -- A subscriber that hears something stays as it must be, and the record that it closes is within the rules.
 use mathlib.Core.Path.{_≡_, refl, sym}
-use mathlib.Core.Bool.{Bool, true, false, not, cond, _&&_, _||_}
+use mathlib.Core.Bool.{Bool, true, false, not, cond, _||_}
 use mathlib.Core.List.{List, _++_}
 use Prim.Native.Nat.{ℕ, _+_, _-_, _^_, _≤_, _<_}
 use native.Mathlib.Omega.{arith}
 use lib.Dec.{leb, eqb}
 use lib.ListN.{length, drop}
 use borrow.Author.Tests.{leb-true, leb-false, eqb-true, eqb-false, le-leb, lt-ltb, eq-eqb, ne-eqb}
-use Rattle.format.proofs.Tests.{by, both}
-use Rattle.octets.specs.Names.{nodeOk}
+use Rattle.format.proofs.Tests.{by}
 use Rattle.ber.specs.Imsi.{imsiOk}
 use Rattle.calendar.specs.Stamp.{stampOk}
 use Rattle.profile.specs.declared.Profile.{Profile}
-use Rattle.limits.specs.Sets.{firstEditions, setsOk}
 use Rattle.profile.specs.Profile.{profileOk}
+use Rattle.profile.proofs.Ranges.{parts}
 use Rattle.mcdr.specs.declared.Place.{Place}
 use Rattle.mcdr.specs.Change.{samePlace}
 use Rattle.mcdr.specs.Changes.{lastTime}
@@ -28,19 +27,6 @@ use Rattle.subscriber.specs.Hear.{opened, listed, numberFor, recordOf, f
 use Rattle.subscriber.specs.Tell.{stood, allWithin, able, octetsOf, toldOf}
 use Rattle.subscriber.proofs.Sounds.{Open, open-since, open-later, open-few, opened-sound, listed-last, listed-sound}
 use Rattle.subscriber.proofs.Sounds.{Good, taken-good, good-slot, blank-ok, later-good}
-
--- ---- a profile in range
-
-record Fit (p : Profile) : Type 0 where
-  zone : p .zone ≤ 1560
-  node : nodeOk (p .nodeid) (p .nodelen) ≡ true
-
-fit : (p : Profile) → profileOk p ≡ true → Fit p
-unfolding profileOk
-fit p h =
-    let (a, node) = both (setsOk (p .sets) (firstEditions (p .sets) (p .limits)) && leb (p .zone) 1560) (nodeOk (p .nodeid) (p .nodelen)) h in
-    let (b, zone) = both (setsOk (p .sets) (firstEditions (p .sets) (p .limits))) (leb (p .zone) 1560) a in
-    record { zone = leb-true (p .zone) 1560 zone; node = node }
 
 -- ---- the number
 
@@ -64,7 +50,7 @@ module _ (p : Profile) (profile : profileOk p ≡ true) (t : ℕ) (until : t ≤
       → within (recordOf p s t cause detached) ≡ true
   unfolding recordOf closingOk stampOk
   record-within s cause detached imsi o known full closing number =
-      let f = fit p profile in
+      let f = parts p profile in
       let since = open-since o in
       let r = recordOf p s t cause detached in
       let e : s .opening .seconds + (t - s .opening .seconds) ≡ t = omega arith in
@@ -112,7 +98,7 @@ module _ (p : Profile) (profile : profileOk p ≡ true) (clock accepted t : ℕ)
 
     module _ (q : Place) (other : samePlace (placeOf s) q ≡ false) where
       one-more : Open 15 (p .zone) t (listed p s t q)
-      one-more = listed-sound p clock s size (g .current) t since until (fit p profile .zone) q other
+      one-more = listed-sound p clock s size (g .current) t since until (parts p profile .zone) q other
 
       listed-good : fifteenth s ≡ false → Good (p .zone) t (accepted + 1) (listed p s t q)
       unfolding fifteenth listed
@@ -127,7 +113,7 @@ module _ (p : Profile) (profile : profileOk p ≡ true) (clock accepted t : ℕ)
           let n : s .count + 1 ≡ 15 = omega (arith, leb-true 15 (s .count + 1) h, g .current .count) in
           record-within p profile t until (listed p s t q) 19 false (g .imsi) one-more refl (rw n)
           (eq-eqb t (lastTime (s .opening .seconds) (used (listed p s t q)))
-          (sym (listed-last p clock s size (g .current) t since until (fit p profile .zone) q other)))
+          (sym (listed-last p clock s size (g .current) t since until (parts p profile .zone) q other)))
           (closing-number (s .closed) 19 next-number refl)
 
     -- another cause closes it as it is
