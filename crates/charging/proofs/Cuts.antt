@@ -162,10 +162,10 @@ cut-anywhere ts n s o f =
 
 -- ---- and it is done after so many turns as the file has octets
 
--- a turn that looks for the end, and has room, and 291 octets in hand if the file still has them
+-- a turn that looks for the end, and has room, and 292 octets in hand if the file still has them
 pub record Able (t : Turn) : Type 0 where
   pub looked : t .looked ≡ true
-  pub hand : 291 ≤ t .hand
+  pub hand : 292 ≤ t .hand
   pub room : 16416 ≤ t .room
 
 able-ready : (t : Turn) (s : List ℕ) → Able t → 1 ≤ length s → ready (t .looked && leb (length s) (t .hand)) (length (take (t .hand) s)) (t .room) ≡ true
@@ -175,7 +175,7 @@ able-ready t s a h =
     let room = le-leb 16416 (t .room) (a .room) in
     either (length s) (t .hand)
     (λ j. rw (a .looked, le-leb (length s) (t .hand) j, some, room))
-    (λ j. rw (a .looked, lt-leb (length s) (t .hand) j, le-leb 291 (length (take (t .hand) s)) (omega (arith, a .hand)), some, room))
+    (λ j. rw (a .looked, lt-leb (length s) (t .hand) j, le-leb 292 (length (take (t .hand) s)) (omega (arith, a .hand)), some, room))
 
 -- it refuses an event or comes on
 here-moves : (k : ℕ) (ended : Bool) (n : Node) (s : List ℕ) (room : ℕ) → 1 ≤ k → ready ended (length s) room ≡ true
@@ -200,7 +200,7 @@ turn-moves t n s a h =
     let r = able-ready t s a h in
     here-moves (length l) e n l (t .room) (is-ready e (length l) (t .room) r .some) r
 
--- in any windows of 291 octets or more, where the end is looked for
+-- in any windows of 292 octets or more, where the end is looked for
 pub turns-enough : (ts : List Turn) (n : Node) (s : List ℕ) → Octets s → All Able ts → length s ≤ length ts → inTurns ts n s ≡ charged n s
 unfolding inTurns charged
 turns-enough [] n s o a l = sym (charged-none (length s) n s (omega arith))

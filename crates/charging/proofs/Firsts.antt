@@ -1,4 +1,4 @@
--- The next event of a file charged: what is known of it whatever the node says; and that it is the same in a window, if that has 291 octets or the
+-- The next event of a file charged: what is known of it whatever the node says; and that it is the same in a window, if that has 292 octets or the
 -- rest of the file.
 use mathlib.Core.Path.{_≡_, refl, sym, ap, _∙_}
 use mathlib.Core.Bool.{Bool, true, false, not, cond, _&&_}
@@ -85,14 +85,14 @@ first-strange n s h k =
     rw (event-unknown s k)
     (taken-refused n (nextLength s) (strange n (marked s)) (refused n s roomy (strange n (marked s)) (strange-fit n s roomy h k) z) z)
 
-module _ (n : Node) (s : List ℕ) (h : ℕ) (o : Octets s) (long : 291 ≤ length (take h s)) where
+module _ (n : Node) (s : List ℕ) (h : ℕ) (o : Octets s) (long : 292 ≤ length (take h s)) where
   abbrev t : List ℕ
   t = take h s
 
-  pub hand-most : (291 ≤ h) × (291 ≤ length s)
+  pub hand-most : (292 ≤ h) × (292 ≤ length s)
   hand-most = (omega (arith, length-take h s), omega (arith, length-take h s))
 
-  same-at : (i : ℕ) → i < 291 → getD t i 0 ≡ getD s i 0
+  same-at : (i : ℕ) → i < 292 → getD t i 0 ≡ getD s i 0
   same-at i l = getD-take h s i 0 (omega (arith, hand-most .0))
 
   same-known : known t ≡ known s
@@ -104,10 +104,10 @@ module _ (n : Node) (s : List ℕ) (h : ℕ) (o : Octets s) (long : 291 ≤ leng
   same-marked = rw (same-at 0 (omega arith), same-at 1 (omega arith))
 
   same-whole : wholeOf t ≡ wholeOf s
-  same-whole = whole-same s t (same-at 2 (omega arith)) (same-at 35 (omega arith))
+  same-whole = whole-same s t (same-at 2 (omega arith)) (same-at 36 (omega arith))
 
-  whole-there : wholeOf s ≤ 291
-  whole-there = whole-most s (octet-at s o 35)
+  whole-there : wholeOf s ≤ 292
+  whole-there = whole-most s (octet-at s o 36)
 
   next-same : known s ≡ true → nextLength t ≡ nextLength s
   next-same k =
@@ -133,7 +133,7 @@ module _ (n : Node) (s : List ℕ) (h : ℕ) (o : Octets s) (long : 291 ≤ leng
   first-long = by (known s) known-long strange-long
 
 -- the next event in hand is the next event of the file
-pub first-same : (n : Node) (s : List ℕ) (h : ℕ) (ended : Bool) → Octets s → (ended ≡ true → length s ≤ h) → (ended ≡ false → 291 ≤ length (take h s))
+pub first-same : (n : Node) (s : List ℕ) (h : ℕ) (ended : Bool) → Octets s → (ended ≡ true → length s ≤ h) → (ended ≡ false → 292 ≤ length (take h s))
     → firstOf n (take h s) ≡ firstOf n s
 first-same n s h true o e l = ap (firstOf n) (take-all h s (e refl))
 first-same n s h false o e l = first-long n s h o (l refl)

@@ -1,14 +1,14 @@
 -- The room is enough: no event of a file is refused with 11, and a node that was sound stays so.
 use mathlib.Core.Path.{_≡_, refl, sym, ap, _∙_}
-use mathlib.Core.Bool.{Bool, true, false}
+use mathlib.Core.Bool.{Bool, true, false, not, _&&_}
 use mathlib.Core.Option.{Option, none, some}
 use mathlib.Core.List.{List, [], _∷_, _++_, map}
 use Prim.Native.Nat.{ℕ, zero, suc, _+_, _*_, _≤_, _<_}
 use native.Mathlib.Omega.{arith}
 use lib.Dec.{leb, ltb, eqb}
 use lib.ListN.{length, take, drop, length-append, length-map}
-use borrow.Author.Tests.{eqb-true, le-ltb}
-use Rattle.format.proofs.Tests.{by}
+use borrow.Author.Tests.{eqb-true, eqb-false, le-ltb, not-true}
+use Rattle.format.proofs.Tests.{by, both}
 use Rattle.scdr.specs.declared.Record.{Record}
 use Rattle.mcdr.specs.declared.MmRecord.{MmRecord}
 use Rattle.mcdr.specs.Change.{samePlace}
@@ -30,9 +30,10 @@ use Rattle.subscriber.specs.Subscriber.{placeOf, taken as isAttached}
 use Rattle.subscriber.specs.Hear.{fifteenth, closesWith, hear as notices}
 use Rattle.subscriber.specs.Tell.{markedOctets as mmMarkedOctets, octetsOf as mmOctetsOf}
 use Rattle.node.specs.declared.Node.{Node}
+use Rattle.node.specs.declared.Settings.{Settings}
 use Rattle.node.specs.declared.Message.{Message}
 use Rattle.node.specs.declared.meaning.Meaning.{Meaning}
-use Rattle.node.specs.declared.meaning.Meaning.the-variants.{Opens, Tells, TellsAll, Attaches, Notifies}
+use Rattle.node.specs.declared.meaning.Meaning.the-variants.{Opens, Tells, TellsAll, Attaches, Notifies, Replaces}
 use Rattle.node.specs.Meaning.{meaningOf}
 use Rattle.node.specs.Hear.{closing, hearWith, hear}
 use Rattle.node.specs.Step.{
@@ -64,14 +65,14 @@ use Rattle.charging.proofs.Cuts.{drop-octets}
 
 -- ---- what an event writes at most: a record a slot, in one of the two tables
 
-with-few : (p : Profile) (c : Context) (t : ℕ) (h : Message) (o : Option ℕ) → length (hearWith p c t h o .out) ≤ 1
+with-few : (p : Profile) (g : Settings) (c : Context) (t : ℕ) (h : Message) (o : Option ℕ) → length (hearWith p g c t h o .out) ≤ 1
 unfolding hearWith
-with-few p c t h none = omega arith
-with-few p c t h (some cause) = omega arith
+with-few p g c t h none = omega arith
+with-few p g c t h (some cause) = omega arith
 
-hear-few : (p : Profile) (c : Context) (t : ℕ) (h : Message) → length (hear p c t h .out) ≤ 1
+hear-few : (p : Profile) (g : Settings) (c : Context) (t : ℕ) (h : Message) → length (hear p g c t h .out) ≤ 1
 unfolding hear
-hear-few p c t h = with-few p c t h (closing (p .limits) (c .current) t h)
+hear-few p g c t h = with-few p g c t h (closing (c .current) t h)
 
 notice-few : (p : Profile) (s : Subscriber) (t : ℕ) (m : Notice) → length (notices p s t m .out) ≤ 1
 unfolding notices closesWith
@@ -82,18 +83,18 @@ notice-few p s t Managed = omega arith
 notice-few p s t (Detached cause) = omega arith
 
 -- of either table
-module _ {N S E W C B : Type 0} (K : Handling (Unit {0}) N S E W C B) (few : (c : C) (t : ℕ) (h : E) → length (K .hear tt c t h .out) ≤ 1) (t : ℕ) where
-  listen-few : (w : Said (Unit {0}) N S E) (c : C) (o : Option E) → hears K (K .name c) w ≡ o → length (slot K tt t w (some c) .out) ≤ 1
+module _ {G N S E W C B : Type 0} (K : Handling G N S E W C B) (g : G) (few : (c : C) (t : ℕ) (h : E) → length (K .hear g c t h .out) ≤ 1) (t : ℕ) where
+  listen-few : (w : Said G N S E) (c : C) (o : Option E) → hears K (K .name c) w ≡ o → length (slot K g t w (some c) .out) ≤ 1
   listen-few w c none e = rw e (omega arith)
   listen-few w c (some h) e = rw e (few c t h)
 
-  slot-few : (w : Said (Unit {0}) N S E) (o : Option C) → length (slot K tt t w o .out) ≤ 1
+  slot-few : (w : Said G N S E) (o : Option C) → length (slot K g t w o .out) ≤ 1
   slot-few w none = omega arith
   slot-few w (some c) = listen-few w c (hears K (K .name c) w) refl
 
-  slots-few : (w : Said (Unit {0}) N S E) (os : List (Option C)) → length (slotsWrite K tt t w os) ≤ length os
+  slots-few : (w : Said G N S E) (os : List (Option C)) → length (slotsWrite K g t w os) ≤ length os
   slots-few w [] = omega arith
-  slots-few w (o ∷ os) = omega (arith, length-append (slot K tt t w o .out) (slotsWrite K tt t w os), slot-few w o, slots-few w os)
+  slots-few w (o ∷ os) = omega (arith, length-append (slot K g t w o .out) (slotsWrite K g t w os), slot-few w o, slots-few w os)
 
 -- an event speaks to one of the two tables, which have 16 slots each
 records-few : (n : Node) (t : ℕ) (m : Meaning) (s : List ℕ) → Held n → length (recordsOf n t (saying m s)) + length (mmRecordsOf n t (saying m s)) ≤ 16
@@ -101,14 +102,17 @@ unfolding recordsOf mmRecordsOf
 records-few n t (Opens a) s h = omega arith
 records-few n t (Tells m x) s h =
     let p = n .profile in
-    omega (arith, slots-few (handling p) (hear-few p) t (tells m x) (slots n), length-map (n .contexts) seen, h .size)
+    let g = n .settings in
+    omega (arith, slots-few (handling p) g (hear-few p g) t (tells m x) (slots n), length-map (n .contexts) seen, h .size)
 records-few n t (TellsAll x) s h =
     let p = n .profile in
-    omega (arith, slots-few (handling p) (hear-few p) t (tellsAll x) (slots n), length-map (n .contexts) seen, h .size)
+    let g = n .settings in
+    omega (arith, slots-few (handling p) g (hear-few p g) t (tellsAll x) (slots n), length-map (n .contexts) seen, h .size)
 records-few n t (Attaches k q) s h = omega arith
 records-few n t (Notifies k m) s h =
     let p = n .profile in
-    omega (arith, slots-few (subscribing p) (notice-few p) t (tells k m) (places n), length-map (n .subscribers) (S.seen isAttached), h .places)
+    omega (arith, slots-few (subscribing p) tt (notice-few p) t (tells k m) (places n), length-map (n .subscribers) (S.seen isAttached), h .places)
+records-few n t (Replaces r) s h = omega arith
 
 octets-few : (rs : List Record) → All Fine rs → length (octetsOf rs) ≤ 1026 * length rs
 unfolding octetsOf markedOctets
@@ -124,21 +128,22 @@ mm-octets-few (r ∷ rs) a =
 -- ---- 11 is the last row
 
 -- no row has this number
-abbrev Other : ℕ → List Row → Type 0
-Other k [] = Unit {0}
-Other k (row j t ∷ rs) = (j ≡ k → ⊥) × Other k rs
+abbrev lacks : ℕ → List Row → Bool
+lacks k [] = true
+lacks k (row j t ∷ rs) = not (eqb j k) && lacks k rs
 
 -- where the last row was found, and does not fit with more room, none does
-last-row : (k : ℕ) (rs : List Row) (t : Bool) → (k ≡ 0 → ⊥) → Other k rs → firstFit (rs ++ (row k t ∷ [])) ≡ k → firstFit (rs ++ (row k false ∷ [])) ≡ 0
+last-row : (k : ℕ) (rs : List Row) (t : Bool) → (k ≡ 0 → ⊥) → lacks k rs ≡ true → firstFit (rs ++ (row k t ∷ [])) ≡ k
+    → firstFit (rs ++ (row k false ∷ [])) ≡ 0
 unfolding firstFit
 last-row k [] t z o e = refl
-last-row k (row j true ∷ rs) t z o e = absurd (o .0 e)
-last-row k (row j false ∷ rs) t z o e = last-row k rs t z (o .1) e
+last-row k (row j true ∷ rs) t z o e = absurd (eqb-false j k (not-true (eqb j k) (both (not (eqb j k)) (lacks k rs) o .0)) e)
+last-row k (row j false ∷ rs) t z o e = last-row k rs t z (both (not (eqb j k)) (lacks k rs) o .1) e
 
 module _ (n : Node) (s : List ℕ) where
   -- the rows before the last, which alone asks for the room
   early : List Row
-  early = take 14 (refusals n s [])
+  early = take 16 (refusals n s [])
 
   abbrev x : List ℕ
   x = output n (timeOf s) (saidOf s)
@@ -147,9 +152,9 @@ module _ (n : Node) (s : List ℕ) where
   unfolding refusals early
   all-rows b = refl
 
-  others : Other 11 early
+  others : lacks 11 early ≡ true
   unfolding refusals early
-  others = ((λ e. omega arith), ((λ e. omega arith), ((λ e. omega arith), ((λ e. omega arith), ((λ e. omega arith), ((λ e. omega arith), ((λ e. omega arith), ((λ e. omega arith), ((λ e. omega arith), ((λ e. omega arith), ((λ e. omega arith), ((λ e. omega arith), ((λ e. omega arith), ((λ e. omega arith), tt))))))))))))))
+  others = refl
 
   -- with room for what it writes
   fits-then : (b c : List ℕ) → firstFit (refusals n s b) ≡ 11 → length x ≤ length c → firstFit (refusals n s c) ≡ 0

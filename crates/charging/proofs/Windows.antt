@@ -26,7 +26,7 @@ here-one k ended n s room h = rw h
 -- what a window says that is ready
 pub record Ready (ended : Bool) (here room : ℕ) : Type 0 where
   pub some : 1 ≤ here
-  pub long : ended ≡ false → 291 ≤ here
+  pub long : ended ≡ false → 292 ≤ here
   pub wide : 16416 ≤ room
 
 or-false : (a b : Bool) → (a || b) ≡ true → a ≡ false → b ≡ true
@@ -34,10 +34,10 @@ or-false a b e z = rw z at e
 
 pub is-ready : (ended : Bool) (here room : ℕ) → ready ended here room ≡ true → Ready ended here room
 is-ready ended here room e =
-    let p = both (leb 1 here && (ended || leb 291 here)) (leb 16416 room) e in
-    let q = both (leb 1 here) (ended || leb 291 here) (p .0) in
+    let p = both (leb 1 here && (ended || leb 292 here)) (leb 16416 room) e in
+    let q = both (leb 1 here) (ended || leb 292 here) (p .0) in
     record {
       some = leb-true 1 here (q .0);
-      long = λ z. leb-true 291 here (or-false ended (leb 291 here) (q .1) z);
+      long = λ z. leb-true 292 here (or-false ended (leb 292 here) (q .1) z);
       wide = leb-true 16416 room (p .1);
     }

@@ -11,9 +11,9 @@ use Rattle.charging.specs.Done.{Done, nothing, andThen}
 use Rattle.charging.specs.File.{firstOf}
 
 -- The next event is taken where so many octets are in hand, and there is so much room: something is in hand; it is the rest of the file, or has the
--- 291 octets of the longest event (an activate whose n is 255); and there is room for whatever an event can write.
+-- 292 octets of the longest event (an activate whose n is 255); and there is room for whatever an event can write.
 abbrev pub ready : Bool → ℕ → ℕ → Bool
-ready ended here room = leb 1 here && (ended || leb 291 here) && leb 16416 room
+ready ended here room = leb 1 here && (ended || leb 292 here) && leb 16416 room
 
 -- the events of s, of k octets at most, with so much room for what they write
 unfoldable pub hereIn : ℕ → Bool → Node → List ℕ → ℕ → Done

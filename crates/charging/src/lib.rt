@@ -21,11 +21,11 @@ pub struct Charged {
 fn is_ready(ended: bool, here: usize, room: usize) -> bool
     ensures { λ r. ⌜ r ≡ ready ended here room ⌝ }
 {
-    (1 <= here) & (ended | (291 <= here)) & (16416 <= room)
+    (1 <= here) & (ended | (292 <= here)) & (16416 <= room)
 }
 
 // Charges the events that lie in a window of a file, one after another, each on the node that the last one handed back, up to the first that
-// is refused. It stops where fewer than 291 octets are left, unless the file has ended there, and where less than 16,416 octets of out are:
+// is refused. It stops where fewer than 292 octets are left, unless the file has ended there, and where less than 16,416 octets of out are:
 // so that each event is whole, and there is room for what it writes.
 pub fn charge(node: Node, held: &[u8], ended: bool, out: &mut [u8]) -> Charged
     ensures { λ r. ⌜ Charges node (now (held .entry)) ended (now (out .entry)) (now (out .exit)) r ⌝ }
