@@ -26,10 +26,10 @@ struct State {
     going: bool,
 }
 
-// The longest event has 291 octets. Where fewer are in the window, more of the file is read, or its end.
+// The longest event has 292 octets. Where fewer are in the window, more of the file is read, or its end.
 fn fed(fd: i32, s: State, held: &mut [u8; 4096]) -> State {
     let p = s.place;
-    if s.ended | (291 <= window::left(p)) {
+    if s.ended | (292 <= window::left(p)) {
         return s;
     }
     let f = setup::read_on(b"charge", b"the file of events", fd, held, p);
