@@ -123,8 +123,8 @@ nodeThen p calls = after (freshNode p) calls
 
 -- ---- the two kinds of subject
 
--- What a kind is, for the statement: its rules, what events mean for it, what a fresh node is set to of that which matters to it, what it is written and stored as, where the node has it, the cause of
--- a record, and its closing conditions one by one.
+-- What a kind is, for the statement: its rules, what events mean for it, what a fresh node is set to as far as that matters to it, what it is
+-- written and stored as, where the node has it, the cause of a record, and its closing conditions one by one.
 pub record Kind (G N S E C B : Type 0) : Type 1 where
   pub rules : Rules S E
   pub meaning : Meaning G N S E (List ℕ)
