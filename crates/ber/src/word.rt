@@ -8,7 +8,7 @@ ghost use Rattle.ber.specs.Read.{Reads};
 use crate::{NOWHERE, field};
 
 // What was read, and the place after it: 0 and NOWHERE where it is not there.
-#[derive(Drop)]
+#[derive(Clone, Copy)]
 pub struct WordAt {
     pub v: u32,
     pub next: usize,

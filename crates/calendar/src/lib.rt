@@ -1,6 +1,8 @@
 // The calendar: local seconds from 2000 to 2099, and the nine octets of a TimeStamp, YY MM DD hh mm ss S hh mm in BCD.
 //
 // No public function has a `requires`: each answers for every input.
+#![tactic(auto)]
+
 mod digits;
 mod look;
 mod month;
@@ -18,21 +20,21 @@ use zone::{away_of, sign_of, zone_of};
 // Local seconds since 2000-01-01 00:00:00, up to 3,155,759,999 at the end of 2099. The zone is the offset from universal time in
 // minutes, plus 720: 0 is -720, 720 is no offset, and 1560, the last, is 840.
 #[repr(C)]
-#[derive(Drop)]
+#[derive(Clone, Copy)]
 pub struct Stamp {
     pub seconds: u32,
     pub zone: u16,
 }
 
 // The octets of a time. Where the time or the zone is out of range, ok is false, and the octets are all 0.
-#[derive(Drop)]
+#[derive(Clone, Copy)]
 pub struct StampOctets {
     pub ok: bool,
     pub octets: [u8; 9],
 }
 
 // What octets say: a time in range whose octets they are, or no time.
-#[derive(Drop)]
+#[derive(Clone, Copy)]
 pub enum StampRead {
     Time(Stamp),
     NoTime,

@@ -8,7 +8,7 @@ use crate::digits::{less_one, of_bcd};
 use crate::look::first_day;
 
 // The date of a day: its month, and its place there, counted from 0.
-#[derive(Drop)]
+#[derive(Clone, Copy)]
 pub struct Date {
     pub month: u32,
     pub place: u32,
@@ -45,7 +45,7 @@ pub fn date_of(day: u32) -> Date
 }
 
 // The days of a month: the one on which it begins, and how many there are.
-#[derive(Drop)]
+#[derive(Clone, Copy)]
 pub struct Days {
     pub first: u32,
     pub count: u32,

@@ -1,6 +1,8 @@
 // A file of events charged, as much of it as is in hand.
 //
 // No public function has a `requires`: each answers for every input.
+#![tactic(auto)]
+
 ghost use Rattle.std.specs.Prelude.{◌≡◌};
 ghost use Rattle.charging.specs.Window.{ready, Charges};
 
@@ -9,7 +11,7 @@ use node::Node;
 
 // What was done: 0, or the number of the refusal at which it stopped; the node after the last accepted event; how many octets the accepted
 // events have, how many they are, and how many octets the last of them has; how many octets were written.
-#[derive(Drop)]
+#[derive(Clone, Copy)]
 pub struct Charged {
     pub answer: u8,
     pub node: Node,

@@ -14,7 +14,7 @@ use window::Place;
 
 // Where the next event lies; whether the file has ended there or in the window; what was done: events accepted whose records are written,
 // these records, and their octets; and whether to go on. (The node is kept apart: what holds it is slow to prove.)
-#[derive(Drop)]
+#[derive(Clone, Copy)]
 struct State {
     place: Place,
     ended: bool,

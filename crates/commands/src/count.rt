@@ -20,7 +20,7 @@ const LONGEST: usize = 1026;
 const LAST_ID: u64 = 4294967295;
 
 // Where the next record lies; what was counted up to there; whether the file has been read to its end; and whether to go on.
-#[derive(Drop)]
+#[derive(Clone, Copy)]
 struct State {
     place: Place,
     tally: Tally,

@@ -6,6 +6,8 @@
 //     commands all PROFILE EVENTS RECORDS ID GGSN   does the one after the other, as `rt check` has it
 //
 // No contract can say what is read or written: each function is proved safe and ending.
+#![tactic(auto)]
+
 mod charge;
 mod count;
 mod refusal;

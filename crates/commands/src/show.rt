@@ -32,7 +32,7 @@ const OVER: u64 = 4;
 
 // Where the next record lies; how many were shown; how many characters wait to be written; whether the file has been read to its end;
 // and how to go on.
-#[derive(Drop)]
+#[derive(Clone, Copy)]
 struct State {
     place: Place,
     records: u64,

@@ -7,7 +7,7 @@ use crate::{Container, list, one};
 use ber::{NOWHERE, tlv};
 
 // The containers, how many, and the place after them: none and NOWHERE where there is no list.
-#[derive(Drop)]
+#[derive(Clone, Copy)]
 pub struct ListAt {
     pub n: usize,
     pub v: [Container; 15],

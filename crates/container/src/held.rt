@@ -41,7 +41,7 @@ pub fn held_ok(
 
 // What the places from one on leave to those before it: whether it was as it must be itself, the QoS that follows, the time that must
 // not be passed, and what is left of the limit.
-#[derive(Drop)]
+#[derive(Clone, Copy)]
 struct Run {
     ok: bool,
     after: Qos,

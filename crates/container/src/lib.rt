@@ -6,6 +6,8 @@
 // places of an array after them.
 //
 // No public function has a `requires`: each answers for every input.
+#![tactic(auto)]
+
 pub mod field;
 mod held;
 pub mod list;
@@ -19,7 +21,7 @@ pub mod unused;
 
 // The QoS profile of a context: five numbers, each in its range.
 #[repr(C)]
-#[derive(Drop)]
+#[derive(Clone, Copy)]
 pub struct Qos {
     pub reliability: u8,
     pub delay: u8,
@@ -31,7 +33,7 @@ pub struct Qos {
 // What was counted under one QoS profile: octets up and down, why the container ended (0 a QoS change, 1 a tariff change, 2 the
 // record's closing), and when.
 #[repr(C)]
-#[derive(Drop)]
+#[derive(Clone, Copy)]
 pub struct Container {
     pub qos: Qos,
     pub uplink: u64,
@@ -44,7 +46,7 @@ pub struct Container {
 // since the last container ended, how many QoS and tariff changes there were, and the containers that these ended. Places that are not used
 // are zero.
 #[repr(C)]
-#[derive(Drop)]
+#[derive(Clone, Copy)]
 pub struct OpenRecord {
     pub opening: calendar::Stamp,
     pub qos: Qos,

@@ -7,7 +7,7 @@ use crate::{Container, one};
 use ber::tlv;
 
 // What octets are the list of: n containers at the start of v, and blank ones after. None of them (n = 0) where ok is false.
-#[derive(Drop)]
+#[derive(Clone, Copy)]
 pub struct ListOf {
     pub ok: bool,
     pub n: usize,

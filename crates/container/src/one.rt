@@ -28,7 +28,7 @@ pub fn container_ok(c: Container) -> bool
 }
 
 // What was read, and the place after it: zeros and NOWHERE where it is not there.
-#[derive(Drop)]
+#[derive(Clone, Copy)]
 pub struct ContainerAt {
     pub v: Container,
     pub next: usize,

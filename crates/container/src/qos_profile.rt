@@ -30,7 +30,7 @@ pub fn same_qos(a: Qos, b: Qos) -> bool
 }
 
 // What was read, and the place after it: zeros and NOWHERE where it is not there.
-#[derive(Drop)]
+#[derive(Clone, Copy)]
 pub struct QosAt {
     pub v: Qos,
     pub next: usize,

@@ -11,7 +11,7 @@ use ber::tlv;
 use calendar::{Stamp, StampRead};
 
 // What was read, and the place after it: zeros and NOWHERE where it is not there.
-#[derive(Drop)]
+#[derive(Clone, Copy)]
 pub struct StampAt {
     pub v: Stamp,
     pub next: usize,

@@ -3,6 +3,8 @@
 // slots has the names of the table's slots, sound the test of a slot and of all of them.
 //
 // No public function has a `requires`: each answers for every input.
+#![tactic(auto)]
+
 pub mod slots;
 pub mod sound;
 
@@ -15,7 +17,7 @@ use event::Name;
 // A slot of the node's table. One that is free is zero in every field; octets and container places that are not used are zero.
 // Flags are octets, so that whatever a host hands over is a value.
 #[repr(C)]
-#[derive(Drop)]
+#[derive(Clone, Copy)]
 pub struct Context {
     // 1, or 0 where the slot is free
     pub active: u8,

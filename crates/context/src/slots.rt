@@ -7,14 +7,14 @@ use crate::Context;
 use event::Name;
 
 // What names a slot: its first field is 1 where it is active.
-#[derive(Drop)]
+#[derive(Clone, Copy)]
 pub struct Slot {
     pub active: u8,
     pub name: Name,
 }
 
 // A place of the table.
-#[derive(Drop)]
+#[derive(Clone, Copy)]
 pub enum Found {
     At(usize),
     Nothing,

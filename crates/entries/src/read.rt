@@ -8,7 +8,7 @@ use mcdr::MmRecord;
 use scdr::Record;
 
 // What stands at a place, as the stepper finds it, and what the reader of its kind answers of the record there.
-#[derive(Drop)]
+#[derive(Clone, Copy)]
 pub struct ReadEntry {
     pub entry: Entry,
     // 0, or 20 where no entry was found, or one whose octets are no record within the rules

@@ -9,7 +9,7 @@ use container::qos_profile;
 
 // What the table says of an event's octets, whatever they are: that a kind has their number, how long such an event is as a whole, whether its
 // fields are in range, and what it says.
-#[derive(Drop)]
+#[derive(Clone, Copy)]
 pub struct Entry {
     pub known: bool,
     pub whole: usize,

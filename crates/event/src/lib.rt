@@ -6,6 +6,8 @@
 // function.
 //
 // No public function has a `requires`: each answers for every input.
+#![tactic(auto)]
+
 mod fields;
 pub mod framing;
 mod kinds;
@@ -16,14 +18,14 @@ ghost use Rattle.event.specs.Event.{decoded};
 
 // The name of a context.
 #[repr(C)]
-#[derive(Drop)]
+#[derive(Clone, Copy)]
 pub struct Name {
     pub id: u32,
     pub ggsn: u32,
 }
 
 // What an activate says. The IMSI is octets 16 to 23 of the event, and the access point name its octets from 37 on.
-#[derive(Drop)]
+#[derive(Clone, Copy)]
 pub struct Activation {
     pub name: Name,
     // initiated by the network
@@ -39,14 +41,14 @@ pub struct Activation {
 }
 
 // What a replacement of a set of limits says: the set's number, its edition from now on, and its limits.
-#[derive(Drop)]
+#[derive(Clone, Copy)]
 pub struct Replacement {
     pub set: u8,
     pub edition: u16,
     pub limits: limits::Limits,
 }
 
-#[derive(Drop)]
+#[derive(Clone, Copy)]
 pub enum Event {
     Activate(Activation),
     // octets up and down
@@ -71,7 +73,7 @@ pub enum Event {
 }
 
 // The time and the event, or the number of the first refusal that fits.
-#[derive(Drop)]
+#[derive(Clone, Copy)]
 pub enum Decoded {
     Said(u32, Event),
     Refused(u8),

@@ -17,3 +17,5 @@
 // and for its code Scans, Ranges, Slots and Heards: loops over the slots, some of them one after another, what is free and filled,
 // and what the table does).
 // Sample shows how a node takes all this.
+
+#![tactic(auto)]

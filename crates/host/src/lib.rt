@@ -1,5 +1,7 @@
 // The host's call: the node where it lies, for firmware in C (include/charging.h). Each function calls a by-value one and stores what it
 // hands back, so it answers the same.
+#![tactic(auto)]
+
 ghost use Rattle.node.specs.Step.{Steps};
 ghost use Rattle.node.specs.Batch.{name_with, Batches};
 ghost use Rattle.host.specs.Begin.{Begins};
@@ -8,7 +10,7 @@ use node::Node;
 
 // What is answered beside the node: 0 or the number of a refusal, and how many octets were written.
 #[repr(C)]
-#[derive(Drop)]
+#[derive(Clone, Copy)]
 pub struct Answer {
     pub answer: u8,
     pub written: usize,
@@ -29,7 +31,7 @@ pub extern "C" fn charging_step(node: &mut Node, event: &[u8], out: &mut [u8]) -
 
 // What is answered beside the node: 0, or the number of a refusal; how many pairs were applied, and how many octets these wrote.
 #[repr(C)]
-#[derive(Drop)]
+#[derive(Clone, Copy)]
 pub struct BatchAnswer {
     pub answer: u8,
     pub applied: usize,
@@ -60,14 +62,14 @@ pub extern "C" fn charging_batch(
 
 // What is answered beside the node: 0 or 12, and with 12 the line of the text that does not read, or 0 where a value is out of range.
 #[repr(C)]
-#[derive(Drop)]
+#[derive(Clone, Copy)]
 pub struct Start {
     pub answer: u8,
     pub line: u8,
 }
 
 // A node made of a profile's text, by value.
-#[derive(Drop)]
+#[derive(Clone, Copy)]
 pub struct Begun {
     pub answer: u8,
     pub node: Node,

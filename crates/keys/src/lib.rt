@@ -2,19 +2,21 @@
 // subscriber's IMSI spells. (The names of contexts are two numbers, and stand in `context`.)
 //
 // No public function has a `requires`: each answers for every input.
+#![tactic(auto)]
+
 ghost use Rattle.std.specs.Prelude.{◌≡◌};
 ghost use Rattle.keys.specs.Slots.{is_free, bears, first_from, distinct};
 ghost use Rattle.keys.specs.Private.Clash.{clash};
 
 // What names a slot: its first field is 1 where it is active.
-#[derive(Drop)]
+#[derive(Clone, Copy)]
 pub struct Slot {
     pub active: u8,
     pub key: u64,
 }
 
 // A place of the table.
-#[derive(Drop)]
+#[derive(Clone, Copy)]
 pub enum Found {
     At(usize),
     Nothing,

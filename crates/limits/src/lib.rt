@@ -3,6 +3,8 @@
 // sets has the sets: their numbers, their editions, what is in force, and one that is replaced.
 //
 // No public function has a `requires`: each answers for every input.
+#![tactic(auto)]
+
 pub mod sets;
 
 ghost use Rattle.std.specs.Prelude.{◌≡◌};
@@ -10,7 +12,7 @@ ghost use Rattle.limits.specs.Limits.{limits_ok, no_limits, blank_limits};
 
 // Octets counted, seconds open, changes of QoS and tariff.
 #[repr(C)]
-#[derive(Drop)]
+#[derive(Clone, Copy)]
 pub struct Limits {
     pub volume: u64,
     pub seconds: u32,
@@ -19,7 +21,7 @@ pub struct Limits {
 
 // A set of limits as a node has it: its limits, and their edition, which is 0 where the set is not used.
 #[repr(C)]
-#[derive(Drop)]
+#[derive(Clone, Copy)]
 pub struct LimitSet {
     pub edition: u16,
     pub limits: Limits,

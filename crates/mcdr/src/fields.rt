@@ -7,7 +7,7 @@ use ber::{address, count, field, fixed, imsi, text, word};
 use container::stamp;
 
 // A record as its fields say it; ok where all fields were read to the end.
-#[derive(Drop)]
+#[derive(Clone, Copy)]
 pub struct Wire {
     pub cdr: MmRecord,
     pub ok: bool,

@@ -4,6 +4,8 @@
 // record within the rules, write and read its octets.
 //
 // No public function has a `requires`: each answers for every input.
+#![tactic(auto)]
+
 mod body;
 pub mod changes;
 pub mod closing;
@@ -21,7 +23,7 @@ use calendar::Stamp;
 
 // A place: the codes of a location area and of a routing area in it. Any are.
 #[repr(C)]
-#[derive(Drop)]
+#[derive(Clone, Copy)]
 pub struct Place {
     pub lac: u16,
     pub rac: u8,
@@ -29,14 +31,14 @@ pub struct Place {
 
 // A location change: the place that the subscriber moved to, and when.
 #[repr(C)]
-#[derive(Drop)]
+#[derive(Clone, Copy)]
 pub struct Change {
     pub place: Place,
     pub time: Stamp,
 }
 
 // A record, by value. Octets and changes that are not used are zero.
-#[derive(Drop)]
+#[derive(Clone, Copy)]
 pub struct MmRecord {
     // as an event has it: low half first, later halves F
     pub imsi: [u8; 8],

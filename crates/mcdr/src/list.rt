@@ -8,7 +8,7 @@ use crate::{Change, changes, one};
 use ber::{NOWHERE, place, tlv};
 
 // The changes, how many, and the place after them: none and NOWHERE where what stands under the tag is no list.
-#[derive(Drop)]
+#[derive(Clone, Copy)]
 pub struct ListAt {
     pub n: usize,
     pub v: [Change; 15],
@@ -50,7 +50,7 @@ fn nothing(next: usize) -> ListAt
 }
 
 // What octets are the list of: n changes at the start of v, and blank ones after. None of them (n = 0) where ok is false.
-#[derive(Drop)]
+#[derive(Clone, Copy)]
 struct ListOf {
     ok: bool,
     n: usize,

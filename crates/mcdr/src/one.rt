@@ -14,7 +14,7 @@ use ber::{field, fixed, tlv};
 use container::stamp;
 
 // What was read, and the place after it: zeros and NOWHERE where it is not there.
-#[derive(Drop)]
+#[derive(Clone, Copy)]
 pub struct ChangeAt {
     pub v: Change,
     pub next: usize,

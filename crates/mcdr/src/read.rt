@@ -6,7 +6,7 @@ use crate::{MmRecord, Place, changes, fields, rules, tags};
 use ber::tlv;
 
 // 0 and the record, or 20 and a record that is all zero.
-#[derive(Drop)]
+#[derive(Clone, Copy)]
 pub struct Read {
     pub answer: u8,
     pub cdr: MmRecord,

@@ -11,7 +11,7 @@ use context::slots::{Found, Slot};
 use event::Name;
 
 // The answer, how many pairs were applied, the node, and how many octets were written.
-#[derive(Drop)]
+#[derive(Clone, Copy)]
 pub struct Batched {
     pub answer: u8,
     pub applied: usize,
@@ -20,7 +20,7 @@ pub struct Batched {
 }
 
 // What a list of so many numbers is to do, by the names of the slots.
-#[derive(Drop)]
+#[derive(Clone, Copy)]
 pub enum Reports {
     // the number of a refusal, before any pair is applied
     Refuse(u8),

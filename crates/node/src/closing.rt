@@ -9,7 +9,7 @@ use crate::Message;
 use container::{OpenRecord, Qos, open, qos_profile as qos};
 
 // A condition or a cause, if there is one.
-#[derive(Drop)]
+#[derive(Clone, Copy)]
 pub enum Perhaps {
     Is(u8),
     Nothing,

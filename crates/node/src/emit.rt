@@ -15,7 +15,7 @@ use profile::Profile;
 use scdr::{Record, write};
 
 // What stands in a slot, and the place after what was written.
-#[derive(Drop)]
+#[derive(Clone, Copy)]
 pub struct SlotAfter {
     pub context: Context,
     pub at: usize,
@@ -111,7 +111,7 @@ pub fn hear_slot(
 
 // What comes of a slot that hears something alone: 0, what then stands in it, and how many octets it wrote; or 11 where there is no room,
 // the same context, and 0.
-#[derive(Drop)]
+#[derive(Clone, Copy)]
 pub struct Tried {
     pub answer: u8,
     pub context: Context,

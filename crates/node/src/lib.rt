@@ -6,6 +6,8 @@
 // how the slots hear one after another. batch takes a list of reports: pairs runs it on one context, closed closes its full records.
 //
 // No public function has a `requires`: each answers for every input.
+#![tactic(auto)]
+
 pub mod batch;
 mod closed;
 mod closing;
@@ -26,7 +28,7 @@ use subscriber::Subscriber;
 
 // What events set, and is in force now: the sets of limits. How many of them are used the profile says.
 #[repr(C)]
-#[derive(Drop)]
+#[derive(Clone, Copy)]
 pub struct Settings {
     pub sets: [LimitSet; 8],
 }
@@ -34,7 +36,7 @@ pub struct Settings {
 // The whole node. Once it is handed back, nothing of it is kept anywhere else. The profile is the one that it was set up with: no event
 // changes it.
 #[repr(C)]
-#[derive(Drop)]
+#[derive(Clone, Copy)]
 pub struct Node {
     pub profile: Profile,
     pub settings: Settings,
@@ -47,7 +49,7 @@ pub struct Node {
 }
 
 // What an event is to a context that hears it. What it is not is false, or zero.
-#[derive(Drop)]
+#[derive(Clone, Copy)]
 pub struct Message {
     // a report, of octets up and down: the volume limit is looked at after it
     pub counts: bool,

@@ -9,7 +9,7 @@ use mcdr::Place;
 use subscriber::Notice;
 
 // An activation opens a context; any other event of kinds 2 to 7 is told to the context of a name, or to all.
-#[derive(Drop)]
+#[derive(Clone, Copy)]
 pub enum Meaning {
     Opens(Activation),
     Tells(Name, Message),

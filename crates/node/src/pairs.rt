@@ -11,7 +11,7 @@ use context::Context;
 use profile::Profile;
 
 // What comes of them: 0, or the number that stopped them; how many pairs were applied; the context then, and how many octets these wrote.
-#[derive(Drop)]
+#[derive(Clone, Copy)]
 pub struct Told {
     pub answer: u8,
     pub applied: usize,

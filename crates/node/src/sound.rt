@@ -89,7 +89,7 @@ pub fn no_node() -> Node
 }
 
 // 0 and a node, or 12 and one that is all zero.
-#[derive(Drop)]
+#[derive(Clone, Copy)]
 pub struct Made {
     pub answer: u8,
     pub node: Node,

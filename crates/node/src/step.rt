@@ -24,7 +24,7 @@ use subscriber::tell::Told;
 use subscriber::{hear, tell};
 
 // The answer, the node, and how many octets were written.
-#[derive(Drop)]
+#[derive(Clone, Copy)]
 pub struct Stepped {
     pub answer: u8,
     pub node: Node,

@@ -9,7 +9,7 @@ use context::Context;
 use profile::Profile;
 
 // The table after it, and the place after what was written.
-#[derive(Drop)]
+#[derive(Clone, Copy)]
 pub struct TableAfter {
     pub contexts: [Context; 16],
     pub at: usize,

@@ -16,7 +16,7 @@ use limits::sets;
 use mcdr::Place;
 use subscriber::Notice;
 
-#[derive(Drop)]
+#[derive(Clone, Copy)]
 pub enum Task {
     // the number of a refusal
     Refuse(u8),

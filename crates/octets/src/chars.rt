@@ -3,7 +3,7 @@ ghost use Rattle.std.specs.Prelude.{◌≡◌};
 ghost use Rattle.octets.specs.Chars.{all_of, char_of, is_zero, lower};
 
 // Which characters a text may have.
-#[derive(Drop)]
+#[derive(Clone, Copy)]
 pub enum Class {
     // of an access point name in a record or a node: no capitals
     Apn,

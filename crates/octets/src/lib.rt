@@ -4,6 +4,8 @@
 // chars has the characters of a text, names what is stored of one in an array.
 //
 // No public function has a `requires`: each answers for every input.
+#![tactic(auto)]
+
 pub mod chars;
 pub mod names;
 

@@ -9,7 +9,7 @@ use crate::chars;
 use crate::chars::Class;
 
 // An access point name as it is stored: n octets of it, and zeros after them. What is no name has none, and n 0.
-#[derive(Drop)]
+#[derive(Clone, Copy)]
 pub struct Checked {
     pub apn: [u8; 63],
     pub n: usize,

@@ -18,3 +18,5 @@
 // (the octets read back), Serving (calls serve the table), Five (the closing conditions one by one), Closings (no two of them), EachCall
 // (a call of one event), Once (the theorem), Billed (containers, octets and durations under a name), Activations (each activation, by
 // `each-activation-once`), Session (01's session, by the definitions and by the node).
+
+#![tactic(auto)]

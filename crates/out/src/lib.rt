@@ -3,6 +3,8 @@
 // No contract can say what is written: of one character it says what waits then, as the write went; each other function that puts
 // something is proved safe and ending. It puts it behind the characters that wait, and answers how many wait then: 4097 once a write has
 // failed.
+#![tactic(auto)]
+
 ghost use Rattle.out.specs.Put.{PutsOne};
 
 use libc::STDOUT_FILENO;

@@ -5,7 +5,7 @@ ghost use Rattle.profile.specs.Fault.{is_none, unless, first};
 use crate::text::Fault;
 
 // A line's number and what is wrong there; 0 where no line is bad.
-#[derive(Drop)]
+#[derive(Clone, Copy)]
 pub struct Bad {
     pub line: u8,
     pub fault: Fault,

@@ -4,6 +4,8 @@
 // one line, three, number, address and offset are its values, fault is what can be wrong, and cut the octets up to a mark and past it.
 //
 // No public function has a `requires`: each answers for every input.
+#![tactic(auto)]
+
 pub mod address;
 mod cut;
 mod fault;
@@ -23,7 +25,7 @@ use octets::names;
 // The address of the node, the sets of limits that it is given, numbered from 1 (how many there are is sets, and the unused ones are zero), its
 // offset from universal time (in minutes, plus 720), and its name, whose unused octets are zero.
 #[repr(C)]
-#[derive(Drop)]
+#[derive(Clone, Copy)]
 pub struct Profile {
     pub sgsn: u32,
     pub limits: [Limits; 8],

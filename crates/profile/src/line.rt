@@ -6,7 +6,7 @@ use crate::text::Fault;
 use crate::{address, cut, fault, offset, three};
 
 // The kind of a line's value.
-#[derive(Drop)]
+#[derive(Clone, Copy)]
 pub enum Kind {
     // four numbers with dots between them
     Dotted,

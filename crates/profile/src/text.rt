@@ -10,7 +10,7 @@ use crate::line::Kind;
 use crate::{Profile, address, cut, fault, line, offset, sets};
 
 // What is wrong with a line.
-#[derive(Drop)]
+#[derive(Clone, Copy)]
 pub enum Fault {
     // nothing
     None,
@@ -33,7 +33,7 @@ pub enum Fault {
 }
 
 // A profile; or the first bad line, 1 to 12, and what is wrong there, with a profile that is all zero.
-#[derive(Drop)]
+#[derive(Clone, Copy)]
 pub struct Read {
     pub line: u8,
     pub fault: Fault,

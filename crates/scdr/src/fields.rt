@@ -7,7 +7,7 @@ use ber::{address, count, field, fixed, flag, imsi, text, word};
 use container::{field as containers, stamp};
 
 // A record as its fields say it, with the duration beside; ok where all fields were read to the end.
-#[derive(Drop)]
+#[derive(Clone, Copy)]
 pub struct Wire {
     pub cdr: Record,
     pub lasts: u64,

@@ -1,4 +1,6 @@
 // The S-CDR of 12.15 (SGSNPDPRecord): the record, its rules, its octets.
+#![tactic(auto)]
+
 mod body;
 pub mod closing;
 mod duration;
@@ -13,7 +15,7 @@ use calendar::Stamp;
 use container::Container;
 
 // A record, by value. Octets and container places that are not used are zero.
-#[derive(Drop)]
+#[derive(Clone, Copy)]
 pub struct Record {
     // initiated by the network
     pub network: bool,

@@ -9,7 +9,7 @@ use crate::{Record, duration, fields, rules, tags};
 use ber::tlv;
 
 // 0 and the record, or 20 and a record that is all zero.
-#[derive(Drop)]
+#[derive(Clone, Copy)]
 pub struct Read {
     pub answer: u8,
     pub cdr: Record,
@@ -38,7 +38,7 @@ pub fn apn_part(s: &[u8]) -> &[u8]
 }
 
 // What is read of a record: the answer, the record, and where its access point name lies.
-#[derive(Drop)]
+#[derive(Clone, Copy)]
 struct Whole {
     answer: u8,
     cdr: Record,

@@ -6,7 +6,7 @@ use crate::{Record, body, rules, tags};
 use ber::tlv;
 
 // 0 where the record was written, and how many octets it has; 24 or 11, and 0, where it was not.
-#[derive(Drop)]
+#[derive(Clone, Copy)]
 pub struct Written {
     pub answer: u8,
     pub n: usize,

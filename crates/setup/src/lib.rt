@@ -2,6 +2,8 @@
 // standard error, after the command's name.
 //
 // No contract can say what is read or written: each function that does so is proved safe and ending.
+#![tactic(auto)]
+
 ghost use Rattle.std.specs.Prelude.{◌≡◌};
 ghost use Rattle.node.specs.Sound.{fresh_of};
 
@@ -141,7 +143,7 @@ pub fn profile_of_file(command: &[u8]) -> Profile {
 }
 
 // How a command on a file starts: the profile, and a descriptor of the file; -1 after standard error has said what is wrong.
-#[derive(Drop)]
+#[derive(Clone, Copy)]
 pub struct Begun {
     pub profile: Profile,
     pub fd: i32,

@@ -5,6 +5,8 @@
 // An S-CDR is put by put_record below (parts has its forms, rows its containers), an M-CDR by mm::put_record (moves has its location changes).
 //
 // It only puts characters on their way to standard output, and no contract can say what is written: each function is proved safe and ending.
+#![tactic(auto)]
+
 pub mod mm;
 mod moves;
 mod numbers;

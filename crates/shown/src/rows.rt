@@ -4,7 +4,7 @@ use container::Container;
 use std::num::wrapping_add_u64;
 
 // What was put of a list of containers: how many characters wait, and the sums so far. Fifteen volumes below 2^40 never wrap.
-#[derive(Drop)]
+#[derive(Clone, Copy)]
 pub struct Rows {
     pub waiting: usize,
     pub up: u64,

@@ -5,6 +5,8 @@
 // of what is heard.
 //
 // No public function has a `requires`: each answers for every input.
+#![tactic(auto)]
+
 pub mod hear;
 mod marked;
 pub mod name;
@@ -21,7 +23,7 @@ use mcdr::{Change, Place, changes};
 // A slot of the node's table. One that is free is zero in every field; changes that are not used are zero. The flag is an octet, so that
 // whatever a host hands over is a value.
 #[repr(C)]
-#[derive(Drop)]
+#[derive(Clone, Copy)]
 pub struct Subscriber {
     // 1, or 0 where the slot is free
     pub active: u8,
@@ -38,7 +40,7 @@ pub struct Subscriber {
 }
 
 // What a subscriber hears.
-#[derive(Drop)]
+#[derive(Clone, Copy)]
 pub enum Notice {
     // it is at this place now
     Moved(Place),

@@ -4,7 +4,7 @@ ghost use Rattle.subscriber.specs.Private.Marked.{Marks};
 use mcdr::{MmRecord, rules, write};
 
 // 0, and how many octets were written; 13 for a record outside the rules, then 11 where there is no room, and 0.
-#[derive(Drop)]
+#[derive(Clone, Copy)]
 pub struct Marked {
     pub answer: u8,
     pub n: usize,

@@ -9,7 +9,7 @@ use mcdr::{MmRecord, Place, places};
 use profile::Profile;
 
 // 0, what stands in the slot and how many octets were written; or 11 or 13, the same subscriber, and 0.
-#[derive(Drop)]
+#[derive(Clone, Copy)]
 pub struct Told {
     pub answer: u8,
     pub subscriber: Subscriber,

@@ -4,13 +4,15 @@
 // fields before them. Containers stay unread, and an M-CDR is stepped past: under 8A it has a duration.
 //
 // count.rt counts, look.rt takes one step, say.rt looks at a record, seek.rt goes from field to field.
+#![tactic(auto)]
+
 pub mod count;
 mod look;
 mod say;
 mod seek;
 
 // What does not fit where a step lands: 21, but for the first.
-#[derive(Drop)]
+#[derive(Clone, Copy)]
 pub enum Fault {
     // all fits
     None,
@@ -25,7 +27,7 @@ pub enum Fault {
 }
 
 // What was counted.
-#[derive(Drop)]
+#[derive(Clone, Copy)]
 pub struct Tally {
     pub fault: Fault,
     // how many octets were stepped over; after a fault, how many lie before what does not fit

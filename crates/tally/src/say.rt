@@ -6,7 +6,7 @@ ghost use Rattle.tally.specs.Private.Places.{said_in};
 use crate::seek;
 use ber::{NOWHERE, address, count, word};
 
-#[derive(Drop)]
+#[derive(Clone, Copy)]
 pub enum Said {
     // it is of another name
     Other,

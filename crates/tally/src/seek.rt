@@ -7,7 +7,7 @@ use ber::tlv;
 
 // A place among fields: of the first with a tag, or the end where none has it; and whether all lengths up to there fit. Where one does not,
 // it is the place of that field.
-#[derive(Drop)]
+#[derive(Clone, Copy)]
 pub struct Sought {
     pub at: usize,
     pub fits: bool,

@@ -13,6 +13,8 @@
 //
 // A form is written in one of three styles of `out`: TEXT for people, with numbers in columns; JSON, with numbers as they are and names with
 // escapes; PLAIN, with each value in octets of a fixed number.
+#![tactic(auto)]
+
 ghost use Rattle.std.specs.Prelude.{◌≡◌};
 ghost use Rattle.template.specs.Numbers.{four_of};
 
@@ -21,7 +23,7 @@ use out::{APART, DIGITS, JSON, PLAIN, TEXT, put, put_all, put_one, put_right};
 use std::num::wrapping_sub_u64;
 
 // How far a form has been written: how many characters wait; whether a `%` came last; how many `%;` are to come until characters stand.
-#[derive(Drop)]
+#[derive(Clone, Copy)]
 struct Fill {
     waiting: usize,
     code: bool,

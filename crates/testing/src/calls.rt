@@ -17,7 +17,7 @@ use window::Place;
 
 // Where the next call lies, and its number, from 1; whether it lies whole in the window, whether it is a list of reports, and its room and the
 // length of what it holds then, else 0; and whether to go on. (The node is kept apart: what holds it is slow to prove.)
-#[derive(Drop)]
+#[derive(Clone, Copy)]
 struct State {
     place: Place,
     number: u64,
@@ -138,7 +138,7 @@ fn event_of(p: Place, length: usize, held: &[u8; 4096]) -> &[u8] {
 }
 
 // What a call of either kind hands back; an event counts as no pair.
-#[derive(Drop)]
+#[derive(Clone, Copy)]
 struct Called {
     answer: u8,
     applied: usize,

@@ -10,6 +10,8 @@
 //                                                the file BLOCKS, then 01's bench table (table.rt), then what `counts` makes of the file CASES
 //
 // No contract can say what is read or written: each function is proved safe and ending.
+#![tactic(auto)]
+
 mod calls;
 mod counts;
 mod dates;

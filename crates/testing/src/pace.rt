@@ -83,7 +83,7 @@ fn read_records(s: &[u8]) -> u64 {
 }
 
 // The first records of a list, as many as the array has.
-#[derive(Drop)]
+#[derive(Clone, Copy)]
 struct Kept {
     n: usize,
     records: [Record; 64],

@@ -10,7 +10,7 @@ use profile::Profile;
 use std::num::wrapping_add_u64;
 
 // How often the last event was run, and how many octets all of them wrote.
-#[derive(Drop)]
+#[derive(Clone, Copy)]
 struct Ran {
     last: u64,
     sum: u64,

@@ -1,6 +1,8 @@
 // A file seen through a window: octets that are held, of which some are left to look at, and more read behind them.
 //
 // What lies there is for the program to say. `fill` reads, so no contract can say what comes behind what was left.
+#![tactic(auto)]
+
 ghost use Rattle.std.specs.Prelude.{◌≡◌, ◌+◌, ◌-◌, ◌%◌, ◌^◌};
 ghost use Rattle.window.specs.Moved.{Moves};
 ghost use Rattle.window.specs.Fill.{Fills};
@@ -9,7 +11,7 @@ ghost use Rattle.window.specs.Private.Again.{again_of};
 use std::num::{wrapping_add_u64, wrapping_add_usize};
 
 // Where the next thing lies: in the window from `at` on, where octets of the file stand up to `end`; in the file after `offset` octets.
-#[derive(Drop)]
+#[derive(Clone, Copy)]
 pub struct Place {
     pub at: usize,
     pub end: usize,
@@ -25,7 +27,7 @@ pub const START: Place = Place {
 
 // A place in the window after a read, and what the read answered: how many octets came, 0 at the end of the file, less than 0 where it
 // failed.
-#[derive(Drop)]
+#[derive(Clone, Copy)]
 pub struct Filled {
     pub place: Place,
     pub got: isize,

@@ -8,7 +8,7 @@ use std::num::wrapping_add_usize;
 // What stands for a length where a list follows.
 pub const LIST: usize = 65535;
 
-#[derive(Drop)]
+#[derive(Clone, Copy)]
 pub struct List {
     t: u32,
     id: u32,

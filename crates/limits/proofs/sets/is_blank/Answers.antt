@@ -1,0 +1,8 @@
+-- `limits::sets::is_blank` meets its contract.
+use borrow.Author.Rules.{rules}
+use Rattle.limits.specs.Sets.{blank_set}
+use Rattle.limits.proofs.sets.is_blank.Goals as goal
+
+pub returns : goal.returns
+unfolding blank_set
+returns c = rw c.is_blank-a.ensures

@@ -1,0 +1,8 @@
+-- `limits::sets::limits_of` meets its contract.
+use borrow.Author.Rules.{rules}
+use Rattle.limits.specs.Sets.{limits_of}
+use Rattle.limits.proofs.sets.limits_of.Goals as goal
+
+pub returns : goal.returns
+unfolding limits_of
+returns c = rw c.set_at-s.ensures

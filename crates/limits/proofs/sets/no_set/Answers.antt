@@ -1,0 +1,6 @@
+-- `limits::sets::no_set` meets its contract.
+use borrow.Author.Rules.{rules}
+use Rattle.limits.proofs.sets.no_set.Goals as goal
+
+pub returns : goal.returns
+returns c = rw c.no_limits-limits.ensures

@@ -1,0 +1,12 @@
+-- `octets::front` meets its contract.
+use mathlib.Core.Path.{sym}
+use native.Mathlib.Omega.{arith}
+use lib.Seq.{length-take-le, take_all}
+use borrow.Author.Rules.{rules}
+use Rattle.octets.proofs.front.Goals as goal
+
+pub slice_bounds-result-end : goal.slice_bounds-result-end
+slice_bounds-result-end c = sym (length-take-le c.args.n c.args.s.now (omega arith))
+
+pub returns : goal.returns
+returns c = sym (take_all c.args.n c.args.s.now c.if-n-s.false)
