@@ -1,7 +1,6 @@
 -- `ber::address::address_in_at` meets its contract: one value is all of the contents, or not.
 use mathlib.Core.Path.{refl}
 use native.Mathlib.Omega.{arith}
-use borrow.Author.Rules.{rules}
 use Rattle.ber.specs.Fixed.{ipv4}
 use Rattle.ber.proofs.Places.{lies_fits}
 use Rattle.ber.specs.Tlv.{tlv_dec}

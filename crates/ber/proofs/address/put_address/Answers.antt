@@ -1,5 +1,4 @@
 -- `ber::address::put_address` meets its contract: the eight octets are the value.
-use borrow.Author.Rules.{rules}
 use Rattle.ber.specs.Int.{lowest}
 use Rattle.ber.specs.Tlv.{tlv_enc}
 use Rattle.ber.specs.Length.{len_enc}

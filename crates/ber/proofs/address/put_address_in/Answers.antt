@@ -1,7 +1,6 @@
 -- `ber::address::put_address_in` meets its contract: the address under A0 fills the array, which is put under the tag.
 use mathlib.Core.Path.{◌∙◌, ap, refl}
 use native.Mathlib.Omega.{arith}
-use borrow.Author.Rules.{rules}
 use Rattle.ber.specs.Int.{lowest}
 use Rattle.ber.specs.Tlv.{tlv_enc, tlv_form}
 use Rattle.ber.specs.Length.{len_enc}

@@ -2,7 +2,6 @@
 use mathlib.Core.Path.{◌∙◌, sym, refl}
 use native.Mathlib.Omega.{arith}
 use lib.Dec.{leb}
-use borrow.Author.Rules.{rules}
 use borrow.Author.Tests.{le-leb, lt-leb}
 use Rattle.ber.specs.Int.{int, counted}
 use Rattle.ber.proofs.Readers.{first_leaves, reads_blank, test_no, test_yes, maybe_none, maybe_lost, maybe_found}

@@ -1,5 +1,4 @@
 -- `ber::count::put_count` meets its contract: the number under the tag, or nothing.
-use borrow.Author.Rules.{rules}
 use Rattle.ber.proofs.Counts.{unless_zero}
 use Rattle.ber.proofs.Writers.{puts_nothing}
 use Rattle.ber.proofs.count.put_count.Goals as goal

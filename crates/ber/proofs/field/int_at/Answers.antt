@@ -1,7 +1,6 @@
 -- `ber::field::int_at` meets its contract: the contents are a number's, or not.
 use mathlib.Core.Path.{refl, sym, ◌∙◌}
 use native.Mathlib.Omega.{arith}
-use borrow.Author.Rules.{rules}
 use Rattle.ber.specs.Int.{shortest, int}
 use Rattle.ber.proofs.Places.{lies_fits}
 use Rattle.ber.proofs.Readers.{under_none, under_absent, under_some, number_none, number_some}

@@ -2,7 +2,6 @@
 use mathlib.Core.Path.{refl}
 use mathlib.Core.Bool.{true}
 use native.Mathlib.Omega.{arith}
-use borrow.Author.Rules.{rules}
 use Rattle.format.specs.Format.{octet}
 use Rattle.ber.specs.Read.{cut}
 use Rattle.ber.proofs.Places.{lies_fits}

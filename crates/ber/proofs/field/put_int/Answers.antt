@@ -3,7 +3,6 @@
 use mathlib.Core.Path.{sym, ap}
 use native.Mathlib.Omega.{arith}
 use lib.ListN.{length}
-use borrow.Author.Rules.{rules}
 use Rattle.ber.specs.Int.{lowest}
 use Rattle.ber.proofs.Numbers.{lowest_length, lowest_value}
 use Rattle.ber.proofs.Writers.{puts, puts_full, puts_room, put_is, put_room, put_after}

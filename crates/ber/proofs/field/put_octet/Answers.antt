@@ -1,5 +1,4 @@
 -- `ber::field::put_octet` meets its contract: tag, length 1 and the octet are the value.
-use borrow.Author.Rules.{rules}
 use Rattle.ber.specs.Tlv.{tlv_enc}
 use Rattle.ber.specs.Length.{len_enc}
 use Rattle.ber.proofs.field.put_octet.Goals as goal

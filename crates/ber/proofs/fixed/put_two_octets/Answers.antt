@@ -1,5 +1,4 @@
 -- `ber::fixed::put_two_octets` meets its contract: tag, length 2 and the two octets are the value.
-use borrow.Author.Rules.{rules}
 use Rattle.ber.specs.Int.{lowest}
 use Rattle.ber.specs.Tlv.{tlv_enc}
 use Rattle.ber.specs.Length.{len_enc}

@@ -2,7 +2,6 @@
 use mathlib.Core.Path.{◌∙◌, sym}
 use mathlib.Core.List.{[], ◌∷◌}
 use native.Mathlib.Omega.{arith}
-use borrow.Author.Rules.{rules}
 use Rattle.format.specs.Format.{exactly}
 use Rattle.ber.proofs.Readers.{maybe_none, maybe_lost, maybe_found, flag_reads}
 use Rattle.ber.proofs.flag.flag_at.Goals as goal

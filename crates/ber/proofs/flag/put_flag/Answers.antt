@@ -1,5 +1,4 @@
 -- `ber::flag::put_flag` meets its contract: FF under the tag, or nothing.
-use borrow.Author.Rules.{rules}
 use Rattle.ber.proofs.Writers.{puts_nothing}
 use Rattle.ber.proofs.flag.put_flag.Goals as goal
 

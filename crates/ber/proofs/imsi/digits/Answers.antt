@@ -1,10 +1,7 @@
 -- `ber::imsi::digits` meets its contract: the halves passed and the digits from there on make the whole.
-use mathlib.Core.Path.{◌≡◌, sym, ◌∙◌}
-use Prim.Native.Nat.{◌+◌, ◌-◌, ◌≤◌}
+use mathlib.Core.Path.{sym, ◌∙◌}
 use native.Mathlib.Omega.{arith}
-use lib.ListN.{drop}
-use borrow.Author.Rules.{rules}
-use Rattle.ber.specs.Imsi.{halves, leading}
+use Rattle.ber.specs.Imsi.{halves}
 use Rattle.ber.proofs.Imsis.{halves_length, leading_stop, leading_more, leading_end}
 use Rattle.ber.proofs.imsi.digits.Goals as goal
 

@@ -1,11 +1,8 @@
 -- `ber::imsi::digits` meets its contract: the halves passed and the digits from there on make the whole.
-use mathlib.Core.Path.{◌≡◌, sym, ◌∙◌}
+use mathlib.Core.Path.{◌≡◌}
 use Prim.Native.Nat.{◌+◌, ◌-◌, ◌≤◌}
-use native.Mathlib.Omega.{arith}
 use lib.ListN.{drop}
-use borrow.Author.Rules.{rules}
 use Rattle.ber.specs.Imsi.{halves, leading}
-use Rattle.ber.proofs.Imsis.{halves_length, leading_stop, leading_more, leading_end}
 use Rattle.ber.proofs.imsi.digits.Given as goal
 
 abbrev pub invariant-loop-i : goal.invariant-loop-i

@@ -1,10 +1,7 @@
 -- `ber::imsi::filled` meets its contract: what is left to look at decides.
-use mathlib.Core.Path.{◌≡◌, refl, sym, ◌∙◌}
-use Prim.Native.Nat.{◌-◌, ◌≤◌}
+use mathlib.Core.Path.{refl, sym, ◌∙◌}
 use native.Mathlib.Omega.{arith}
-use lib.ListN.{drop}
-use borrow.Author.Rules.{rules}
-use Rattle.ber.specs.Imsi.{halves, all_f}
+use Rattle.ber.specs.Imsi.{halves}
 use Rattle.ber.proofs.Imsis.{halves_length, all_f_stop, all_f_more, all_f_end}
 use Rattle.ber.proofs.imsi.filled.Goals as goal
 

@@ -1,6 +1,5 @@
 -- `ber::imsi::half` meets its contract.
 use native.Mathlib.Omega.{arith}
-use borrow.Author.Rules.{rules}
 use Rattle.ber.proofs.Imsis.{half_low, half_high}
 use Rattle.ber.proofs.imsi.half.Goals as goal
 

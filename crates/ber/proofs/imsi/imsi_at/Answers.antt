@@ -1,7 +1,6 @@
 -- `ber::imsi::imsi_at` meets its contract: a law for each answer.
 use mathlib.Core.Path.{◌∙◌, sym}
 use native.Mathlib.Omega.{arith}
-use borrow.Author.Rules.{rules}
 use Rattle.ber.specs.Imsi.{fill}
 use Rattle.ber.specs.Write.{zeros}
 use Rattle.ber.proofs.Imsis.{imsi_none, imsi_other, imsi_there}

@@ -4,7 +4,6 @@ use mathlib.Core.Bool.{true, false}
 use Prim.Native.Nat.{ℕ, ◌+◌, ◌/◌}
 use native.Mathlib.Omega.{arith}
 use lib.ListN.{drop}
-use borrow.Author.Rules.{rules}
 use Rattle.ber.specs.Imsi.{halves, all_f}
 use Rattle.ber.proofs.Imsis.{room_length, room_few, room_many, room_rest}
 use Rattle.ber.proofs.imsi.imsi_size.Goals as goal

@@ -2,7 +2,6 @@
 use mathlib.Core.Path.{◌∙◌, sym}
 use native.Mathlib.Omega.{arith}
 use lib.Seq.{length-take-le}
-use borrow.Author.Rules.{rules}
 use Rattle.ber.proofs.Writers.{puts_is, puts_none}
 use Rattle.ber.proofs.Imsis.{room_none, room_le, room_form}
 use Rattle.ber.proofs.imsi.put_imsi.Goals as goal

@@ -1,6 +1,5 @@
 -- `ber::int::int_octets` meets its contract: as many of the lowest octets as the number takes are its shortest form.
 use native.Mathlib.Omega.{arith}
-use borrow.Author.Rules.{rules}
 use Rattle.ber.specs.Write.{zeros}
 use Rattle.ber.proofs.Numbers.{lowest_holds}
 use Rattle.ber.proofs.int.int_octets.Goals as goal

@@ -1,7 +1,6 @@
 -- `ber::int::int_value` meets its contract: a law for each answer.
 use mathlib.Core.Path.{◌∙◌, sym}
 use native.Mathlib.Omega.{arith}
-use borrow.Author.Rules.{rules}
 use Rattle.ber.proofs.Numbers.{value_is, value_nine, value_high, value_long, value_not}
 use Rattle.ber.proofs.int.int_value.Goals as goal
 

@@ -1,6 +1,5 @@
 -- `ber::int::is_shortest` meets its contract: a law for each answer.
 use native.Mathlib.Omega.{arith}
-use borrow.Author.Rules.{rules}
 use Rattle.ber.proofs.Numbers.{shortest_none, shortest_sign, shortest_single, shortest_high, shortest_next}
 use Rattle.ber.proofs.int.is_shortest.Goals as goal
 

@@ -1,8 +1,6 @@
 -- `ber::int::width` meets its contract: what is counted and what is left to count make the whole.
-use mathlib.Core.Path.{◌≡◌, refl}
-use Prim.Native.Nat.{◌+◌}
+use mathlib.Core.Path.{refl}
 use native.Mathlib.Omega.{arith}
-use Rattle.ber.specs.Int.{int_width}
 use Rattle.ber.proofs.Numbers.{width_stop, width_go, width_le}
 use Rattle.ber.proofs.int.width.Goals as goal
 

@@ -4,7 +4,6 @@ use mathlib.Core.Option.{Option}
 use mathlib.Core.List.{List}
 use Prim.Native.Nat.{ℕ}
 use native.Mathlib.Omega.{arith}
-use borrow.Author.Rules.{rules}
 use Rattle.ber.specs.Read.{len_at, len_found}
 use Rattle.ber.proofs.Places.{size_is, no_size, len_end, len_short, len_one_lem, len_two_lem, len_other}
 use Rattle.ber.proofs.length.len_at.Goals as goal

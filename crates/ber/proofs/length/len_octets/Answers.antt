@@ -1,5 +1,4 @@
 -- `ber::length::len_octets` meets its contract: a law for each form.
-use borrow.Author.Rules.{rules}
 use Rattle.ber.proofs.Lengths.{holds_1, holds_2, holds_3, holds_0}
 use Rattle.ber.proofs.length.len_octets.Goals as goal
 

@@ -1,6 +1,5 @@
 -- `ber::length::one_at` meets its contract: a law for each answer.
 use native.Mathlib.Omega.{arith}
-use borrow.Author.Rules.{rules}
 use Rattle.ber.proofs.Places.{size_is, no_size, one_end, one_low, one_there}
 use Rattle.ber.proofs.length.one_at.Goals as goal
 

@@ -1,6 +1,5 @@
 -- `ber::length::two_at` meets its contract: a law for each answer.
 use native.Mathlib.Omega.{arith}
-use borrow.Author.Rules.{rules}
 use Rattle.ber.proofs.Places.{size_is, no_size, two_end, two_cut, two_low, two_there}
 use Rattle.ber.proofs.length.two_at.Goals as goal
 

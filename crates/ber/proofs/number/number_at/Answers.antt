@@ -1,7 +1,6 @@
 -- `ber::number::number_at` meets its contract: the contents are so many octets, or not.
 use native.Mathlib.Nat.{one-le-pow}
 use native.Mathlib.Omega.{arith}
-use borrow.Author.Rules.{rules}
 use Rattle.ber.specs.Fixed.{fixed}
 use Rattle.ber.proofs.Places.{lies_fits}
 use Rattle.ber.proofs.Fixeds.{fixed_there, fixed_bad, fixed_hollow}

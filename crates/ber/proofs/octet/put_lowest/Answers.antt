@@ -1,10 +1,7 @@
 -- `ber::octet::put_lowest` meets its contract: what is still to write, and then the buffer from there on, make the whole.
-use mathlib.Core.Path.{◌≡◌, refl, ◌∙◌}
-use mathlib.Core.List.{◌++◌}
-use Prim.Native.Nat.{◌≤◌}
+use mathlib.Core.Path.{refl, ◌∙◌}
 use native.Mathlib.Omega.{arith}
-use lib.ListN.{length, drop, length-set}
-use Rattle.ber.specs.Int.{lowest}
+use lib.ListN.{length-set}
 use Rattle.ber.proofs.Numbers.{lowest_turn, lowest_ends}
 use Rattle.ber.proofs.octet.put_lowest.Goals as goal
 

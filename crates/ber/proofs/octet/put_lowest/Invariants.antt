@@ -1,11 +1,9 @@
 -- `ber::octet::put_lowest` meets its contract: what is still to write, and then the buffer from there on, make the whole.
-use mathlib.Core.Path.{◌≡◌, refl, ◌∙◌}
+use mathlib.Core.Path.{◌≡◌}
 use mathlib.Core.List.{◌++◌}
 use Prim.Native.Nat.{◌≤◌}
-use native.Mathlib.Omega.{arith}
-use lib.ListN.{length, drop, length-set}
+use lib.ListN.{length, drop}
 use Rattle.ber.specs.Int.{lowest}
-use Rattle.ber.proofs.Numbers.{lowest_turn, lowest_ends}
 use Rattle.ber.proofs.octet.put_lowest.Given as goal
 
 abbrev pub invariant-loop-i : goal.invariant-loop-i

@@ -1,6 +1,5 @@
 -- `ber::place::tag_at` meets its contract.
 use native.Mathlib.Omega.{arith}
-use borrow.Author.Rules.{rules}
 use Rattle.ber.proofs.Places.{starts_end, starts_at}
 use Rattle.ber.proofs.place.tag_at.Goals as goal
 

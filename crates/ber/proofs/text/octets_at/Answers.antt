@@ -1,7 +1,6 @@
 -- `ber::text::octets_at` meets its contract: a law for each answer.
 use mathlib.Core.Path.{refl}
 use native.Mathlib.Omega.{arith}
-use borrow.Author.Rules.{rules}
 use Rattle.ber.proofs.Places.{lies_fits}
 use Rattle.ber.proofs.Texts.{octets_short, octets_long, octets_there}
 use Rattle.ber.proofs.text.octets_at.Goals as goal

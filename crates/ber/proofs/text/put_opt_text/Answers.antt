@@ -1,5 +1,4 @@
 -- `ber::text::put_opt_text` meets its contract.
-use borrow.Author.Rules.{rules}
 use Rattle.ber.proofs.Writers.{puts_is, puts_nothing}
 use Rattle.ber.proofs.Texts.{opt_none, opt_some}
 use Rattle.ber.proofs.text.put_opt_text.Goals as goal

@@ -1,7 +1,6 @@
 -- `ber::text::put_text` meets its contract.
 use mathlib.Core.Path.{sym}
 use lib.Seq.{length-take-le}
-use borrow.Author.Rules.{rules}
 use Rattle.ber.proofs.Writers.{puts_is, puts_none}
 use Rattle.ber.proofs.Texts.{text_cut, text_form_lem}
 use Rattle.ber.proofs.text.put_text.Goals as goal

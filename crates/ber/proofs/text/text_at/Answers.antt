@@ -1,6 +1,5 @@
 -- `ber::text::text_at` meets its contract: where the tag is, octets that must be there.
 use mathlib.Core.Path.{◌∙◌, sym}
-use borrow.Author.Rules.{rules}
 use lib.ListN.{length}
 use Rattle.ber.proofs.Texts.{text_copies, text_none}
 use Rattle.ber.proofs.text.text_at.Goals as goal

@@ -1,7 +1,6 @@
 -- `ber::tlv::part_at` meets its contract: a law for each answer.
 use mathlib.Core.Path.{◌∙◌, sym}
 use native.Mathlib.Omega.{arith}
-use borrow.Author.Rules.{rules}
 use Prim.Native.Nat.{◌+◌}
 use Rattle.ber.proofs.Places.{len_none, len_some, lies_there, lies_not, part_end, part_other, part_bare, part_cut, part_there}
 use Rattle.ber.proofs.tlv.part_at.Goals as goal

@@ -1,6 +1,5 @@
 -- `ber::tlv::put_all` meets its contract: a copy to the front of the part from the place on.
 use native.Mathlib.Omega.{arith}
-use borrow.Author.Rules.{rules}
 use Rattle.ber.proofs.Writers.{puts, puts_full, put_over}
 use Rattle.ber.proofs.tlv.put_all.Goals as goal
 

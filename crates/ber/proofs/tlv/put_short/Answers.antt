@@ -1,7 +1,6 @@
 -- `ber::tlv::put_short` meets its contract: with room for the whole, the two octets of tag and length, and the contents after them.
 use mathlib.Core.Path.{sym}
 use native.Mathlib.Omega.{arith}
-use borrow.Author.Rules.{rules}
 use Rattle.ber.proofs.Tlvs.{tlv_short}
 use Rattle.ber.proofs.Writers.{puts, puts_full, puts_is, puts_room, puts_then}
 use Rattle.ber.proofs.tlv.put_short.Goals as goal

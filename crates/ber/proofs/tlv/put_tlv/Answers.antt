@@ -1,10 +1,9 @@
 -- `ber::tlv::put_tlv` meets its contract: with room for the whole, tag, length and contents are put one after another.
 use mathlib.Core.Path.{sym, ap}
 use mathlib.Core.List.{List, ◌∷◌, ◌++◌}
-use Prim.Native.Nat.{ℕ, ◌+◌}
+use Prim.Native.Nat.{ℕ}
 use native.Mathlib.Omega.{arith}
 use lib.ListN.{length}
-use borrow.Author.Rules.{rules}
 use Rattle.ber.specs.Tlv.{tlv_enc}
 use Rattle.ber.proofs.Tlvs.{tlv_yes, tlv_no, tlv_length, len_most, len_none, len_heads}
 use Rattle.ber.proofs.Writers.{puts, puts_full, puts_none, puts_is, puts_room, put_is, puts_then, holds_room}
