@@ -12,7 +12,7 @@ pub loop-i-init : goal.loop-i-init
 loop-i-init c =
     let long : length c.args.limits ≡ 8 =
     search (rules, length_of_map) in
-    record { same = refl; long sym long }
+    record { same = refl; long = sym long }
 
 pub loop-i-preserved : goal.loop-i-preserved
 loop-i-preserved c =
