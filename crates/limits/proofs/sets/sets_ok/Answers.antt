@@ -1,13 +1,11 @@
 -- `limits::sets::sets_ok` meets its contract. The loop's invariant: what is left to look at decides.
-use mathlib.Core.Path.{◌≡◌, refl, sym, ◌∙◌}
-use Prim.Native.Nat.{◌-◌}
+use mathlib.Core.Path.{◌≡◌, sym, ◌∙◌}
 use native.Mathlib.Numerals.{unary_clauses}
 use native.Mathlib.Omega.{arith}
-use lib.ListN.{length, drop}
+use lib.ListN.{length}
 use borrow.Author.Rules.{rules}
 use borrow.Author.Tests.{not-true, not-false}
 use Rattle.format.proofs.Arrays.{length_of_map}
-use Rattle.limits.specs.Sets.{used_ok}
 use Rattle.limits.proofs.Numbers.{looked_no, looked_more, looked_end, never_ok, as_many}
 use Rattle.limits.proofs.sets.sets_ok.Goals as goal
 
