@@ -10,9 +10,9 @@ use lib.Dec.{eqb, ltb, leb-suc-suc}
 use lib.ListN.{length, take, drop, take-append-drop, drop_of_length-le, length-drop}
 use lib.Seq.{take_at, take_all, drop-length}
 use borrow.Author.Tests.{lt-ltb, eq-eqb, eqb-true}
-use Rattle.bytes.specs.Bytes.{slice, index_after, index_of}
 use Rattle.octets.specs.Chars.{all_of}
 use Rattle.profile.specs.Cut.{has, up_to, past, begins}
+use Rattle.profile.specs.Private.Ahead.{index_after, index_of}
 use Rattle.profile.proofs.Numbers.{by}
 use Rattle.profile.proofs.Firsts.{clash, both}
 
@@ -112,9 +112,6 @@ begins_same name s {r} h =
 -- ---- as the code comes to it: by how many octets stand before the mark
 
 module _ (x : ℕ) where
-  pub find_all : (s : List ℕ) → 0 + index_of x (slice 0 (length s) s) ≡ index_of x s
-  unfolding slice
-  find_all s = let e = ap (index_of x) (take_all (length s) s (omega arith)) in omega arith
 
   pub up_to_take : (s : List ℕ) → take (index_of x s) s ≡ up_to x s
   unfolding index_of index_after up_to
