@@ -1,0 +1,6 @@
+-- `profile::fault::first` meets its contract.
+use borrow.Author.Rules.{rules}
+use Rattle.profile.proofs.fault.first.Goals as goal
+
+pub returns : goal.returns
+returns c = rw (c.unless.ensures, c.is_none.ensures)
