@@ -1,5 +1,4 @@
 -- `profile::no_profile` meets its contract.
-use borrow.Author.Rules.{rules}
 use Rattle.profile.proofs.no_profile.Goals as goal
 
 pub returns : goal.returns

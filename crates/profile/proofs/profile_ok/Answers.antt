@@ -1,5 +1,4 @@
 -- `profile::profile_ok` meets its contract.
-use borrow.Author.Rules.{rules}
 use Rattle.profile.specs.Profile.{profile_ok}
 use Rattle.profile.proofs.profile_ok.Goals as goal
 

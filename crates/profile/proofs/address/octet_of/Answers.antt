@@ -4,7 +4,6 @@ use Rattle.profile.specs.Address.{octet_of}
 use Prim.Native.Nat.{◌-◌, ◌^◌}
 use Rattle.profile.specs.Number.{numeral}
 use Rattle.profile.proofs.Numbers.{most_most, most_le}
-use borrow.Author.Rules.{rules}
 use Rattle.profile.proofs.address.octet_of.Goals as goal
 
 pub overflow_cast-result : goal.overflow_cast-result

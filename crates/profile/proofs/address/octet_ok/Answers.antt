@@ -1,6 +1,5 @@
 -- `profile::address::octet_ok` meets its contract.
 use Rattle.profile.proofs.Numbers.{octet_test}
-use borrow.Author.Rules.{rules}
 use Rattle.profile.proofs.address.octet_ok.Goals as goal
 
 pub returns : goal.returns

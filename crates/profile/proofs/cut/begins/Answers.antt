@@ -1,6 +1,5 @@
 -- `profile::cut::begins` meets its contract.
 use Rattle.profile.proofs.Marks.{begins_same}
-use borrow.Author.Rules.{rules}
 use Rattle.profile.proofs.cut.begins.Goals as goal
 
 pub returns : goal.returns

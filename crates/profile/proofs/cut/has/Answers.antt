@@ -1,6 +1,5 @@
 -- `profile::cut::has` meets its contract.
 use Rattle.profile.proofs.Marks.{has_ltb}
-use borrow.Author.Rules.{rules}
 use Rattle.profile.proofs.cut.has.Goals as goal
 
 pub returns : goal.returns

@@ -1,6 +1,5 @@
 -- `profile::cut::past` meets its contract.
 use Rattle.profile.proofs.Marks.{past_drop}
-use borrow.Author.Rules.{rules}
 use Rattle.profile.proofs.cut.past.Goals as goal
 
 pub returns : goal.returns

@@ -1,6 +1,5 @@
 -- `profile::cut::rest` meets its contract.
 use Rattle.profile.proofs.Marks.{rest_some, rest_none}
-use borrow.Author.Rules.{rules}
 use Rattle.profile.proofs.cut.rest.Goals as goal
 
 pub returns-then-n-s : goal.returns-then-n-s

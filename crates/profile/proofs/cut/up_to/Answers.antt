@@ -2,7 +2,6 @@
 use mathlib.Core.Path.{sym}
 use lib.Seq.{length-take-le}
 use Rattle.profile.proofs.Marks.{up_to_take}
-use borrow.Author.Rules.{rules}
 use Rattle.profile.proofs.cut.up_to.Goals as goal
 
 pub slice_bounds-result-end : goal.slice_bounds-result-end

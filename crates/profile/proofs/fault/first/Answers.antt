@@ -1,5 +1,4 @@
 -- `profile::fault::first` meets its contract.
-use borrow.Author.Rules.{rules}
 use Rattle.profile.proofs.fault.first.Goals as goal
 
 pub returns : goal.returns

@@ -1,7 +1,5 @@
 -- `profile::line::lines_past` meets its contract.
-use Prim.Native.Nat.{◌-◌}
-use Rattle.profile.proofs.Readings.{Passed, passed_none, passed_more, passed_end}
-use borrow.Author.Rules.{rules}
+use Rattle.profile.proofs.Readings.{passed_none, passed_more, passed_end}
 use Rattle.profile.proofs.line.lines_past.Goals as goal
 
 pub loop-i-init : goal.loop-i-init

@@ -1,7 +1,6 @@
 -- `profile::line::lines_past` meets its contract.
 use Prim.Native.Nat.{◌-◌}
-use Rattle.profile.proofs.Readings.{Passed, passed_none, passed_more, passed_end}
-use borrow.Author.Rules.{rules}
+use Rattle.profile.proofs.Readings.{Passed}
 use Rattle.profile.proofs.line.lines_past.Given as goal
 
 abbrev pub invariant-loop-i : goal.invariant-loop-i

@@ -1,5 +1,4 @@
 -- `profile::line::spaced` meets its contract.
-use borrow.Author.Rules.{rules}
 use Rattle.profile.proofs.line.spaced.Goals as goal
 
 pub returns-in-Dotted : goal.returns-in-Dotted

@@ -1,5 +1,4 @@
 -- `profile::line::value` meets its contract.
-use borrow.Author.Rules.{rules}
 use Rattle.profile.proofs.line.value.Goals as goal
 
 pub returns : goal.returns

@@ -1,5 +1,4 @@
 -- `profile::line::value_fault` meets its contract.
-use borrow.Author.Rules.{rules}
 use Rattle.profile.proofs.line.value_fault.Goals as goal
 
 pub returns-in-Dotted : goal.returns-in-Dotted

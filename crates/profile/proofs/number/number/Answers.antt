@@ -1,8 +1,5 @@
 -- `profile::number::number` meets its contract.
-use Prim.Native.Nat.{◌-◌, ◌^◌}
-use lib.ListN.{length}
-use Rattle.profile.proofs.Numbers.{Spelt, spelt_none, spelt_more, spelt_end}
-use borrow.Author.Rules.{rules}
+use Rattle.profile.proofs.Numbers.{spelt_none, spelt_more, spelt_end}
 use Rattle.profile.proofs.number.number.Goals as goal
 
 pub loop-i-init : goal.loop-i-init

@@ -1,8 +1,7 @@
 -- `profile::number::number` meets its contract.
 use Prim.Native.Nat.{◌-◌, ◌^◌}
 use lib.ListN.{length}
-use Rattle.profile.proofs.Numbers.{Spelt, spelt_none, spelt_more, spelt_end}
-use borrow.Author.Rules.{rules}
+use Rattle.profile.proofs.Numbers.{Spelt}
 use Rattle.profile.proofs.number.number.Given as goal
 
 abbrev pub invariant-loop-i : goal.invariant-loop-i

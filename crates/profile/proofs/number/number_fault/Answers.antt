@@ -1,6 +1,5 @@
 -- `profile::number::number_fault` meets its contract.
 use Rattle.profile.specs.Number.{number_fault}
-use borrow.Author.Rules.{rules}
 use Rattle.profile.proofs.number.number_fault.Goals as goal
 
 pub returns : goal.returns

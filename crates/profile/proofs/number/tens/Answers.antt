@@ -2,7 +2,6 @@
 use native.Mathlib.Omega.{arith}
 use Prim.Native.Nat.{◌+◌, ◌-◌, ◌*◌, ◌^◌}
 use Rattle.profile.proofs.Numbers.{most_is, most_over}
-use borrow.Author.Rules.{rules}
 use Rattle.profile.proofs.number.tens.Goals as goal
 
 pub returns-then-n-d : goal.returns-then-n-d

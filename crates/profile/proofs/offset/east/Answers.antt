@@ -3,7 +3,6 @@ use Rattle.profile.proofs.Numbers.{most_is, most_over}
 use Prim.Native.Nat.{◌+◌}
 use native.Mathlib.Omega.{arith}
 use Rattle.profile.specs.Offset.{east}
-use borrow.Author.Rules.{rules}
 use Rattle.profile.proofs.offset.east.Goals as goal
 
 pub returns-then-n-le64815 : goal.returns-then-n-le64815

@@ -1,5 +1,4 @@
 -- `profile::offset::is_minus` meets its contract.
-use borrow.Author.Rules.{rules}
 use Rattle.profile.proofs.offset.is_minus.Goals as goal
 
 pub returns : goal.returns

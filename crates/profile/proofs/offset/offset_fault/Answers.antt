@@ -1,7 +1,6 @@
 -- `profile::offset::offset_fault` meets its contract.
 use mathlib.Core.Path.{◌∙◌, sym}
 use Rattle.profile.specs.Offset.{offset_fault}
-use borrow.Author.Rules.{rules}
 use Rattle.profile.proofs.offset.offset_fault.Goals as goal
 
 pub returns-then-is_minus : goal.returns-then-is_minus

@@ -1,7 +1,6 @@
 -- `profile::offset::west` meets its contract.
 use borrow.Author.Tests.{le-leb, lt-leb}
 use Rattle.profile.specs.Offset.{west}
-use borrow.Author.Rules.{rules}
 use Rattle.profile.proofs.offset.west.Goals as goal
 
 pub returns-then-n-le720 : goal.returns-then-n-le720

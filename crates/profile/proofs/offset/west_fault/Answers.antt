@@ -1,6 +1,5 @@
 -- `profile::offset::west_fault` meets its contract.
 use Rattle.profile.specs.Offset.{west_fault}
-use borrow.Author.Rules.{rules}
 use Rattle.profile.proofs.offset.west_fault.Goals as goal
 
 pub returns : goal.returns

@@ -6,7 +6,6 @@ use lib.ListN.{drop}
 use Rattle.profile.specs.Offset.{zone_of}
 use Rattle.profile.specs.Number.{numeral}
 use Rattle.profile.proofs.Numbers.{west_most, east_most}
-use borrow.Author.Rules.{rules}
 use Rattle.profile.proofs.offset.zone.Goals as goal
 
 pub returns-then-is_minus : goal.returns-then-is_minus

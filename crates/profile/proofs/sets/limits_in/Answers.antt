@@ -1,8 +1,6 @@
 -- `profile::sets::limits_in` meets its contract. The loop's invariant: the first i places have what the lines say.
 use mathlib.Core.Path.{refl}
-use Prim.Native.Nat.{◌-◌}
-use borrow.Author.Rules.{rules}
-use Rattle.profile.proofs.Places.{Placed, placed_more, placed_all}
+use Rattle.profile.proofs.Places.{placed_more, placed_all}
 use Rattle.profile.proofs.sets.limits_in.Goals as goal
 
 pub loop-i-init : goal.loop-i-init

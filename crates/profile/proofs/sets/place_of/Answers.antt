@@ -1,5 +1,4 @@
 -- `profile::sets::place_of` meets its contract.
-use borrow.Author.Rules.{rules}
 use borrow.Author.Tests.{lt-ltb, le-ltb}
 use Rattle.profile.specs.Private.Places.{place_of}
 use Rattle.profile.proofs.sets.place_of.Goals as goal

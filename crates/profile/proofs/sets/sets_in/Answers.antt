@@ -1,8 +1,6 @@
 -- `profile::sets::sets_in` meets its contract. The loop's invariant: so many sets are counted.
 use mathlib.Core.Path.{sym, ◌∙◌}
-use Prim.Native.Nat.{◌-◌}
-use borrow.Author.Rules.{rules}
-use Rattle.profile.proofs.Places.{Counted, counted_one, counted_stop, counted_more, counted_end}
+use Rattle.profile.proofs.Places.{counted_one, counted_stop, counted_more, counted_end}
 use Rattle.profile.proofs.sets.sets_in.Goals as goal
 
 pub loop-n-init : goal.loop-n-init

@@ -1,9 +1,7 @@
 -- `profile::text::first_bad` meets its contract. The loop's invariant: nothing is wrong with the lines passed.
 use mathlib.Core.Path.{sym, ◌∙◌}
-use Prim.Native.Nat.{◌+◌, ◌-◌}
 use native.Mathlib.Omega.{arith}
-use borrow.Author.Rules.{rules}
-use Rattle.profile.proofs.Readings.{Clean, clean_none, clean_stop, clean_more, clean_end, clean_over}
+use Rattle.profile.proofs.Readings.{clean_none, clean_stop, clean_more, clean_end, clean_over}
 use Rattle.profile.proofs.text.first_bad.Goals as goal
 
 pub loop-i-init : goal.loop-i-init

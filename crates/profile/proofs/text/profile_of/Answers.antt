@@ -1,6 +1,5 @@
 -- `profile::text::profile_of` meets its contract.
 use native.Mathlib.Omega.{arith}
-use borrow.Author.Rules.{rules}
 use Rattle.profile.specs.Text.{profile_by, profile_of}
 use Rattle.profile.proofs.Places.{sets_few}
 use Rattle.profile.proofs.text.profile_of.Goals as goal

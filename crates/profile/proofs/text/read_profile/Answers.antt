@@ -1,5 +1,4 @@
 -- `profile::text::read_profile` meets its contract.
-use borrow.Author.Rules.{rules}
 use Rattle.profile.proofs.Readings.{read_good, read_bad}
 use Rattle.profile.proofs.text.read_profile.Goals as goal
 

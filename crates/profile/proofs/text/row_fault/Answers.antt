@@ -1,5 +1,4 @@
 -- `profile::text::row_fault` meets its contract.
-use borrow.Author.Rules.{rules}
 use Rattle.profile.proofs.Readings.{row_first, row_set, row_offset, row_last}
 use Rattle.profile.proofs.text.row_fault.Goals as goal
 

@@ -1,7 +1,6 @@
 -- `profile::three::limits_of` meets its contract.
 use Prim.Native.Nat.{◌-◌, ◌^◌}
 use native.Mathlib.Omega.{arith}
-use borrow.Author.Rules.{rules}
 use Rattle.profile.specs.Number.{numeral}
 use Rattle.profile.specs.Three.{seconds_in, changes_in, limits_of}
 use Rattle.profile.proofs.Numbers.{most_most, most_le}

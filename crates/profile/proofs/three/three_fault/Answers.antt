@@ -1,5 +1,4 @@
 -- `profile::three::three_fault` meets its contract.
-use borrow.Author.Rules.{rules}
 use Rattle.profile.specs.Three.{three_fault}
 use Rattle.profile.proofs.three.three_fault.Goals as goal
 
