@@ -124,6 +124,11 @@ class Turn:
                 for path, arm, new in self.arms[p]:
                     if not path and arm == self.steps.get(p):
                         return [arm, new] + f[1:]
+            if p not in self.steps:
+                for q in (re.sub(r"_lem$", "", p), p.lower(), re.sub(r"_lem$", "", p).lower()):
+                    if q in self.steps:
+                        p = q
+                        break
             if p not in self.steps and re.sub(r"\d+$", "", p) in self.steps:
                 p = re.sub(r"\d+$", "", p)
             if p in self.steps:
