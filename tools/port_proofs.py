@@ -121,6 +121,14 @@ class Turn:
                 for path, arm, new in self.arms[p]:
                     if path and tuple(f[1 : 1 + len(path)]) == path:
                         return [arm] + ([new] if new else []) + f[1 + len(path) :]
+                for path, arm, new in self.arms[p]:
+                    if not path and arm == self.steps.get(p):
+                        return [arm, new] + f[1:]
+            if p not in self.steps:
+                for q in (re.sub(r"_lem$", "", p), p.lower(), re.sub(r"_lem$", "", p).lower()):
+                    if q in self.steps:
+                        p = q
+                        break
             if p not in self.steps and re.sub(r"\d+$", "", p) in self.steps:
                 p = re.sub(r"\d+$", "", p)
             if p in self.steps:
@@ -261,9 +269,9 @@ def turn(folder, names, crate, key):
                 break
         for n in lets:
             if n not in ident:
-                s = re.sub(r"\((?:" + re.escape(n) + r") " + arg + r"\)", n, s)
-                s = re.sub(r"(?<![\w.'-])" + re.escape(n) + r" " + arg, n, s)
-        return s
+                s = re.sub(r"\((?:" + re.escape(n) + r") " + arg + r"\)", "§" + n + "§", s)
+                s = re.sub(r"(?<![\w.'§-])" + re.escape(n) + r" " + arg, "§" + n + "§", s)
+        return s.replace("§", "")
 
     def let_of(name, t):
         d, c, more, b = lets[name]

@@ -6,7 +6,7 @@ use mathlib.Core.Option.{Option, none, some}
 use mathlib.Core.List.{List, [], ◌∷◌, ◌++◌, append_assoc, append-nil}
 use Prim.Native.Nat.{ℕ, zero, suc, ◌+◌, ◌-◌, ◌*◌, ◌≤◌, ◌<◌}
 use native.Mathlib.Numerals.{add-one}
-use native.Mathlib.Nat.{le_of_suc-le-suc, not-suc-le-zero, mul-suc, mul-zero, mul-le-mul_left}
+use native.Mathlib.Nat.{le_of_suc-le-suc, not-suc-le-zero, mul-suc, mul-le-mul_left}
 use native.Mathlib.Omega.{arith}
 use lib.Dec.{T, leb}
 use lib.ListN.{length, take, drop, get_or, set, length-set, length-append, take-append-drop}
@@ -15,7 +15,7 @@ use borrow.Author.Tests.{le-leb, lt-leb}
 use borrow.Rule.Slice.PartMut.{mid_of, put_mid}
 use Rattle.format.specs.Maybe.{bind, guard}
 use Rattle.format.specs.Format.{Fmt}
-use Rattle.format.proofs.Tests.{by, T_true, true_T, and_l, and_r, and_i}
+use Rattle.format.proofs.Tests.{by, T_true, true_T, and_l, and_r}
 use Rattle.format.proofs.Maybe.{bind_bind, bind_same}
 use Rattle.format.proofs.Blanks.{Blank}
 use Rattle.ber.specs.Tlv.{tlv_enc}

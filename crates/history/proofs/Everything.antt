@@ -8,7 +8,7 @@ use mathlib.Core.List.{List, [], ◌∷◌, ◌++◌, map, append_assoc, append-
 use native.Mathlib.Omega.{arith}
 use Rattle.history.specs.Lists.{each, sum_of, Earlier}
 use Rattle.history.specs.History.{History, total}
-use Rattle.history.specs.Records.{Rules, Stretch, Record, Open, whole, running, stretches, records, ended, leaves}
+use Rattle.history.specs.Records.{Rules, Stretch, Record, Open, whole, stretches, records, ended, leaves}
 use Rattle.history.specs.Log.{tells_all, Meaning, reported}
 use Rattle.history.specs.Run.{Machine, run, all_written, log}
 use Rattle.history.specs.Demand.{Forms, Sight, under, held, histories_of, Demand3}

@@ -12,7 +12,7 @@ use Rattle.history.specs.History.{History, start, ◌▸◌∶◌, total}
 use Rattle.history.specs.Records.{Rules, in_force, records, ended, leaves}
 use Rattle.history.specs.Log.{Accepted, Said, activates, tells, tells_all, nothing, Meaning, heard, grow, follow, starts_by, histories, reports, reported}
 use Rattle.history.specs.Table.{Handling, fill, free, active, hears, listen, slots_hear, slots_write, slots_after, writes, table, output}
-use Rattle.history.specs.Demand.{Forms, held}
+use Rattle.history.specs.Demand.{Forms}
 use Rattle.history.proofs.Lists.{each_append, map_append, map_map, map_id, sum_of_append, cond_same, both, not-true}
 use Rattle.history.proofs.Tables.{
   content,

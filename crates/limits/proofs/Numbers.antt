@@ -1,7 +1,7 @@
 -- The laws of the sets of limits, by their numbers and by their places.
-use mathlib.Core.Path.{◌≡◌, refl, sym, ap, ap₂, ◌∙◌}
-use mathlib.Core.Bool.{Bool, true, false, cond, ◌&&◌, false≢true}
-use mathlib.Core.List.{List, [], ◌∷◌, ◌++◌}
+use mathlib.Core.Path.{◌≡◌, refl, sym, ap, ◌∙◌}
+use mathlib.Core.Bool.{Bool, true, false, cond, ◌&&◌}
+use mathlib.Core.List.{List, [], ◌∷◌}
 use Prim.Native.Nat.{ℕ, zero, suc, ◌+◌, ◌-◌, ◌≤◌, ◌<◌}
 use native.Mathlib.Numerals.{add-one, unary_clauses}
 use native.Mathlib.Omega.{arith}
@@ -12,7 +12,7 @@ use borrow.Author.Tests.{lt-ltb, le-ltb, leb-true, le-leb, lt-leb, eqb-true, eq-
 use Rattle.format.proofs.Tests.{both, either}
 use Rattle.limits.specs.declared.Limits.{Limits}
 use Rattle.limits.specs.declared.LimitSet.{LimitSet}
-use Rattle.limits.specs.Limits.{limits_ok, no_limits}
+use Rattle.limits.specs.Limits.{limits_ok}
 use Rattle.limits.specs.Sets.{has_set, no_set, given, first_editions, set_ok, blank_set, used_ok, sets_ok, set_at, limits_of, replaced}
 
 -- ---- by the place of a number

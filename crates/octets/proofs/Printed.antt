@@ -1,7 +1,6 @@
 -- Names that 02's W5 prints, and the edges of lowering, computed.
 use mathlib.Core.Path.{◌≡◌, refl}
-use mathlib.Core.List.{List, [], ◌∷◌, map}
-use Prim.Native.Nat.{ℕ}
+use mathlib.Core.List.{[], ◌∷◌, map}
 use Rattle.octets.specs.Chars.{lower, lowered}
 
 -- "Crew.Ship" and "crew.ship"

@@ -7,12 +7,12 @@ use native.Mathlib.Nat.{not-suc-le-zero}
 use native.Mathlib.Numerals.{add-one}
 use native.Mathlib.Omega.{arith}
 use lib.Dec.{eqb, ltb, leb-suc-suc}
-use lib.ListN.{length, take, drop, take-append-drop, drop_of_length-le, length-drop}
-use lib.Seq.{take_at, take_all, drop-length}
-use borrow.Author.Tests.{lt-ltb, eq-eqb, eqb-true}
-use Rattle.bytes.specs.Bytes.{slice, index_after, index_of}
+use lib.ListN.{length, get_or, take, drop, take-append-drop, drop_of_length-le, length-drop}
+use lib.Seq.{drop-cons, take_at, take_all, drop-length}
+use borrow.Author.Tests.{lt-ltb, eq-eqb, ne_eqb, eqb-true}
 use Rattle.octets.specs.Chars.{all_of}
 use Rattle.profile.specs.Cut.{has, up_to, past, begins}
+use Rattle.profile.specs.Private.Ahead.{index_after, index_of}
 use Rattle.profile.proofs.Numbers.{by}
 use Rattle.profile.proofs.Firsts.{clash, both}
 
@@ -112,10 +112,6 @@ begins_same name s {r} h =
 -- ---- as the code comes to it: by how many octets stand before the mark
 
 module _ (x : ℕ) where
-  pub find_all : (s : List ℕ) → 0 + index_of x (slice 0 (length s) s) ≡ index_of x s
-  unfolding slice
-  find_all s = let e = ap (index_of x) (take_all (length s) s (omega arith)) in omega arith
-
   pub up_to_take : (s : List ℕ) → take (index_of x s) s ≡ up_to x s
   unfolding index_of index_after up_to
   up_to_take [] = refl
@@ -145,6 +141,37 @@ module _ (x : ℕ) where
       go : (t : Bool) → ltb (index_of x s) (length s) ≡ has x s → ltb (index_after t (index_of x s)) (suc (length s)) ≡ (t || has x s)
       go true e = lt-ltb 0 (suc (length s)) (omega arith)
       go false e = leb-suc-suc (suc (index_of x s)) (length s) ∙ e
+
+-- what is passed has no mark, as a loop comes to it
+pub record Sought (x : ℕ) (s : List ℕ) (i : ℕ) : Type 0 where
+  pub most : i ≤ length s
+  pub same : i + index_of x (drop i s) ≡ index_of x s
+
+pub sought_none : (x : ℕ) (s : List ℕ) → Sought x s 0
+sought_none x s = record { most = omega arith; same = omega arith }
+
+module _ {x : ℕ} {s : List ℕ} {i : ℕ} (f : Sought x s i) where
+  here : i < length s → index_of x (drop i s) ≡ index_after (eqb (get_or s i 0) x) (index_of x (drop (i + 1) s))
+  unfolding index_of
+  here h = rw (drop-cons s i 0 h, add-one i) refl
+
+  pub sought_here : i < length s → get_or s i 0 ≡ x → (i ≡ index_of x s) × (i ≤ length s)
+  unfolding index_after
+  sought_here h e =
+      let z : index_of x (drop i s) ≡ 0 = here h ∙ rw (eq-eqb (get_or s i 0) x e) refl in
+      (omega (arith, f.same), f.most)
+
+  pub sought_more : i < length s → (get_or s i 0 ≡ x → ⊥) → Sought x s (i + 1)
+  unfolding index_after
+  sought_more h n =
+      let z : index_of x (drop i s) ≡ suc (index_of x (drop (i + 1) s)) = here h ∙ rw (ne_eqb (get_or s i 0) x n) refl in
+      record { most = omega arith; same = omega (arith, f.same) }
+
+  pub sought_end : length s ≤ i → (i ≡ index_of x s) × (i ≤ length s)
+  unfolding index_of
+  sought_end h =
+      let z : index_of x (drop i s) ≡ 0 = rw (drop_of_length-le s h) refl in
+      (omega (arith, f.same), f.most)
 
 -- ---- what is left after n octets
 

@@ -4,7 +4,6 @@ use mathlib.Core.List.{List, [], ◌∷◌, ◌++◌}
 use Prim.Native.Nat.{ℕ, zero, suc, ◌≤◌}
 use native.Mathlib.Omega.{arith}
 use lib.ListN.{length, take, drop, replicate}
-use lib.Seq.{take_all}
 use Rattle.profile.specs.Node.{node_octets}
 
 zeros_front : (n w : ℕ) → n ≤ w → replicate {A = ℕ} n 0 ≡ take n (replicate w 0)
@@ -27,10 +26,10 @@ front_le zero v = omega arith
 front_le (suc n) [] = omega arith
 front_le (suc n) (x ∷ v) = omega (arith, front_le n v)
 
-pub copied : (v : List ℕ) {w out : List ℕ} → w ≡ take 20 v → out ≡ take (length w) w ++ drop (length w) (replicate 20 0) → out ≡ node_octets v
+pub copied : (v : List ℕ) {w out : List ℕ} → w ≡ take 20 v → out ≡ w → out ++ drop (length w) (replicate 20 0) ≡ node_octets v
 unfolding node_octets
 copied v {w} e g =
-    g ∙ ap (λ (l : List ℕ). l ++ drop (length w) (replicate 20 0)) (take_all (length w) w (omega arith))
+    ap (λ (l : List ℕ). l ++ drop (length w) (replicate 20 0)) g
     ∙ filled w 20 20 (rw e (front_le 20 v)) (omega arith)
     ∙ ap (λ (l : List ℕ). take 20 (l ++ replicate 20 0)) e
     ∙ front_front v (replicate 20 0) 20

@@ -1,3 +1,4 @@
 -- What private functions of this crate count on: no part of what a reader must believe.
+pub mod Ahead
 pub mod Places
 pub mod Rows

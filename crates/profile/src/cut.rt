@@ -1,15 +1,20 @@
 // Octets up to a mark, and past it.
 ghost use Rattle.std.specs.Prelude.{◌≡◌, ◌≤◌, length, get_or, take, drop};
-ghost use Rattle.bytes.specs.Bytes.{index_of};
 ghost use Rattle.profile.specs.Cut.{has, up_to, past, begins};
-
-use bytes::scan;
+ghost use Rattle.profile.specs.Private.Ahead.{index_of};
 
 // How many octets stand before the first x; all of them where there is none.
 fn ahead(s: &[u8], x: u8) -> usize
     ensures { (result ≡ index_of x s.now) × (result ≤ length s.now) }
 {
-    scan::find(s, 0, s.len(), x)
+    let mut i = 0;
+    while i < s.len() {
+        if s[i] == x {
+            return i;
+        }
+        i += 1;
+    }
+    i
 }
 
 // Is there an x in s?

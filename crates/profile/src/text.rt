@@ -45,7 +45,8 @@ fn node_octets(v: &[u8]) -> [u8; 20]
     ensures { result ≡ node_octets v.now }
 {
     let mut out = [0u8; 20];
-    bytes::copy(cut::front(v, 20), &mut out);
+    let w = cut::front(v, 20);
+    out[..w.len()].copy_from_slice(w);
     out
 }
 

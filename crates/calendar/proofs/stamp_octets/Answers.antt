@@ -3,7 +3,6 @@
 use mathlib.Core.Path.{◌≡◌, refl, sym, ◌∙◌}
 use mathlib.Core.Bool.{true}
 use native.Mathlib.Omega.{arith}
-use borrow.Author.Rules.{rules}
 use borrow.Author.Tests.{not-true, not-false}
 use Rattle.format.proofs.Tests.{true_T}
 use Rattle.calendar.specs.Stamp.{stamp_ok}
@@ -32,4 +31,4 @@ returns c =
     sym c.stamp_within.ensures ∙ not-false _ c.if-not-stamp_within.false-raw in
     let d = c.date_of.ensures in
     let t = c.args.t in
-    stamped_yes t inside
+    stamped_yes t inside (form_of t d.month d.place refl c.octets_of-octets.ensures)

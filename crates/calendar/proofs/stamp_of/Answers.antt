@@ -39,15 +39,15 @@ pub returns-then-days-place : goal.returns-then-days-place
 returns-then-days-place c =
     let read : List ℕ =
     c.args.s.now in
-    let place : c.less_one-place.result ≡ unbcd (get_or read 0) - 1 =
+    let place : c.less_one-place.result ≡ unbcd (get_or read 2 0) - 1 =
     c.less_one-place.ensures ∙ ap (λ (n : ℕ). n - 1) c.of_bcd.ensures.same in
-    read_day read c.days_of-days.ensures.count place
+    read_day read c.month_named-month.ensures.same c.days_of-days.ensures.count place (omega arith)
 
 pub returns-then-second-ge86400 : goal.returns-then-second-ge86400
 returns-then-second-ge86400 c =
     let read : List ℕ =
     c.args.s.now in
-    read_clock read c.if-second-ge86400.true
+    read_clock read c.second_of-second.ensures.same c.if-second-ge86400.true
 
 pub returns-then-not-stamp_within : goal.returns-then-not-stamp_within
 returns-then-not-stamp_within c =
@@ -55,13 +55,13 @@ returns-then-not-stamp_within c =
     c.args.s.now in
     let octets : List ℕ =
     read in
-    let place : c.less_one-place.result ≡ unbcd (get_or read 0) - 1 =
+    let place : c.less_one-place.result ≡ unbcd (get_or read 2 0) - 1 =
     c.less_one-place.ensures ∙ ap (λ (n : ℕ). n - 1) c.of_bcd.ensures.same in
     let time : Stamp =
     record {
-  seconds = (c.days_of-days.result.first + c.less_one-place.result) * 86400 + c.second_of-second.result;
-  zone = c.zone_of.result;
-} in
+      seconds = (c.days_of-days.result.first + c.less_one-place.result) * 86400 + c.second_of-second.result;
+      zone = c.zone_of.result;
+    } in
     let said : time ≡ stamp_val octets =
     value octets
     c.month_named-month.ensures.same
@@ -69,20 +69,20 @@ returns-then-not-stamp_within c =
     place
     c.second_of-second.ensures.same
     c.zone_of.ensures in
-    read_out octets (sym c.stamp_within.ensures ∙ not-true _ c.if-not-stamp_within.true-raw)
+    read_out octets said (sym c.stamp_within.ensures ∙ not-true _ c.if-not-stamp_within.true-raw)
 
 pub octets_of-octets-requires : goal.octets_of-octets-requires
 octets_of-octets-requires c =
     let time : Stamp =
     record {
-  seconds = (c.days_of-days.result.first + c.less_one-place.result) * 86400 + c.second_of-second.result;
-  zone = c.zone_of.result;
-} in
+      seconds = (c.days_of-days.result.first + c.less_one-place.result) * 86400 + c.second_of-second.result;
+      zone = c.zone_of.result;
+    } in
     let shorter : c.less_one-place.result < c.days_of-days.result.count =
     c.if-days-place.false in
-    let inside : stamp_ok time true =
+    let inside : stamp_ok time ≡ true =
     sym c.stamp_within.ensures ∙ not-false _ c.if-not-stamp_within.false-raw in
-    (search rules, omega (arith, c.days_of-days.ensures.short, shorter), search rules, zone_known time)
+    (search rules, omega (arith, c.days_of-days.ensures.short, shorter), search rules, zone_known time (true_T _ inside))
 
 pub returns-then-same : goal.returns-then-same
 returns-then-same c =
@@ -90,13 +90,13 @@ returns-then-same c =
     c.args.s.now in
     let octets : List ℕ =
     read in
-    let place : c.less_one-place.result ≡ unbcd (get_or read 0) - 1 =
+    let place : c.less_one-place.result ≡ unbcd (get_or read 2 0) - 1 =
     c.less_one-place.ensures ∙ ap (λ (n : ℕ). n - 1) c.of_bcd.ensures.same in
     let time : Stamp =
     record {
-  seconds = (c.days_of-days.result.first + c.less_one-place.result) * 86400 + c.second_of-second.result;
-  zone = c.zone_of.result;
-} in
+      seconds = (c.days_of-days.result.first + c.less_one-place.result) * 86400 + c.second_of-second.result;
+      zone = c.zone_of.result;
+    } in
     let said : time ≡ stamp_val octets =
     value octets
     c.month_named-month.ensures.same
@@ -104,7 +104,7 @@ returns-then-same c =
     place
     c.second_of-second.ensures.same
     c.zone_of.ensures in
-    let inside : stamp_ok time true =
+    let inside : stamp_ok time ≡ true =
     sym c.stamp_within.ensures ∙ not-false _ c.if-not-stamp_within.false-raw in
     let shorter : c.less_one-place.result < c.days_of-days.result.count =
     c.if-days-place.false in
@@ -115,7 +115,7 @@ returns-then-same c =
     (omega (arith, c.days_of-days.ensures.count, shorter))
     (omega arith)
     c.octets_of-octets.ensures in
-    read_there octets form
+    read_there octets said form inside (c.same.ensures.0 c.if-same.true)
 
 pub returns : goal.returns
 returns c =
@@ -123,13 +123,13 @@ returns c =
     c.args.s.now in
     let octets : List ℕ =
     read in
-    let place : c.less_one-place.result ≡ unbcd (get_or read 0) - 1 =
+    let place : c.less_one-place.result ≡ unbcd (get_or read 2 0) - 1 =
     c.less_one-place.ensures ∙ ap (λ (n : ℕ). n - 1) c.of_bcd.ensures.same in
     let time : Stamp =
     record {
-  seconds = (c.days_of-days.result.first + c.less_one-place.result) * 86400 + c.second_of-second.result;
-  zone = c.zone_of.result;
-} in
+      seconds = (c.days_of-days.result.first + c.less_one-place.result) * 86400 + c.second_of-second.result;
+      zone = c.zone_of.result;
+    } in
     let said : time ≡ stamp_val octets =
     value octets
     c.month_named-month.ensures.same
@@ -146,4 +146,4 @@ returns c =
     (omega (arith, c.days_of-days.ensures.count, shorter))
     (omega arith)
     c.octets_of-octets.ensures in
-    read_differs octets form (λ q. true_not_false (sym (c.same.ensures.1 q) ∙ c.if-same.false))
+    read_differs octets said form (λ q. true_not_false (sym (c.same.ensures.1 q) ∙ c.if-same.false))

@@ -1,5 +1,4 @@
 -- `keys::clash` meets its contract: the code is the test.
-use borrow.Author.Rules.{rules}
 use Rattle.keys.specs.Slots.{is_active}
 use Rattle.keys.specs.Private.Clash.{clash}
 use Rattle.keys.proofs.clash.Goals as goal

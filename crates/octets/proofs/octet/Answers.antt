@@ -1,7 +1,6 @@
 -- `octets::octet` meets its contract.
 use mathlib.Core.Path.{sym}
 use lib.ListN.{get_or-eq_default}
-use borrow.Author.Rules.{rules}
 use Rattle.octets.proofs.octet.Goals as goal
 
 pub returns : goal.returns

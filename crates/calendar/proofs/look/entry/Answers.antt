@@ -1,6 +1,5 @@
 -- `calendar::look::entry` meets its contract: what the table has at a place is where that month begins.
 use mathlib.Core.Path.{◌∙◌}
-use borrow.Author.Rules.{rules}
 use Rattle.calendar.proofs.look.entry.Goals as goal
 
 pub returns : goal.returns

@@ -1,5 +1,4 @@
 -- `calendar::look::entry_in_years` meets its contract: each arm's entry is the one at its place.
-use borrow.Author.Rules.{rules}
 use Rattle.calendar.proofs.Entries.{entry_is, Past, last}
 use Rattle.calendar.proofs.look.entry_in_years.Goals as goal
 
@@ -193,4 +192,4 @@ returns-in-46 c = entry_is _ c.in-46.is c.entry-in-46.ensures
 
 pub returns-in_default : goal.returns-in_default
 unfolding Past
-returns-in_default c = entry_is _ (last 47 _ c.in_default.rest c.requires.2) c.entry-in_default.ensures
+returns-in_default c = entry_is _ (last 47 _ c.in_default.in_default-own.rest c.requires.2) c.entry-in_default.ensures

@@ -105,4 +105,4 @@ returns-in-24 c = years_is (search rules) c.in-24.is c.entry_in_years-in-24.ensu
 
 pub returns-in_default : goal.returns-in_default
 unfolding Past
-returns-in_default c = after_all (search rules) c.in_default.rest
+returns-in_default c = after_all (search rules) c.in_default.in_default-own.rest

@@ -1,7 +1,6 @@
 -- `calendar::zone::away_of` meets its contract: its test is the definition's.
 use native.Mathlib.Omega.{arith}
 use borrow.Author.Tests.{lt-ltb, le-ltb}
-use borrow.Author.Rules.{rules}
 use Rattle.calendar.proofs.zone.away_of.Goals as goal
 
 pub returns-then-zone-ge720 : goal.returns-then-zone-ge720

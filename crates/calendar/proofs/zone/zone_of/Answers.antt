@@ -1,7 +1,6 @@
 -- `calendar::zone::zone_of` meets its contract: its tests are the definition's.
 use native.Mathlib.Omega.{arith}
 use borrow.Author.Tests.{eq-eqb, ne_eqb}
-use borrow.Author.Rules.{rules}
 use Rattle.calendar.proofs.zone.zone_of.Goals as goal
 
 pub returns-then-sign-ne45 : goal.returns-then-sign-ne45

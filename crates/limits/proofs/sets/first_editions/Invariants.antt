@@ -1,11 +1,6 @@
 -- `limits::sets::first_editions` meets its contract. The loop's invariant: the first i sets are given.
-use mathlib.Core.Path.{◌≡◌, refl, sym}
 use Prim.Native.Nat.{◌-◌}
-use native.Mathlib.Omega.{arith}
-use lib.ListN.{length}
-use borrow.Author.Rules.{rules}
-use Rattle.format.proofs.Arrays.{length_of_map}
-use Rattle.limits.proofs.Numbers.{Given, given_more, given_all}
+use Rattle.limits.proofs.Numbers.{Given}
 use Rattle.limits.proofs.sets.first_editions.Given as goal
 
 abbrev pub invariant-loop-i : goal.invariant-loop-i

@@ -1,6 +1,5 @@
 -- `limits::sets::fits` meets its contract.
 use mathlib.Core.Path.{◌∙◌}
-use borrow.Author.Rules.{rules}
 use Rattle.limits.proofs.sets.fits.Goals as goal
 
 pub returns-then-used : goal.returns-then-used

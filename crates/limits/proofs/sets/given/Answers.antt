@@ -1,5 +1,4 @@
 -- `limits::sets::given` meets its contract.
-use Rattle.limits.specs.Sets.{given}
 use Rattle.limits.proofs.sets.given.Goals as goal
 
 pub returns-then-used : goal.returns-then-used

@@ -1,5 +1,4 @@
 -- `limits::sets::is_blank` meets its contract.
-use borrow.Author.Rules.{rules}
 use Rattle.limits.specs.Sets.{blank_set}
 use Rattle.limits.proofs.sets.is_blank.Goals as goal
 

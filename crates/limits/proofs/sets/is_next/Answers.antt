@@ -1,5 +1,4 @@
 -- `limits::sets::is_next` meets its contract.
-use borrow.Author.Rules.{rules}
 use Rattle.limits.specs.Sets.{is_next}
 use Rattle.limits.proofs.sets.is_next.Goals as goal
 

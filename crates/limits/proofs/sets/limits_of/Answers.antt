@@ -1,5 +1,4 @@
 -- `limits::sets::limits_of` meets its contract.
-use borrow.Author.Rules.{rules}
 use Rattle.limits.specs.Sets.{limits_of}
 use Rattle.limits.proofs.sets.limits_of.Goals as goal
 

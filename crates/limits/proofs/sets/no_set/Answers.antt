@@ -1,5 +1,4 @@
 -- `limits::sets::no_set` meets its contract.
-use borrow.Author.Rules.{rules}
 use Rattle.limits.proofs.sets.no_set.Goals as goal
 
 pub returns : goal.returns

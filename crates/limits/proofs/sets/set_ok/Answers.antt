@@ -1,5 +1,4 @@
 -- `limits::sets::set_ok` meets its contract.
-use borrow.Author.Rules.{rules}
 use Rattle.limits.specs.Sets.{set_ok}
 use Rattle.limits.proofs.sets.set_ok.Goals as goal
 

@@ -1,13 +1,10 @@
 -- `limits::sets::sets_ok` meets its contract. The loop's invariant: what is left to look at decides.
-use mathlib.Core.Path.{◌≡◌, refl, sym, ◌∙◌}
-use Prim.Native.Nat.{◌-◌}
+use mathlib.Core.Path.{◌≡◌, sym, ◌∙◌}
 use native.Mathlib.Numerals.{unary_clauses}
 use native.Mathlib.Omega.{arith}
-use lib.ListN.{length, drop}
+use lib.ListN.{length}
 use borrow.Author.Rules.{rules}
-use borrow.Author.Tests.{not-true, not-false}
 use Rattle.format.proofs.Arrays.{length_of_map}
-use Rattle.limits.specs.Sets.{used_ok}
 use Rattle.limits.proofs.Numbers.{looked_no, looked_more, looked_end, never_ok, as_many}
 use Rattle.limits.proofs.sets.sets_ok.Goals as goal
 
@@ -21,7 +18,7 @@ returns-then-not-fits c =
     let l = c.loop-i in
     let z = long in
     never_ok c.args.count c.args.sets
-    (sym l.invariant ∙ looked_no c.args.count c.args.sets l.i _ (omega arith) (sym c.fits.ensures ∙ not-true _ c.if-not-fits.true-raw))
+    (sym l.invariant ∙ looked_no c.args.count c.args.sets l.i _ (omega arith) (sym c.fits.ensures ∙ c.if-not-fits.true))
 
 pub loop-i-preserved : goal.loop-i-preserved
 loop-i-preserved c =
@@ -29,7 +26,7 @@ loop-i-preserved c =
     search (rules, length_of_map) in
     let l = c.loop-i in
     let z = long in
-    looked_more c.args.count c.args.sets l.i _ (omega arith) (sym c.fits.ensures ∙ not-false _ c.if-not-fits.false-raw) ∙ l.invariant
+    looked_more c.args.count c.args.sets l.i _ (omega arith) (sym c.fits.ensures ∙ c.if-not-fits.false) ∙ l.invariant
 
 pub returns : goal.returns
 returns c =

@@ -1,11 +1,7 @@
 -- `octets::chars::all_chars` meets its contract: one law over the class.
 use mathlib.Core.Path.{sym, ◌∙◌}
-use Prim.Native.Nat.{◌-◌}
-use lib.ListN.{length}
-use borrow.Author.Rules.{rules}
 use borrow.Author.Tests.{not-true, not-false}
-use Rattle.octets.specs.Chars.{char_of}
-use Rattle.octets.proofs.Passed.{Passed, passed_none, passed_more, passed_stop, passed_end}
+use Rattle.octets.proofs.Passed.{passed_none, passed_more, passed_stop, passed_end}
 use Rattle.octets.proofs.chars.all_chars.Goals as goal
 
 pub loop-i-init : goal.loop-i-init

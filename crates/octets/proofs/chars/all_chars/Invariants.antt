@@ -1,11 +1,8 @@
 -- `octets::chars::all_chars` meets its contract: one law over the class.
-use mathlib.Core.Path.{sym, ◌∙◌}
 use Prim.Native.Nat.{◌-◌}
 use lib.ListN.{length}
-use borrow.Author.Rules.{rules}
-use borrow.Author.Tests.{not-true, not-false}
 use Rattle.octets.specs.Chars.{char_of}
-use Rattle.octets.proofs.Passed.{Passed, passed_none, passed_more, passed_stop, passed_end}
+use Rattle.octets.proofs.Passed.{Passed}
 use Rattle.octets.proofs.chars.all_chars.Given as goal
 
 abbrev pub invariant-loop-i : goal.invariant-loop-i

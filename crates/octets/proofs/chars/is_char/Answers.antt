@@ -1,6 +1,4 @@
 -- `octets::chars::is_char` meets its contract.
-use mathlib.Core.Path.{◌≡◌, refl, sym}
-use borrow.Author.Rules.{rules}
 use Rattle.octets.specs.Chars.{apn_char, node_char}
 use Rattle.octets.proofs.chars.is_char.Goals as goal
 

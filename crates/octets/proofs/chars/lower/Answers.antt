@@ -1,7 +1,6 @@
 -- `octets::chars::lower` meets its contract.
 use mathlib.Core.Path.{sym}
 use native.Mathlib.Omega.{arith}
-use borrow.Author.Rules.{rules}
 use Rattle.octets.proofs.Lowered.{lower_below, lower_above, lower_capital}
 use Rattle.octets.proofs.chars.lower.Goals as goal
 

@@ -1,8 +1,5 @@
 -- `octets::chars::zeros` meets its contract. The loop's invariant: what is gathered and what is left to look at decide.
-use Prim.Native.Nat.{◌-◌}
-use lib.ListN.{length}
-use borrow.Author.Rules.{rules}
-use Rattle.octets.proofs.Passed.{Gathered, gathered_none, gathered_more, gathered_end}
+use Rattle.octets.proofs.Passed.{gathered_none, gathered_more, gathered_end}
 use Rattle.octets.proofs.chars.zeros.Goals as goal
 
 pub loop-i-init : goal.loop-i-init

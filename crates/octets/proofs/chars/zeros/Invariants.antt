@@ -1,8 +1,7 @@
 -- `octets::chars::zeros` meets its contract. The loop's invariant: what is gathered and what is left to look at decide.
 use Prim.Native.Nat.{◌-◌}
 use lib.ListN.{length}
-use borrow.Author.Rules.{rules}
-use Rattle.octets.proofs.Passed.{Gathered, gathered_none, gathered_more, gathered_end}
+use Rattle.octets.proofs.Passed.{Gathered}
 use Rattle.octets.proofs.chars.zeros.Given as goal
 
 abbrev pub invariant-loop-i : goal.invariant-loop-i

@@ -1,7 +1,6 @@
 -- `octets::names::check_apn` meets its contract.
-use mathlib.Core.Path.{◌≡◌, refl, sym, ◌∙◌}
+use mathlib.Core.Path.{sym}
 use native.Mathlib.Omega.{arith}
-use borrow.Author.Rules.{rules}
 use Rattle.octets.proofs.Checked.{checked_apn_lem, checked_none, apn_long, found_apn}
 use Rattle.octets.proofs.names.check_apn.Goals as goal
 

@@ -1,9 +1,8 @@
 -- `octets::names::is_stored` meets its contract.
-use mathlib.Core.Path.{◌≡◌, refl, sym, ap, ◌∙◌}
+use mathlib.Core.Path.{refl, sym, ap, ◌∙◌}
 use native.Mathlib.Omega.{arith}
 use lib.ListN.{length}
 use lib.Seq.{length-take-le}
-use borrow.Author.Rules.{rules}
 use Rattle.octets.specs.Chars.{all_of, is_zero}
 use Rattle.octets.proofs.Stored.{rest_all, stored_many, stored_rest}
 use Rattle.octets.proofs.names.is_stored.Goals as goal

@@ -1,8 +1,7 @@
 -- `octets::names::lowered` meets its contract. The loop's invariant: the first octets are lowered, and zeros stand after them.
 use Prim.Native.Nat.{◌-◌}
 use lib.ListN.{length}
-use borrow.Author.Rules.{rules}
-use Rattle.octets.proofs.Lowered.{Lowering, lowering_none, lowering_more, lowering_end}
+use Rattle.octets.proofs.Lowered.{Lowering}
 use Rattle.octets.proofs.names.lowered.Given as goal
 
 abbrev pub invariant-loop-i : goal.invariant-loop-i
