@@ -62,6 +62,12 @@ pub fn fail_output(error: Stderr, command: &[u8], output: &Stream) {
     }
 }
 
+// Says a line as it stands.
+pub fn say_line(error: Stderr, line: &[u8]) {
+    let mut to = out::to_error(error);
+    out::write_all(&mut to, line);
+}
+
 // How many arguments there are, the program's own name among them.
 pub fn arg_count(rt: &impl Env) -> usize {
     let mut held = [0u8; 1];
