@@ -114,7 +114,7 @@ fn one<F: Read>(to: &mut Stream, error: Stderr, file: &mut F) -> bool {
 }
 
 // Counts its turns down, as `records` does.
-pub fn all<F: Read>(to: &mut Stream, error: Stderr, file: &mut F) {
+fn all<F: Read>(to: &mut Stream, error: Stderr, file: &mut F) {
     let mut turns = u64::MAX;
     while turns > 0 && one(to, error, file) {
         turns -= 1;
@@ -126,4 +126,8 @@ pub fn count_file<R: Env + Files>(rt: &R, to: &mut Stream, error: Stderr, argume
     if let Some(mut file) = setup::open(rt, error, b"counts", argument) {
         all(to, error, &mut file);
     }
+}
+
+pub fn main<F: Read>(to: &mut Stream, error: Stderr, input: &mut F) {
+    all(to, error, input);
 }

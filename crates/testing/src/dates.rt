@@ -38,7 +38,7 @@ fn one<F: Read>(to: &mut Stream, error: Stderr, file: &mut F) -> bool {
 }
 
 // Counts its turns down, as `records` does.
-pub fn all<F: Read>(to: &mut Stream, error: Stderr, file: &mut F) {
+pub fn main<F: Read>(to: &mut Stream, error: Stderr, file: &mut F) {
     let mut turns = u64::MAX;
     while turns > 0 && one(to, error, file) {
         turns -= 1;

@@ -60,11 +60,11 @@ fn main(rt: HostRuntime) {
         return;
     }
     if setup::is_word(&rt, 1, b"dates") {
-        dates::all(&mut to, error, &mut input);
+        dates::main(&mut to, error, &mut input);
         return;
     }
     if setup::is_word(&rt, 1, b"counts") {
-        counts::all(&mut to, error, &mut input);
+        counts::main(&mut to, error, &mut input);
         return;
     }
     if setup::is_word(&rt, 1, b"pace") {
