@@ -1,0 +1,17 @@
+-- `container::unused::unused_blank` meets its contract. The loop's invariant: what is left to look at decides.
+use mathlib.Core.Path.{◌≡◌, refl, sym, ◌∙◌}
+use Prim.Native.Nat.{◌-◌}
+use native.Mathlib.Omega.{arith}
+use lib.ListN.{length, drop}
+use borrow.Author.Rules.{rules}
+use borrow.Author.Tests.{not-true, not-false}
+use Rattle.format.proofs.Blanks.{blank_no, blank_more, blank_end}
+use Rattle.container.specs.List.{blanks}
+use Rattle.container.proofs.Padded.{blank}
+use Rattle.container.proofs.unused.unused_blank.Given as goal
+
+abbrev pub invariant-loop-i : goal.invariant-loop-i
+invariant-loop-i l = blanks (drop l.i l.v) ≡ blanks (drop l.n l.v)
+
+abbrev pub decreases-loop-i : goal.decreases-loop-i
+decreases-loop-i l = 15 - l.i
