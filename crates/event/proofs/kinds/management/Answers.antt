@@ -1,0 +1,6 @@
+-- `event::kinds::management` meets its contract.
+use borrow.Author.Rules.{rules}
+use Rattle.event.proofs.kinds.management.Goals as goal
+
+pub returns : goal.returns
+returns c = rw c.name_of-name.ensures

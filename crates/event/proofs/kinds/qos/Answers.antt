@@ -1,0 +1,6 @@
+-- `event::kinds::qos` meets its contract.
+use borrow.Author.Rules.{rules}
+use Rattle.event.proofs.kinds.qos.Goals as goal
+
+pub returns : goal.returns
+returns c = rw (c.name_of-name.ensures, c.qos_ok.ensures, c.qos_at-q.ensures)

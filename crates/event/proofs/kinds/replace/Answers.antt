@@ -1,0 +1,6 @@
+-- `event::kinds::replace` meets its contract.
+use borrow.Author.Rules.{rules}
+use Rattle.event.proofs.kinds.replace.Goals as goal
+
+pub returns : goal.returns
+returns c = rw (c.replacement_of-r.ensures, c.limits_ok.ensures, c.limits_at-l.ensures)

@@ -1,0 +1,6 @@
+-- `event::number::two` meets its contract.
+use borrow.Author.Rules.{rules}
+use Rattle.event.proofs.number.two.Goals as goal
+
+pub returns : goal.returns
+returns c = c.number_in.ensures.0
