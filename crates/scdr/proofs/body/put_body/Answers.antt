@@ -41,11 +41,10 @@ bounds-containers-r c =
     let last_known : (1 ≤ c.args.r.count) × (c.args.r.count ≤ 15) =
     count_known c.args.r c.requires places_known in
     omega (
-  arith,
-  last_known,
-  places_known
-      c,
-)
+      arith,
+      last_known,
+      places_known,
+    )
 
 pub put_front-pdp_at-requires : goal.put_front-pdp_at-requires
 put_front-pdp_at-requires c = (withins c.args.r
@@ -64,8 +63,7 @@ pub slice_bounds-put_opt_text-end : goal.slice_bounds-put_opt_text-end
 slice_bounds-put_opt_text-end c =
     let node_known : length c.args.r.nodeid ≡ 20 =
     search rules in
-    sym (node_known
-    c)
+    sym node_known
 
 pub returns : goal.returns
 unfolding duration

@@ -1,5 +1,4 @@
 -- `scdr::closing::cause_ok` meets its contract.
-use borrow.Author.Rules.{rules}
 use Rattle.scdr.specs.Rules.{cause_ok}
 use Rattle.scdr.proofs.closing.cause_ok.Goals as goal
 

@@ -1,6 +1,5 @@
 -- `scdr::closing::number_ok` meets its contract.
 use mathlib.Core.Path.{sym, ◌∙◌}
-use borrow.Author.Rules.{rules}
 use Rattle.scdr.specs.Rules.{number_ok}
 use Rattle.scdr.proofs.closing.number_ok.Goals as goal
 

@@ -1,6 +1,5 @@
 -- `scdr::parts::put_front` meets its contract: its fields one after another.
 use mathlib.Core.Path.{refl}
-use borrow.Author.Rules.{rules}
 use Rattle.format.proofs.Maybe.{guard_yes}
 use Rattle.ber.specs.Table.{row_enc}
 use Rattle.ber.specs.Imsi.{imsi_ok}

@@ -1,6 +1,5 @@
 -- `scdr::read::apn_part` meets its contract.
 use mathlib.Core.Path.{refl}
-use borrow.Author.Rules.{rules}
 use Rattle.scdr.proofs.Accepting.{shows}
 use Rattle.scdr.proofs.read.apn_part.Goals as goal
 

@@ -1,6 +1,5 @@
 -- `scdr::read::no_record` meets its contract.
 use mathlib.Core.Path.{refl}
-use borrow.Author.Rules.{rules}
 use Rattle.container.specs.List.{no_containers}
 use Rattle.octets.specs.Filled.{fill_to}
 use Rattle.scdr.proofs.read.no_record.Goals as goal

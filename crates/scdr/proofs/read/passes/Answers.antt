@@ -1,8 +1,6 @@
 -- `scdr::read::passes` meets its contract.
 use mathlib.Core.Path.{sym, ap, ◌∙◌}
 use lib.Dec.{eqb}
-use borrow.Author.Rules.{rules}
-use borrow.Author.Tests.{not-true, not-false}
 use Rattle.format.proofs.Tests.{true_T}
 use Rattle.scdr.specs.Rules.{within, duration}
 use Rattle.scdr.proofs.Views.{withins, places_rules}
@@ -10,17 +8,16 @@ use Rattle.scdr.proofs.Accepting.{and_no, and_yes}
 use Rattle.scdr.proofs.read.passes.Goals as goal
 
 pub returns-then-not-within : goal.returns-then-not-within
-returns-then-not-within c = and_no (eqb c.args.lasts (duration c.args.r)) (sym c.within.ensures ∙ not-true _
-    c.if-not-within.true-raw)
+returns-then-not-within c = and_no (eqb c.args.lasts (duration c.args.r)) (sym c.within.ensures ∙ c.if-not-within.true)
 
 pub duration-requires : goal.duration-requires
 duration-requires c =
     let r = c.args.r in
-    (places_rules r (withins r (true_T (within r) (sym c.within.ensures ∙ not-false _ c.if-not-within.false-raw))).list).most
+    (places_rules r (withins r (true_T (within r) (sym c.within.ensures ∙ c.if-not-within.false))).list).most
 
 pub returns : goal.returns
 unfolding duration
 returns c =
     let a = c.args in
     ap (eqb a.lasts) c.duration.ensures ∙ and_yes (eqb a.lasts (duration a.r)) (sym c.within.ensures
-    ∙ not-false _ c.if-not-within.false-raw)
+    ∙ c.if-not-within.false)

@@ -1,7 +1,6 @@
 -- `scdr::read::take_apart` meets its contract: a law for each answer.
 use mathlib.Core.Path.{◌∙◌}
 use native.Mathlib.Omega.{arith}
-use borrow.Author.Rules.{rules}
 use Rattle.ber.proofs.Places.{lies_fits, lies_length}
 use Rattle.scdr.proofs.Accepting.{record_not, record_is, wire_yes, wire_no, wire_ends, taken_record, taken_nothing}
 use Rattle.scdr.proofs.read.take_apart.Goals as goal
