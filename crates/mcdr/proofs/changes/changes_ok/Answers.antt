@@ -25,7 +25,7 @@ returns-then-not-follows c =
     let t = c.loop-i in
     count_right a.n _ (omega (arith, few))
     (order_no a.v a.n (omega (arith, few)) a.opening.zone t.from t.at t.i _ c.loop-i-test.true
-    (sym c.follows.ensures ∙ not-true _ c.if-not-follows.true-raw) ∙ t.invariant)
+    (sym c.follows.ensures ∙ c.if-not-follows.true) ∙ t.invariant)
 
 pub loop-i-preserved : goal.loop-i-preserved
 loop-i-preserved c =
@@ -36,7 +36,7 @@ loop-i-preserved c =
     let l = long in
     let t = c.loop-i in
     order_more a.v a.n (omega (arith, few)) a.opening.zone t.from t.at t.i _ c.loop-i-test.true
-    (sym c.follows.ensures ∙ not-false _ c.if-not-follows.false-raw) ∙ t.invariant
+    (sym c.follows.ensures ∙ c.if-not-follows.false) ∙ t.invariant
 
 pub returns : goal.returns
 returns c =

@@ -20,7 +20,7 @@ returns-then-not-is_blank c =
     let l = c.loop-i in
     let z = long in
     blank_no blank c.args.v l.i _ (omega (arith, c.loop-i-test.true))
-    (sym c.is_blank.ensures ∙ not-true _ c.if-not-is_blank.true-raw) ∙ l.invariant
+    (sym c.is_blank.ensures ∙ c.if-not-is_blank.true) ∙ l.invariant
 
 pub loop-i-preserved : goal.loop-i-preserved
 loop-i-preserved c =
@@ -29,7 +29,7 @@ loop-i-preserved c =
     let l = c.loop-i in
     let z = long in
     blank_more blank c.args.v l.i _ (omega (arith, c.loop-i-test.true))
-    (sym c.is_blank.ensures ∙ not-false _ c.if-not-is_blank.false-raw) ∙ l.invariant
+    (sym c.is_blank.ensures ∙ c.if-not-is_blank.false) ∙ l.invariant
 
 pub returns : goal.returns
 returns c =

@@ -12,7 +12,7 @@ pub returns : goal.returns
 returns c =
     let short : length c.args.s.now < nowhere =
     omega arith in
-    let octet : c.octet_at-rac.result.v < 256 = omega (arith, c.octet_at-rac.type-inv) in
+    let octet : c.octet_at-rac.result.v < 256 = omega (arith, c.octet_at-rac.type_inv) in
     wired short
     c.const_at-kind_end.ensures
     c.imsi_at-imsi.ensures

@@ -15,7 +15,7 @@ use Rattle.mcdr.proofs.list.list_at.Goals as goal
 pub returns-then-not-tag_at : goal.returns-then-not-tag_at
 returns-then-not-tag_at c =
     let a = c.args in
-    let missing = sym c.tag_at.ensures ∙ not-true _ c.if-not-tag_at.true-raw in
+    let missing = sym c.tag_at.ensures ∙ c.if-not-tag_at.true in
     lists_none c.nothing.ensures (rw c.stay.ensures (maybe_none a.tag changes a.s.now a.at missing))
 
 pub slice_bounds-contents-count : goal.slice_bounds-contents-count
@@ -31,12 +31,12 @@ pub returns-then-l : goal.returns-then-l
 returns-then-l c =
     let short : length c.args.s.now < nowhere =
     omega (arith, c.well_formed.0.1) in
-    lists_there (sym c.tag_at.ensures ∙ not-false _ c.if-not-tag_at.false-raw) short c.part_at-part.ensures
+    lists_there (sym c.tag_at.ensures ∙ c.if-not-tag_at.false) short c.part_at-part.ensures
     c.list_of-l.ensures c.if-l.true
 
 pub returns : goal.returns
 returns c =
     let short : length c.args.s.now < nowhere =
     omega (arith, c.well_formed.0.1) in
-    lists_none c.nothing-2.ensures (lists_bad (sym c.tag_at.ensures ∙ not-false _ c.if-not-tag_at.false-raw) short
+    lists_none c.nothing-2.ensures (lists_bad (sym c.tag_at.ensures ∙ c.if-not-tag_at.false) short
     c.part_at-part.ensures c.list_of-l.ensures c.if-l.false)

@@ -28,8 +28,8 @@ pub returns-then-stamp-contents : goal.returns-then-stamp-contents
 returns-then-stamp-contents c =
     let h : length c.args.s.now < nowhere = omega (arith, c.well_formed.0.1) in
     let l = c.part_at-part.ensures in
-    let p : c.two_octets_at-lac.result.v < 256 ^ 2 = omega (arith, c.two_octets_at-lac.type-inv) in
-    let q : c.octet_at-rac.result.v < 256 = omega (arith, c.octet_at-rac.type-inv) in
+    let p : c.two_octets_at-lac.result.v < 256 ^ 2 = omega (arith, c.two_octets_at-lac.type_inv) in
+    let q : c.octet_at-rac.result.v < 256 = omega (arith, c.octet_at-rac.type_inv) in
     under_some change l (change_yes (lies_less l h) c.two_octets_at-lac.ensures c.octet_at-rac.ensures c.stamp_at-stamp.ensures p q
     (rw c.stamp_within.ensures at c.if-stamp-contents.true)) change_hollow
 
@@ -37,7 +37,7 @@ pub returns : goal.returns
 returns c =
     let h : length c.args.s.now < nowhere = omega (arith, c.well_formed.0.1) in
     let l = c.part_at-part.ensures in
-    let p : c.two_octets_at-lac.result.v < 256 ^ 2 = omega (arith, c.two_octets_at-lac.type-inv) in
-    let q : c.octet_at-rac.result.v < 256 = omega (arith, c.octet_at-rac.type-inv) in
+    let p : c.two_octets_at-lac.result.v < 256 ^ 2 = omega (arith, c.two_octets_at-lac.type_inv) in
+    let q : c.octet_at-rac.result.v < 256 = omega (arith, c.octet_at-rac.type_inv) in
     reads_as c.no_change-2.ensures (under_none change l (change_no (lies_less l h) c.two_octets_at-lac.ensures c.octet_at-rac.ensures
     c.stamp_at-stamp.ensures p q (rw c.stamp_within.ensures at c.if-stamp-contents.false)))

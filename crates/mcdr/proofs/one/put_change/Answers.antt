@@ -11,10 +11,10 @@ use Rattle.mcdr.specs.Change.{change_tag}
 use Rattle.mcdr.proofs.one.put_change.Goals as goal
 
 pub returns-then-not-stamp_within : goal.returns-then-not-stamp_within
-returns-then-not-stamp_within c = puts_not (stamp_ok c.args.c.time) _ (sym c.stamp_within.ensures ∙ not-true _ c.if-not-stamp_within.true-raw)
+returns-then-not-stamp_within c = puts_not (stamp_ok c.args.c.time) _ (sym c.stamp_within.ensures ∙ c.if-not-stamp_within.true)
 
 pub put_fields-end-requires : goal.put_fields-end-requires
-put_fields-end-requires c = (refl, true_T _ (sym c.stamp_within.ensures ∙ not-false _ c.if-not-stamp_within.false-raw))
+put_fields-end-requires c = (refl, true_T _ (sym c.stamp_within.ensures ∙ c.if-not-stamp_within.false))
 
 pub slice_bounds-b-end : goal.slice_bounds-b-end
 slice_bounds-b-end c = c.put_fields-end.ensures.inside
@@ -26,4 +26,4 @@ pub returns : goal.returns
 returns c =
     let f = c.put_fields-end.ensures in
     puts_is (ready (stamp_ok c.args.c.time) change_tag
-    (sym c.stamp_within.ensures ∙ not-false _ c.if-not-stamp_within.false-raw) f.front (omega (arith, f.most))) c.put_tlv.ensures
+    (sym c.stamp_within.ensures ∙ c.if-not-stamp_within.false) f.front (omega (arith, f.most))) c.put_tlv.ensures
