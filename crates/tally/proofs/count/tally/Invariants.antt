@@ -1,0 +1,11 @@
+-- `tally::count::tally` meets its contract: what was counted and what is left give the whole, and a step goes over four octets or more.
+use Rattle.std.proofs.Common.{◌-◌, length, sym, ◌∙◌, arith, rules}
+use borrow.Author.Tests.{not-true, not-false}
+use Rattle.tally.proofs.Tallies.{Tallying, tally_start, tally_end, tally_within, tally_refused, tally_moves, tally_one, tally_named, tally_other}
+use Rattle.tally.proofs.count.tally.Given as goal
+
+abbrev pub invariant-loop-k : goal.invariant-loop-k
+invariant-loop-k l = Tallying l.ended l.id l.ggsn l.s l.at l.count l.number
+
+abbrev pub decreases-loop-k : goal.decreases-loop-k
+decreases-loop-k l = length l.s - l.at
