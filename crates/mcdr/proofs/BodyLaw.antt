@@ -1,7 +1,7 @@
 -- The law of the record's fields: that of each row's values, and no tag stands twice. The tags as plain lists, for who looks them up.
 use mathlib.Core.Path.{◌≡◌, refl}
 use mathlib.Core.Bool.{true}
-use mathlib.Core.List.{List, [], ◌∷◌}
+use mathlib.Core.List.{[], ◌∷◌}
 use Prim.Native.Nat.{◌^◌}
 use lib.Dec.{leb, ltb}
 use lib.ListN.{length}

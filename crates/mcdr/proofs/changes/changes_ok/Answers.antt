@@ -1,11 +1,8 @@
 -- `mcdr::changes::changes_ok` meets its contract. The loop's invariant: what is left to look at, from the last time and place on, decides.
 use mathlib.Core.Path.{◌≡◌, refl, sym, ◌∙◌}
-use Prim.Native.Nat.{◌-◌}
 use native.Mathlib.Omega.{arith}
-use lib.ListN.{length, take, drop}
+use lib.ListN.{length}
 use borrow.Author.Rules.{rules}
-use borrow.Author.Tests.{not-true, not-false}
-use Rattle.mcdr.specs.Changes.{changes_ok}
 use Rattle.mcdr.proofs.Order.{order_no, order_more, order_end, count_many, count_right}
 use Rattle.mcdr.proofs.changes.changes_ok.Goals as goal
 

@@ -1,12 +1,8 @@
 -- `mcdr::changes::changes_ok` meets its contract. The loop's invariant: what is left to look at, from the last time and place on, decides.
-use mathlib.Core.Path.{◌≡◌, refl, sym, ◌∙◌}
+use mathlib.Core.Path.{◌≡◌}
 use Prim.Native.Nat.{◌-◌}
-use native.Mathlib.Omega.{arith}
-use lib.ListN.{length, take, drop}
-use borrow.Author.Rules.{rules}
-use borrow.Author.Tests.{not-true, not-false}
+use lib.ListN.{take, drop}
 use Rattle.mcdr.specs.Changes.{changes_ok}
-use Rattle.mcdr.proofs.Order.{order_no, order_more, order_end, count_many, count_right}
 use Rattle.mcdr.proofs.changes.changes_ok.Given as goal
 
 abbrev pub invariant-loop-i : goal.invariant-loop-i

@@ -3,7 +3,6 @@ use mathlib.Core.Path.{ap₂}
 use mathlib.Core.Bool.{Bool, not, ◌&&◌}
 use lib.Dec.{leb, eqb}
 use Rattle.mcdr.specs.Change.{follows}
-use borrow.Author.Rules.{rules}
 use Rattle.mcdr.proofs.changes.follows.Goals as goal
 
 pub returns : goal.returns

@@ -1,6 +1,5 @@
 -- `mcdr::changes::place_now` meets its contract: the last one used, or the array's last.
 use mathlib.Core.Path.{◌≡◌}
-use mathlib.Core.Logic.{⊎_elim}
 use Prim.Native.Nat.{◌<◌, suc}
 use native.Mathlib.Omega.{arith}
 use lib.ListN.{length, take, length-take}

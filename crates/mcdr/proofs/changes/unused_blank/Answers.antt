@@ -1,12 +1,9 @@
 -- `mcdr::changes::unused_blank` meets its contract. The loop's invariant: what is left to look at decides.
 use mathlib.Core.Path.{◌≡◌, refl, sym, ◌∙◌}
-use Prim.Native.Nat.{◌-◌}
 use native.Mathlib.Omega.{arith}
-use lib.ListN.{length, drop}
+use lib.ListN.{length}
 use borrow.Author.Rules.{rules}
-use borrow.Author.Tests.{not-true, not-false}
 use Rattle.format.proofs.Blanks.{blank_no, blank_more, blank_end}
-use Rattle.mcdr.specs.Changes.{blanks}
 use Rattle.mcdr.proofs.Padded.{blank}
 use Rattle.mcdr.proofs.changes.unused_blank.Goals as goal
 

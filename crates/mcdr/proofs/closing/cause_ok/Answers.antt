@@ -1,6 +1,5 @@
 -- `mcdr::closing::cause_ok` meets its contract.
 use Rattle.mcdr.specs.Rules.{cause_ok}
-use borrow.Author.Rules.{rules}
 use Rattle.mcdr.proofs.closing.cause_ok.Goals as goal
 
 pub returns : goal.returns

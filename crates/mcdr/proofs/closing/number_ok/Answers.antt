@@ -1,7 +1,6 @@
 -- `mcdr::closing::number_ok` meets its contract.
 use mathlib.Core.Path.{sym, ◌∙◌}
 use Rattle.mcdr.specs.Rules.{number_ok}
-use borrow.Author.Rules.{rules}
 use Rattle.mcdr.proofs.closing.number_ok.Goals as goal
 
 pub returns-then-is_detach : goal.returns-then-is_detach

@@ -3,7 +3,6 @@ use mathlib.Core.Path.{refl}
 use native.Mathlib.Omega.{arith}
 use Prim.Native.Nat.{◌<◌}
 use lib.ListN.{length}
-use borrow.Author.Rules.{rules}
 use Rattle.ber.specs.Read.{nowhere}
 use Rattle.mcdr.proofs.Reading.{wired}
 use Rattle.mcdr.proofs.fields.read_fields.Goals as goal

@@ -1,10 +1,8 @@
 -- `mcdr::list::list_at` meets its contract: the tag is not there, the contents are a list, or not.
-use mathlib.Core.Path.{◌≡◌, sym, ◌∙◌}
+use mathlib.Core.Path.{sym, ◌∙◌}
 use Prim.Native.Nat.{◌<◌}
 use native.Mathlib.Omega.{arith}
 use lib.ListN.{length}
-use borrow.Author.Rules.{rules}
-use borrow.Author.Tests.{not-true, not-false}
 use Rattle.ber.specs.Read.{nowhere}
 use Rattle.ber.proofs.Places.{lies_fits}
 use Rattle.ber.proofs.Readers.{maybe_none}

@@ -1,7 +1,6 @@
 -- `mcdr::list::no_list` meets its contract.
 use mathlib.Core.Path.{refl}
 use Rattle.mcdr.specs.Changes.{no_changes}
-use borrow.Author.Rules.{rules}
 use Rattle.mcdr.proofs.list.no_list.Goals as goal
 
 pub returns : goal.returns

@@ -1,7 +1,6 @@
 -- `mcdr::list::nothing` meets its contract.
 use mathlib.Core.Path.{refl}
 use Rattle.mcdr.specs.Changes.{no_changes}
-use borrow.Author.Rules.{rules}
 use Rattle.mcdr.proofs.list.nothing.Goals as goal
 
 pub returns : goal.returns

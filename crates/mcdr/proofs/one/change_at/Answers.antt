@@ -1,9 +1,7 @@
 -- `mcdr::one::change_at` meets its contract: the contents are a change's fields in range, or not.
-use mathlib.Core.Path.{◌≡◌}
 use Prim.Native.Nat.{◌<◌, ◌^◌}
 use native.Mathlib.Omega.{arith}
 use lib.ListN.{length}
-use borrow.Author.Rules.{rules}
 use Rattle.ber.specs.Read.{nowhere}
 use Rattle.ber.proofs.Places.{lies_fits, lies_less}
 use Rattle.ber.proofs.Readers.{under_none, under_absent, under_some}

@@ -1,6 +1,5 @@
 -- `mcdr::one::put_fields` meets its contract: the fields follow one another, with room for all.
 use Rattle.mcdr.proofs.ChangeFields.{change_filled}
-use borrow.Author.Rules.{rules}
 use Rattle.mcdr.proofs.one.put_fields.Goals as goal
 
 pub returns : goal.returns

@@ -5,7 +5,6 @@ use Rattle.ber.specs.Table.{row_enc}
 use Rattle.ber.proofs.Writers.{wrote, wrote_then, wrote_none}
 use Rattle.calendar.specs.Stamp.{stamp_ok}
 use Rattle.mcdr.specs.Table.{Opening}
-use borrow.Author.Rules.{rules}
 use Rattle.mcdr.proofs.parts.put_end.Goals as goal
 
 pub returns : goal.returns

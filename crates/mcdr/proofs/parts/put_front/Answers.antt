@@ -5,7 +5,6 @@ use Rattle.ber.specs.Table.{row_enc}
 use Rattle.ber.specs.Imsi.{imsi_ok}
 use Rattle.ber.proofs.Writers.{wrote, wrote_then, wrote_none}
 use Rattle.mcdr.specs.Table.{Imsi}
-use borrow.Author.Rules.{rules}
 use Rattle.mcdr.proofs.parts.put_front.Goals as goal
 
 pub returns : goal.returns

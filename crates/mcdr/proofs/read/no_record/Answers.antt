@@ -2,7 +2,6 @@
 use mathlib.Core.Path.{refl}
 use Rattle.octets.specs.Filled.{fill_to}
 use Rattle.mcdr.specs.Changes.{no_changes}
-use borrow.Author.Rules.{rules}
 use Rattle.mcdr.proofs.read.no_record.Goals as goal
 
 pub returns : goal.returns

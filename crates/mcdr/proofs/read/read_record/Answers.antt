@@ -1,7 +1,6 @@
 -- `mcdr::read::read_record` meets its contract: a law for each answer.
 use mathlib.Core.Path.{◌∙◌}
 use native.Mathlib.Omega.{arith}
-use borrow.Author.Rules.{rules}
 use Rattle.ber.proofs.Places.{lies_fits}
 use Rattle.mcdr.proofs.Accepting.{record_not, record_is, wire_yes, wire_no, reads_record, reads_nothing}
 use Rattle.mcdr.proofs.read.read_record.Goals as goal

@@ -5,7 +5,6 @@ use Prim.Native.Nat.{ℕ}
 use lib.Dec.{eqb}
 use Rattle.ber.proofs.Imsis.{imsi_room_lem}
 use Rattle.mcdr.proofs.Answering.{rules_found}
-use borrow.Author.Rules.{rules}
 use Rattle.mcdr.proofs.rules.within.Goals as goal
 
 pub returns : goal.returns

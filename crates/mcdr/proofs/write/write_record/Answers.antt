@@ -4,7 +4,6 @@ use mathlib.Core.Bool.{true}
 use native.Mathlib.Omega.{arith}
 use lib.ListN.{length}
 use borrow.Author.Rules.{rules}
-use borrow.Author.Tests.{not-true, not-false}
 use Rattle.format.proofs.Tests.{true_T}
 use Rattle.format.proofs.Arrays.{length_of_map}
 use Rattle.ber.proofs.Writers.{puts_is, filled}
