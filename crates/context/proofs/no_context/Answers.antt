@@ -1,5 +1,4 @@
 -- `context::no_context` meets its contract.
-use borrow.Author.Rules.{rules}
 use Rattle.octets.specs.Filled.{fill_to}
 use Rattle.context.proofs.no_context.Goals as goal
 

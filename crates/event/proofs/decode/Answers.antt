@@ -1,6 +1,5 @@
 -- `event::decode` meets its contract: a law for each row.
 use native.Mathlib.Omega.{arith}
-use borrow.Author.Rules.{rules}
 use Rattle.event.proofs.Table.{entry_known, entry_long, entry_right, entry_says}
 use Rattle.event.proofs.Tried.{holds, fails, row_1, row_2, row_3, row_4, row_5, row_none}
 use Rattle.event.proofs.Saying.{said_is, refused_is}

@@ -1,7 +1,6 @@
 -- `container::field::list_at` meets its contract: the contents are a list, or not.
 use mathlib.Core.Path.{refl}
 use native.Mathlib.Omega.{arith}
-use borrow.Author.Rules.{rules}
 use Rattle.ber.proofs.Places.{lies_fits}
 use Rattle.ber.proofs.Readers.{under_absent}
 use Rattle.container.specs.List.{containers}

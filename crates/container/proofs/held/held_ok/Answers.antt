@@ -4,7 +4,7 @@ use mathlib.Core.Path.{◌≡◌}
 use native.Mathlib.Omega.{arith}
 use lib.ListN.{length}
 use borrow.Author.Rules.{rules}
-use Rattle.container.proofs.Opens.{Held, held_all, held_no, held_next, held_end}
+use Rattle.container.proofs.Opens.{held_all, held_no, held_next, held_end}
 use Rattle.container.proofs.held.held_ok.Goals as goal
 
 pub loop-i-init : goal.loop-i-init

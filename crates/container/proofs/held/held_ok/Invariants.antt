@@ -1,10 +1,6 @@
 -- `container::held::held_ok` meets its contract. The loop's invariant: the places that are left to look at decide, with what those after
 -- them leave to them.
-use mathlib.Core.Path.{◌≡◌}
-use native.Mathlib.Omega.{arith}
-use lib.ListN.{length}
-use borrow.Author.Rules.{rules}
-use Rattle.container.proofs.Opens.{Held, held_all, held_no, held_next, held_end}
+use Rattle.container.proofs.Opens.{Held}
 use Rattle.container.proofs.held.held_ok.Given as goal
 
 abbrev pub invariant-loop-i : goal.invariant-loop-i

@@ -1,10 +1,6 @@
 -- `container::held::left_after` meets its contract. The loop's invariant: what is left to rest_of comes off what is left.
-use mathlib.Core.Path.{◌≡◌}
 use Prim.Native.Nat.{◌-◌}
-use native.Mathlib.Omega.{arith}
-use lib.ListN.{length, length-take}
-use borrow.Author.Rules.{rules}
-use Rattle.container.proofs.Opens.{LeftRest, left_all, left_next, left_end}
+use Rattle.container.proofs.Opens.{LeftRest}
 use Rattle.container.proofs.held.left_after.Given as goal
 
 abbrev pub invariant-loop-i : goal.invariant-loop-i

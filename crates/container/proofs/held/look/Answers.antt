@@ -1,5 +1,4 @@
 -- `container::held::look` meets its contract: a place that is used, and one that is not.
-use borrow.Author.Rules.{rules}
 use Rattle.container.specs.Private.Stepwise.{looked}
 use Rattle.container.proofs.held.look.Goals as goal
 

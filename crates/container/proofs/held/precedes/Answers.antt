@@ -2,7 +2,6 @@
 use mathlib.Core.Path.{ap₂}
 use mathlib.Core.Bool.{Bool, ◌&&◌}
 use lib.Dec.{leb, ltb, eqb}
-use borrow.Author.Rules.{rules}
 use Rattle.container.specs.Private.Stepwise.{precedes}
 use Rattle.container.proofs.held.precedes.Goals as goal
 

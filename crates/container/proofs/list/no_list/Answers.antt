@@ -1,6 +1,5 @@
 -- `container::list::no_list` meets its contract.
 use mathlib.Core.Path.{refl}
-use borrow.Author.Rules.{rules}
 use Rattle.container.specs.List.{no_containers}
 use Rattle.container.proofs.list.no_list.Goals as goal
 

@@ -3,7 +3,6 @@ use mathlib.Core.Path.{ap₂}
 use mathlib.Core.Bool.{Bool, ◌&&◌}
 use Prim.Native.Nat.{◌^◌}
 use lib.Dec.{leb, ltb}
-use borrow.Author.Rules.{rules}
 use Rattle.container.specs.Container.{container_ok}
 use Rattle.container.proofs.one.container_ok.Goals as goal
 

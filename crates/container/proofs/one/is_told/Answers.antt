@@ -1,6 +1,5 @@
 -- `container::one::is_told` meets its contract: a law for each answer.
 use mathlib.Core.Path.{◌∙◌, sym}
-use borrow.Author.Rules.{rules}
 use Rattle.container.proofs.Fields.{told_always, told_same}
 use Rattle.container.proofs.one.is_told.Goals as goal
 

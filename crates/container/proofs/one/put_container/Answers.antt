@@ -1,7 +1,6 @@
 -- `container::one::put_container` meets its contract: its fields fill the array's front, which goes under the tag.
 use mathlib.Core.Path.{◌∙◌, refl, sym}
 use native.Mathlib.Omega.{arith}
-use borrow.Author.Rules.{rules}
 use borrow.Author.Tests.{not-true, not-false}
 use Rattle.format.proofs.Tests.{true_T}
 use Rattle.ber.proofs.Writers.{puts_is}

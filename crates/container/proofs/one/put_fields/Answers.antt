@@ -1,5 +1,4 @@
 -- `container::one::put_fields` meets its contract: the fields follow one another, with room for all.
-use borrow.Author.Rules.{rules}
 use Rattle.container.proofs.Fields.{container_filled}
 use Rattle.container.proofs.one.put_fields.Goals as goal
 

@@ -1,6 +1,5 @@
 -- `container::one::put_qos_after` meets its contract: a profile under its tag, or nothing.
 use mathlib.Core.Path.{◌∙◌, sym}
-use borrow.Author.Rules.{rules}
 use Rattle.ber.proofs.Writers.{puts_is}
 use Rattle.container.proofs.Fields.{form_own, form_none, nothing_front}
 use Rattle.container.proofs.one.put_qos_after.Goals as goal

@@ -1,6 +1,5 @@
 -- `container::one::qos_after` meets its contract: the profile is read, or it is that of the container before.
 use mathlib.Core.Path.{◌∙◌, refl, sym}
-use borrow.Author.Rules.{rules}
 use Rattle.container.proofs.Fields.{qos_read, qos_told}
 use Rattle.container.proofs.one.qos_after.Goals as goal
 

@@ -1,10 +1,9 @@
 -- `container::open::changed` meets its contract.
-use mathlib.Core.Path.{◌≡◌, sym, ◌∙◌}
+use mathlib.Core.Path.{sym, ◌∙◌}
 use mathlib.Core.Bool.{◌&&◌, and-false}
 use lib.Dec.{ltb}
 use lib.ListN.{drop}
 use borrow.Author.Tests.{le-ltb, lt-ltb, not-true, not-false}
-use borrow.Author.Rules.{rules}
 use Rattle.container.specs.List.{blanks}
 use Rattle.container.proofs.open.changed.Goals as goal
 

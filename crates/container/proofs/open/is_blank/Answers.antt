@@ -1,6 +1,5 @@
 -- `container::open::is_blank` meets its contract: the code is the test.
 use Rattle.container.specs.Open.{blank_open}
-use borrow.Author.Rules.{rules}
 use Rattle.container.proofs.open.is_blank.Goals as goal
 
 pub returns : goal.returns

@@ -1,6 +1,5 @@
 -- `container::open::is_sound` meets its contract: the rules, as the code finds them.
 use Rattle.container.proofs.OpenRules.{rules_found}
-use borrow.Author.Rules.{rules}
 use Rattle.container.proofs.open.is_sound.Goals as goal
 
 pub returns : goal.returns

@@ -1,5 +1,4 @@
 -- `container::open::no_open` meets its contract.
-use borrow.Author.Rules.{rules}
 use Rattle.container.proofs.open.no_open.Goals as goal
 
 pub returns : goal.returns

@@ -1,6 +1,5 @@
 -- `container::open::opened` meets its contract.
 use Rattle.container.specs.List.{no_containers}
-use borrow.Author.Rules.{rules}
 use Rattle.container.proofs.open.opened.Goals as goal
 
 pub returns : goal.returns

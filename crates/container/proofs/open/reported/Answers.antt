@@ -1,7 +1,6 @@
 -- `container::open::reported` meets its contract.
 use Prim.Native.Nat.{◌^◌}
 use borrow.Author.Tests.{le-ltb, lt-ltb}
-use borrow.Author.Rules.{rules}
 use Rattle.container.proofs.open.reported.Goals as goal
 
 pub returns-then-o-ge9223372036854775808 : goal.returns-then-o-ge9223372036854775808

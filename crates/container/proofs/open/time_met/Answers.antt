@@ -1,5 +1,4 @@
 -- `container::open::time_met` meets its contract.
-use borrow.Author.Rules.{rules}
 use Rattle.container.proofs.open.time_met.Goals as goal
 
 pub returns : goal.returns

@@ -1,6 +1,5 @@
 -- `container::open::volume_left` meets its contract.
 use native.Mathlib.Omega.{arith}
-use borrow.Author.Rules.{rules}
 use Rattle.container.proofs.open.volume_left.Goals as goal
 
 pub returns : goal.returns

@@ -1,5 +1,4 @@
 -- `container::open::volume_met` meets its contract: what is left of the limit is no more than the last counter.
-use borrow.Author.Rules.{rules}
 use Rattle.container.proofs.OpenRules.{limit_met_lem}
 use Rattle.container.proofs.open.volume_met.Goals as goal
 

@@ -1,5 +1,4 @@
 -- `container::qos_profile::put_fields` meets its contract: the five fields follow one another, with room for all.
-use borrow.Author.Rules.{rules}
 use Rattle.container.proofs.Fields.{qos_filled}
 use Rattle.container.proofs.qos_profile.put_fields.Goals as goal
 

@@ -1,7 +1,6 @@
 -- `container::qos_profile::put_qos` meets its contract: the five fields fill the array, which goes under the tag.
 use mathlib.Core.Path.{◌∙◌, refl, sym}
 use native.Mathlib.Omega.{arith}
-use borrow.Author.Rules.{rules}
 use borrow.Author.Tests.{not-true, not-false}
 use Rattle.format.proofs.Tests.{true_T}
 use Rattle.ber.proofs.Writers.{puts_is}

@@ -2,7 +2,6 @@
 use Prim.Native.Nat.{◌<◌}
 use native.Mathlib.Omega.{arith}
 use lib.ListN.{length}
-use borrow.Author.Rules.{rules}
 use Rattle.ber.specs.Read.{nowhere}
 use Rattle.ber.proofs.Places.{lies_fits, lies_less}
 use Rattle.ber.proofs.Readers.{under_none, under_absent, under_some}

@@ -2,7 +2,6 @@
 use mathlib.Core.Path.{ap, ◌∙◌}
 use mathlib.Core.Bool.{Bool, not, beq}
 use lib.Dec.{eqb}
-use borrow.Author.Rules.{rules}
 use Rattle.container.proofs.rules.changes.Goals as goal
 
 pub returns : goal.returns

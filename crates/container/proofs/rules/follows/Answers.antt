@@ -2,7 +2,6 @@
 use mathlib.Core.Path.{ap}
 use mathlib.Core.Bool.{Bool, ◌&&◌}
 use lib.Dec.{ltb}
-use borrow.Author.Rules.{rules}
 use Rattle.container.specs.Private.Stepwise.{follows}
 use Rattle.container.proofs.rules.follows.Goals as goal
 

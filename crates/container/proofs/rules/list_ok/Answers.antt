@@ -1,12 +1,11 @@
 -- `container::rules::list_ok` meets its contract. The loop's invariant: what is left to look at, from the last time on, decides. Assumes
 -- nothing.
-use mathlib.Core.Path.{◌≡◌, sym, ◌∙◌}
-use Prim.Native.Nat.{◌-◌}
+use mathlib.Core.Path.{◌≡◌}
 use native.Mathlib.Omega.{arith}
 use lib.ListN.{length}
 use borrow.Author.Tests.{not-true, not-false}
 use borrow.Author.Rules.{rules}
-use Rattle.container.proofs.Stepwise.{ok_few, ok_many, Turning, turning_none, turning_more, turning_no, turning_end}
+use Rattle.container.proofs.Stepwise.{ok_few, ok_many, turning_none, turning_more, turning_no, turning_end}
 use Rattle.container.proofs.rules.list_ok.Goals as goal
 
 pub returns-then-n-lt1 : goal.returns-then-n-lt1

@@ -1,7 +1,6 @@
 -- `container::rules::pair_ok` meets its contract: the code is the test.
 use mathlib.Core.Path.{ap₂}
 use mathlib.Core.Bool.{Bool, ◌&&◌}
-use borrow.Author.Rules.{rules}
 use Rattle.container.proofs.rules.pair_ok.Goals as goal
 
 pub returns : goal.returns

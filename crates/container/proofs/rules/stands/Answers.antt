@@ -2,7 +2,6 @@
 use mathlib.Core.Path.{ap}
 use mathlib.Core.Bool.{Bool, ◌&&◌}
 use lib.Dec.{leb, eqb}
-use borrow.Author.Rules.{rules}
 use Rattle.container.specs.Private.Stepwise.{stands}
 use Rattle.container.proofs.rules.stands.Goals as goal
 

@@ -2,7 +2,6 @@
 use mathlib.Core.Path.{sym, ◌∙◌}
 use mathlib.Core.List.{[]}
 use native.Mathlib.Omega.{arith}
-use borrow.Author.Rules.{rules}
 use Rattle.ber.proofs.Places.{lies_fits}
 use Rattle.ber.proofs.Readers.{under_none, under_absent, under_some}
 use Rattle.calendar.specs.Stamp.{stamp}

@@ -2,7 +2,6 @@
 use mathlib.Core.Path.{ap, ◌∙◌}
 use mathlib.Core.Bool.{Bool, ◌&&◌}
 use lib.Dec.{eqb}
-use borrow.Author.Rules.{rules}
 use Rattle.container.specs.declared.Qos.{Qos}
 use Rattle.container.specs.Qos.{same_qos}
 use Rattle.container.specs.List.{is_blank}

@@ -1,12 +1,10 @@
 -- `container::unused::unused_blank` meets its contract. The loop's invariant: what is left to look at decides.
 use mathlib.Core.Path.{◌≡◌, refl, sym, ◌∙◌}
-use Prim.Native.Nat.{◌-◌}
 use native.Mathlib.Omega.{arith}
-use lib.ListN.{length, drop}
+use lib.ListN.{length}
 use borrow.Author.Rules.{rules}
 use borrow.Author.Tests.{not-true, not-false}
 use Rattle.format.proofs.Blanks.{blank_no, blank_more, blank_end}
-use Rattle.container.specs.List.{blanks}
 use Rattle.container.proofs.Padded.{blank}
 use Rattle.container.proofs.unused.unused_blank.Goals as goal
 

@@ -1,13 +1,8 @@
 -- `container::unused::unused_blank` meets its contract. The loop's invariant: what is left to look at decides.
-use mathlib.Core.Path.{◌≡◌, refl, sym, ◌∙◌}
+use mathlib.Core.Path.{◌≡◌}
 use Prim.Native.Nat.{◌-◌}
-use native.Mathlib.Omega.{arith}
-use lib.ListN.{length, drop}
-use borrow.Author.Rules.{rules}
-use borrow.Author.Tests.{not-true, not-false}
-use Rattle.format.proofs.Blanks.{blank_no, blank_more, blank_end}
+use lib.ListN.{drop}
 use Rattle.container.specs.List.{blanks}
-use Rattle.container.proofs.Padded.{blank}
 use Rattle.container.proofs.unused.unused_blank.Given as goal
 
 abbrev pub invariant-loop-i : goal.invariant-loop-i

@@ -1,13 +1,11 @@
 -- `context::slots::all_distinct` meets its contract. Both loops' invariant: what is left to look at decides.
 use mathlib.Core.Path.{◌≡◌, refl, sym, ap}
 use mathlib.Core.Bool.{not}
-use Prim.Native.Nat.{◌+◌, ◌-◌}
 use native.Mathlib.Omega.{arith}
 use lib.ListN.{length}
 use borrow.Author.Rules.{rules}
 use Rattle.format.proofs.Arrays.{length_of_map}
-use Rattle.history.proofs.Scans.{Rest, rest_all, rest_no, rest_next, rest_end, alone}
-use Rattle.context.specs.Slots.{naming, distinct}
+use Rattle.history.proofs.Scans.{rest_all, rest_no, rest_next, rest_end}
 use Rattle.context.proofs.Scans.{alone_asks, distinct_asks}
 use Rattle.context.proofs.slots.all_distinct.Goals as goal
 

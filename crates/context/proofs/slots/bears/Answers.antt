@@ -1,5 +1,4 @@
 -- `context::slots::bears` meets its contract: the code is the test.
-use borrow.Author.Rules.{rules}
 use Rattle.context.specs.Slots.{is_active, bears}
 use Rattle.context.proofs.slots.bears.Goals as goal
 

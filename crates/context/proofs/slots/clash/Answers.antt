@@ -1,5 +1,4 @@
 -- `context::slots::clash` meets its contract: the code is the test.
-use borrow.Author.Rules.{rules}
 use Rattle.context.specs.Slots.{is_active}
 use Rattle.context.specs.Private.Clash.{clash}
 use Rattle.context.proofs.slots.clash.Goals as goal

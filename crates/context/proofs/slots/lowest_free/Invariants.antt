@@ -1,12 +1,7 @@
 -- `context::slots::lowest_free` meets its contract. The loop's invariant: none before i passes.
-use mathlib.Core.Path.{◌≡◌, ap}
 use Prim.Native.Nat.{◌-◌}
-use native.Mathlib.Omega.{arith}
-use lib.ListN.{length}
-use borrow.Author.Rules.{rules}
-use Rattle.format.proofs.Arrays.{length_of_map}
-use Rattle.context.specs.Slots.{is_free, found_at}
-use Rattle.history.proofs.Scans.{Scan, scan_all, scan_here, scan_next, scan_end}
+use Rattle.context.specs.Slots.{is_free}
+use Rattle.history.proofs.Scans.{Scan}
 use Rattle.context.proofs.slots.lowest_free.Given as goal
 
 abbrev pub invariant-loop-i : goal.invariant-loop-i

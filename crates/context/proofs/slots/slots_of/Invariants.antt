@@ -1,11 +1,6 @@
 -- `context::slots::slots_of` meets its contract. The loop's invariant: the first i names are copied.
-use mathlib.Core.Path.{◌≡◌}
 use Prim.Native.Nat.{◌-◌}
-use native.Mathlib.Omega.{arith}
-use lib.ListN.{length}
-use borrow.Author.Rules.{rules}
-use Rattle.format.proofs.Arrays.{length_of_map}
-use Rattle.history.proofs.Scans.{Copied, copied_none, copied_more, copied_all}
+use Rattle.history.proofs.Scans.{Copied}
 use Rattle.context.specs.Slots.{slot_of}
 use Rattle.context.proofs.slots.slots_of.Given as goal
 

@@ -1,5 +1,4 @@
 -- `context::sound::context_ok` meets its contract: each rule as its function finds it.
-use borrow.Author.Rules.{rules}
 use Rattle.context.specs.Sound.{context_ok}
 use Rattle.context.proofs.sound.context_ok.Goals as goal
 

@@ -1,5 +1,4 @@
 -- `context::sound::slot_ok` meets its contract.
-use borrow.Author.Rules.{rules}
 use Rattle.context.proofs.Sounds.{slot_active, slot_free}
 use Rattle.context.proofs.sound.slot_ok.Goals as goal
 

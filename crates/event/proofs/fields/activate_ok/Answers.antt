@@ -1,7 +1,6 @@
 -- `event::fields::activate_ok` meets its contract.
 use mathlib.Core.Path.{refl, ap, ◌∙◌}
 use lib.ListN.{length}
-use borrow.Author.Rules.{rules}
 use Rattle.container.specs.Qos.{qos_ok}
 use Rattle.octets.specs.Names.{checked_apn}
 use Rattle.octets.proofs.Stored.{rest_all}

@@ -1,5 +1,4 @@
 -- `event::fields::activation_of` meets its contract.
-use borrow.Author.Rules.{rules}
 use Rattle.event.proofs.fields.activation_of.Goals as goal
 
 pub returns : goal.returns

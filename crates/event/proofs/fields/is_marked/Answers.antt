@@ -1,5 +1,4 @@
 -- `event::fields::is_marked` meets its contract.
-use borrow.Author.Rules.{rules}
 use Rattle.event.specs.Rows.{marked}
 use Rattle.event.proofs.fields.is_marked.Goals as goal
 

@@ -1,5 +1,4 @@
 -- `event::fields::limits_at` meets its contract.
-use borrow.Author.Rules.{rules}
 use Rattle.event.proofs.fields.limits_at.Goals as goal
 
 pub returns : goal.returns

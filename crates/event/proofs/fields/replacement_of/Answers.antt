@@ -1,5 +1,4 @@
 -- `event::fields::replacement_of` meets its contract.
-use borrow.Author.Rules.{rules}
 use Rattle.event.proofs.fields.replacement_of.Goals as goal
 
 pub returns : goal.returns

@@ -1,6 +1,4 @@
 -- `event::fields::subscriber_ok` meets its contract.
-use mathlib.Core.Path.{◌∙◌}
-use borrow.Author.Rules.{rules}
 use Rattle.event.proofs.Tried.{subscriber_short, subscriber_is}
 use Rattle.event.proofs.fields.subscriber_ok.Goals as goal
 

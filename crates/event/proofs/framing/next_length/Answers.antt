@@ -1,5 +1,4 @@
 -- `event::framing::next_length` meets its contract.
-use borrow.Author.Rules.{rules}
 use Rattle.event.proofs.Framed.{next_whole, next_all}
 use Rattle.event.proofs.framing.next_length.Goals as goal
 

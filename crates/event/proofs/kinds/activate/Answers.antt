@@ -1,5 +1,4 @@
 -- `event::kinds::activate` meets its contract.
-use borrow.Author.Rules.{rules}
 use Rattle.event.proofs.kinds.activate.Goals as goal
 
 pub returns : goal.returns

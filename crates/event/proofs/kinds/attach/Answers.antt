@@ -1,5 +1,4 @@
 -- `event::kinds::attach` meets its contract.
-use borrow.Author.Rules.{rules}
 use Rattle.event.proofs.kinds.attach.Goals as goal
 
 pub returns : goal.returns

@@ -1,5 +1,4 @@
 -- `event::kinds::detach` meets its contract.
-use borrow.Author.Rules.{rules}
 use Rattle.event.proofs.kinds.detach.Goals as goal
 
 pub returns : goal.returns

@@ -1,7 +1,6 @@
 -- `event::kinds::entry_of` meets its contract.
 use mathlib.Core.Path.{refl}
 use native.Mathlib.Omega.{arith}
-use borrow.Author.Rules.{rules}
 use Rattle.event.specs.Kinds.{activate_kind, traffic_kind, qos_kind, tariff_kind, release_kind, tick_kind, management_kind, kinds, kind_in}
 use Rattle.event.specs.Kinds.{attach_kind, location_kind, subscriber_kind, detach_kind, replace_kind}
 use Rattle.event.proofs.Table.{entry_row, entry_none, Past}

@@ -1,5 +1,4 @@
 -- `event::kinds::location` meets its contract.
-use borrow.Author.Rules.{rules}
 use Rattle.event.proofs.kinds.location.Goals as goal
 
 pub returns : goal.returns

@@ -1,5 +1,4 @@
 -- `event::kinds::management` meets its contract.
-use borrow.Author.Rules.{rules}
 use Rattle.event.proofs.kinds.management.Goals as goal
 
 pub returns : goal.returns

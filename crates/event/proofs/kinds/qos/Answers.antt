@@ -1,5 +1,4 @@
 -- `event::kinds::qos` meets its contract.
-use borrow.Author.Rules.{rules}
 use Rattle.event.proofs.kinds.qos.Goals as goal
 
 pub returns : goal.returns

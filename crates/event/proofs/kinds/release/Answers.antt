@@ -1,5 +1,4 @@
 -- `event::kinds::release` meets its contract.
-use borrow.Author.Rules.{rules}
 use Rattle.event.proofs.kinds.release.Goals as goal
 
 pub returns : goal.returns

@@ -1,5 +1,4 @@
 -- `event::kinds::replace` meets its contract.
-use borrow.Author.Rules.{rules}
 use Rattle.event.proofs.kinds.replace.Goals as goal
 
 pub returns : goal.returns

@@ -1,5 +1,4 @@
 -- `event::kinds::subscriber` meets its contract.
-use borrow.Author.Rules.{rules}
 use Rattle.event.proofs.kinds.subscriber.Goals as goal
 
 pub returns : goal.returns

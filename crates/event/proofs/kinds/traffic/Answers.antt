@@ -1,5 +1,4 @@
 -- `event::kinds::traffic` meets its contract.
-use borrow.Author.Rules.{rules}
 use Rattle.event.proofs.kinds.traffic.Goals as goal
 
 pub returns : goal.returns

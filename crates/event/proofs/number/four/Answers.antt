@@ -1,5 +1,4 @@
 -- `event::number::four` meets its contract.
-use borrow.Author.Rules.{rules}
 use Rattle.event.proofs.number.four.Goals as goal
 
 pub returns : goal.returns

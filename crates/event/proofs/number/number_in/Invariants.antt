@@ -1,8 +1,6 @@
 -- `event::number::number_in` meets its contract: the loop has the number in the first i octets.
 use Prim.Native.Nat.{◌-◌}
-use native.Mathlib.Omega.{arith}
-use borrow.Author.Rules.{rules}
-use Rattle.event.proofs.Numbers.{Spelling, spelling_none, spelling_room, spelling_more, spelling_end}
+use Rattle.event.proofs.Numbers.{Spelling}
 use Rattle.event.proofs.number.number_in.Given as goal
 
 abbrev pub invariant-loop-i : goal.invariant-loop-i

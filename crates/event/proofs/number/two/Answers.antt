@@ -1,5 +1,4 @@
 -- `event::number::two` meets its contract.
-use borrow.Author.Rules.{rules}
 use Rattle.event.proofs.number.two.Goals as goal
 
 pub returns : goal.returns
