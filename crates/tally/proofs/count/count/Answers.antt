@@ -1,5 +1,4 @@
 -- `tally::count::count` meets its contract.
-use Rattle.std.proofs.Common.{rules}
 use Rattle.tally.specs.Tally.{count_of}
 use Rattle.tally.proofs.count.count.Goals as goal
 

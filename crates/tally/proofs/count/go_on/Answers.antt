@@ -1,5 +1,5 @@
 -- `tally::count::go_on` meets its contract.
-use Rattle.std.proofs.Common.{ap, ◌∙◌, rules}
+use Rattle.std.proofs.Common.{ap, ◌∙◌}
 use Rattle.tally.specs.Turns.{onto, went_on}
 use Rattle.tally.proofs.count.go_on.Goals as goal
 

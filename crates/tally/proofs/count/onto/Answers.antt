@@ -1,6 +1,5 @@
 -- `tally::count::onto` meets its contract.
-use Rattle.std.proofs.Common.{sym, ◌∙◌, rules, eq-eqb, ne_eqb}
-use borrow.Author.Tests.{not-true, not-false}
+use Rattle.std.proofs.Common.{sym, ◌∙◌, eq-eqb, ne_eqb}
 use Rattle.tally.specs.Tally.{and_then}
 use Rattle.tally.specs.Turns.{onto}
 use Rattle.tally.proofs.count.onto.Goals as goal
@@ -16,7 +15,7 @@ returns-then-not-fits-2 c =
     ∙ rw (
       sym c.fits.ensures ∙ c.if-not-fits.false,
       sym c.fits-2.ensures ∙ c.if-not-fits-2.true,
-      c.wrapping_add_usize-at.ensures,
+      c.wrapping_add_usize-at.ensures.value,
     )
 
 pub returns-then-u-eq0 : goal.returns-then-u-eq0
@@ -26,8 +25,8 @@ returns-then-u-eq0 c =
       sym c.fits.ensures ∙ c.if-not-fits.false,
       sym c.fits-2.ensures ∙ c.if-not-fits-2.false,
       eq-eqb _ 0 c.if-u-eq0.true,
-      c.wrapping_add_usize-at.ensures,
-      c.wrapping_add_usize-count.ensures,
+      c.wrapping_add_usize-at.ensures.value,
+      c.wrapping_add_usize-count.ensures.value,
     )
 
 pub returns : goal.returns
@@ -37,6 +36,6 @@ returns c =
       sym c.fits.ensures ∙ c.if-not-fits.false,
       sym c.fits-2.ensures ∙ c.if-not-fits-2.false,
       ne_eqb _ 0 c.if-u-eq0.false,
-      c.wrapping_add_usize-at.ensures,
-      c.wrapping_add_usize-count.ensures,
+      c.wrapping_add_usize-at.ensures.value,
+      c.wrapping_add_usize-count.ensures.value,
     )

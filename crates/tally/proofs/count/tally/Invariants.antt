@@ -1,7 +1,6 @@
 -- `tally::count::tally` meets its contract: what was counted and what is left give the whole, and a step goes over four octets or more.
-use Rattle.std.proofs.Common.{◌-◌, length, sym, ◌∙◌, arith, rules}
-use borrow.Author.Tests.{not-true, not-false}
-use Rattle.tally.proofs.Tallies.{Tallying, tally_start, tally_end, tally_within, tally_refused, tally_moves, tally_one, tally_named, tally_other}
+use Rattle.std.proofs.Common.{◌-◌, length}
+use Rattle.tally.proofs.Tallies.{Tallying}
 use Rattle.tally.proofs.count.tally.Given as goal
 
 abbrev pub invariant-loop-k : goal.invariant-loop-k

@@ -1,5 +1,5 @@
 -- `tally::look::found` meets its contract.
-use Rattle.std.proofs.Common.{◌∙◌, rules, eq-eqb, ne_eqb}
+use Rattle.std.proofs.Common.{◌∙◌, eq-eqb, ne_eqb}
 use Rattle.entries.proofs.Stands.{kind_at}
 use Rattle.tally.proofs.Looks.{found_long, found_mm, found_pdp}
 use Rattle.tally.proofs.look.found.Goals as goal

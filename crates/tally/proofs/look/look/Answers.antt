@@ -1,5 +1,5 @@
 -- `tally::look::look` meets its contract: a law for what the stepper found.
-use Rattle.std.proofs.Common.{◌∙◌, rules}
+use Rattle.std.proofs.Common.{◌∙◌}
 use Rattle.entries.proofs.Stands.{found_fits}
 use Rattle.tally.proofs.Looks.{looks}
 use Rattle.tally.proofs.look.look.Goals as goal

@@ -1,5 +1,5 @@
 -- `tally::look::of_record` meets its contract.
-use Rattle.std.proofs.Common.{◌∙◌, arith, rules}
+use Rattle.std.proofs.Common.{◌∙◌, arith}
 use Rattle.ber.proofs.Places.{lies_fits, lies_length}
 use Rattle.tally.proofs.Looks.{landed, unfit_within}
 use Rattle.tally.proofs.look.of_record.Goals as goal

@@ -1,5 +1,5 @@
 -- `tally::say::say_ggsn` meets its contract.
-use Rattle.std.proofs.Common.{sym, ap, ◌∙◌, arith, rules}
+use Rattle.std.proofs.Common.{sym, ap, ◌∙◌, arith}
 use borrow.Author.Tests.{not-true, not-false}
 use Rattle.ber.proofs.Tables.{row_leaves}
 use Rattle.scdr.specs.Table.{Ggsn}

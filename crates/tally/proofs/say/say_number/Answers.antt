@@ -1,5 +1,5 @@
 -- `tally::say::say_number` meets its contract.
-use Rattle.std.proofs.Common.{ap, rules}
+use Rattle.std.proofs.Common.{ap}
 use borrow.Author.Tests.{not-true, not-false}
 use Rattle.tally.specs.declared.say.Said.TheVariants.{Carries}
 use Rattle.tally.specs.Say.{say_number}

@@ -1,6 +1,6 @@
 -- `tally::seek::seek` meets its contract: what is left to look through gives the same, and each field has two octets or more.
-use Rattle.std.proofs.Common.{◌-◌, length, refl, arith, rules}
-use Rattle.tally.proofs.Seeks.{lies_none, lies_some, part_long, Seeking, seeking_unfit, seeking_here, seeking_next, seeking_end}
+use Rattle.std.proofs.Common.{◌-◌, length}
+use Rattle.tally.proofs.Seeks.{Seeking}
 use Rattle.tally.proofs.seek.seek.Given as goal
 
 abbrev pub invariant-loop-at : goal.invariant-loop-at
