@@ -1,5 +1,4 @@
 -- `subscriber::no_subscriber` meets its contract.
-use borrow.Author.Rules.{rules}
 use Rattle.octets.specs.Filled.{fill_to}
 use Rattle.mcdr.specs.Changes.{no_changes}
 use Rattle.subscriber.proofs.no_subscriber.Goals as goal

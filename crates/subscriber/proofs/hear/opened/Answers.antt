@@ -1,5 +1,4 @@
 -- `subscriber::hear::opened` meets its contract.
-use borrow.Author.Rules.{rules}
 use Rattle.mcdr.specs.Changes.{no_changes}
 use Rattle.subscriber.proofs.hear.opened.Goals as goal
 

@@ -1,5 +1,4 @@
 -- `subscriber::hear::place_of` meets its contract.
-use borrow.Author.Rules.{rules}
 use Rattle.subscriber.specs.Subscriber.{place_of}
 use Rattle.subscriber.proofs.hear.place_of.Goals as goal
 

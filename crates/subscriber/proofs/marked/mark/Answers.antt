@@ -1,7 +1,6 @@
 -- `subscriber::marked::mark` meets its contract.
 use mathlib.Core.Path.{sym, ◌∙◌}
 use native.Mathlib.Omega.{arith}
-use borrow.Author.Rules.{rules}
 use Rattle.subscriber.proofs.Marks.{marks_short, marks_none, marks_outside, marks_full, marks_done, marks_second, marks_within}
 use Rattle.subscriber.proofs.marked.mark.Goals as goal
 

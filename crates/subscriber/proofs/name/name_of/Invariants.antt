@@ -1,12 +1,8 @@
 -- `subscriber::name::name_of` meets its contract: the number spelt so far fits as many octets as were read.
-use mathlib.Core.Path.{◌≡◌, refl, ap, ap₂, ◌∙◌}
-use Prim.Native.Nat.{ℕ, ◌+◌, ◌-◌, ◌*◌, ◌^◌, ◌≤◌, ◌<◌}
-use native.Mathlib.Omega.{arith}
-use lib.ListN.{length, take}
-use lib.Seq.{take_all}
-use borrow.Author.Rules.{rules}
+use mathlib.Core.Path.{◌≡◌}
+use Prim.Native.Nat.{◌-◌, ◌^◌, ◌≤◌, ◌<◌}
+use lib.ListN.{take}
 use Rattle.ber.specs.Int.{spelt}
-use Rattle.ber.proofs.Numbers.{fits_more, spelt_more}
 use Rattle.subscriber.proofs.name.name_of.Given as goal
 
 abbrev pub invariant-loop-i : goal.invariant-loop-i

@@ -1,5 +1,4 @@
 -- `subscriber::sound::open_ok` meets its contract: each rule as its function finds it.
-use borrow.Author.Rules.{rules}
 use Rattle.subscriber.specs.Sound.{open_ok}
 use Rattle.subscriber.proofs.Sounds.{fourteen}
 use Rattle.subscriber.proofs.sound.open_ok.Goals as goal

@@ -1,5 +1,4 @@
 -- `subscriber::sound::slot_ok` meets its contract.
-use borrow.Author.Rules.{rules}
 use Rattle.subscriber.proofs.Sounds.{slot_active, slot_free}
 use Rattle.subscriber.proofs.sound.slot_ok.Goals as goal
 

@@ -1,13 +1,10 @@
 -- `subscriber::sound::slots_ok` meets its contract. The loop's invariant: what is left to look at decides.
 use mathlib.Core.Path.{◌≡◌}
-use Prim.Native.Nat.{◌-◌}
 use native.Mathlib.Omega.{arith}
 use lib.ListN.{length}
 use borrow.Author.Rules.{rules}
-use borrow.Author.Tests.{not-true, not-false}
 use Rattle.format.proofs.Arrays.{length_of_map}
-use Rattle.subscriber.specs.Sound.{slots_ok}
-use Rattle.history.proofs.Scans.{Rest, rest_all, rest_no, rest_next, rest_end}
+use Rattle.history.proofs.Scans.{rest_all, rest_no, rest_next, rest_end}
 use Rattle.subscriber.proofs.Scans.{slots_ask}
 use Rattle.subscriber.proofs.sound.slots_ok.Goals as goal
 
@@ -20,7 +17,7 @@ returns-then-not-slot_ok c =
     search (rules, length_of_map) in
     let l = long in
     rest_no (slots_ask c.args.zone c.args.clock c.args.accepted) c.loop-i.invariant _ (omega arith)
-    c.slot_ok.ensures (not-true _ c.if-not-slot_ok.true-raw)
+    c.slot_ok.ensures c.if-not-slot_ok.true
 
 pub loop-i-preserved : goal.loop-i-preserved
 loop-i-preserved c =
@@ -28,7 +25,7 @@ loop-i-preserved c =
     search (rules, length_of_map) in
     let l = long in
     rest_next (slots_ask c.args.zone c.args.clock c.args.accepted) c.loop-i.invariant _
-    (omega arith) c.slot_ok.ensures (not-false _ c.if-not-slot_ok.false-raw)
+    (omega arith) c.slot_ok.ensures c.if-not-slot_ok.false
 
 pub returns : goal.returns
 returns c =

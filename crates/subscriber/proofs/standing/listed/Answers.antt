@@ -1,6 +1,5 @@
 -- `subscriber::standing::listed` meets its contract.
 use mathlib.Core.Path.{refl}
-use borrow.Author.Rules.{rules}
 use Rattle.subscriber.specs.Hear.{listed}
 use Rattle.subscriber.proofs.standing.listed.Goals as goal
 

@@ -1,5 +1,4 @@
 -- `subscriber::standing::number_for` meets its contract.
-use borrow.Author.Rules.{rules}
 use Rattle.subscriber.specs.Hear.{number_for}
 use Rattle.subscriber.proofs.standing.number_for.Goals as goal
 

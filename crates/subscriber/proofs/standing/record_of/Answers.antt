@@ -1,5 +1,4 @@
 -- `subscriber::standing::record_of` meets its contract.
-use borrow.Author.Rules.{rules}
 use Rattle.subscriber.specs.Hear.{record_of}
 use Rattle.subscriber.proofs.standing.record_of.Goals as goal
 

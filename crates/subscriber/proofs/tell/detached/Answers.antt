@@ -1,5 +1,4 @@
 -- `subscriber::tell::detached` meets its contract.
-use borrow.Author.Rules.{rules}
 use Rattle.subscriber.specs.declared.Notice.TheVariants.{Detached}
 use Rattle.subscriber.proofs.Tellings.{tells_closes, hears_detached}
 use Rattle.subscriber.proofs.tell.detached.Goals as goal

@@ -1,5 +1,4 @@
 -- `subscriber::tell::emit` meets its contract.
-use borrow.Author.Rules.{rules}
 use Rattle.subscriber.proofs.Tellings.{emits_not, emits_done}
 use Rattle.subscriber.proofs.tell.emit.Goals as goal
 

@@ -1,5 +1,4 @@
 -- `subscriber::tell::managed` meets its contract.
-use borrow.Author.Rules.{rules}
 use Rattle.subscriber.specs.declared.Notice.TheVariants.{Managed}
 use Rattle.subscriber.proofs.Tellings.{tells_closes, hears_managed}
 use Rattle.subscriber.proofs.tell.managed.Goals as goal

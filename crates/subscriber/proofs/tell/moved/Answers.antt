@@ -2,11 +2,9 @@
 use mathlib.Core.Path.{◌≡◌, ◌∙◌}
 use mathlib.Core.Bool.{false}
 use native.Mathlib.Omega.{arith}
-use borrow.Author.Rules.{rules}
 use Rattle.mcdr.specs.Change.{same_place}
 use Rattle.subscriber.specs.declared.Notice.TheVariants.{Moved}
 use Rattle.subscriber.specs.Subscriber.{place_of}
-use Rattle.subscriber.specs.Hear.{listed}
 use Rattle.subscriber.proofs.Tellings.{tells_quiet, tells_closes, hears_same, hears_listed, hears_full, compared, closed_same}
 use Rattle.subscriber.proofs.tell.moved.Goals as goal
 

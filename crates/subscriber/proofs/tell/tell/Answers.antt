@@ -1,5 +1,4 @@
 -- `subscriber::tell::tell` meets its contract: it is what each kind of notice makes it.
-use borrow.Author.Rules.{rules}
 use Rattle.subscriber.proofs.Tellings.{tells_full, tells_last}
 use Rattle.subscriber.proofs.tell.tell.Goals as goal
 
