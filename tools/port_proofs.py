@@ -174,6 +174,8 @@ class Turn:
             return ".".join([base] + new)
 
         t = re.sub(r"(?<![\w.'])([A-Za-z_][^\s(){}.;,@\"«»\[\]\\]*|\))((?:\." + W + r")+)", one, t)
+        # the plain fact of a test on `!f`
+        t = re.sub(r"not-(?:true|false) _\s+(c\.if-not-[^\s().,;]+)\.(true|false)(?:-raw)?(?![\w-])", r"\1.\2", t)
         return t
 
 

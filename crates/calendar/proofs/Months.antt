@@ -59,7 +59,7 @@ seek_lies (suc n) k f d e h q u =
     (λ a. rw (a, seek) (seek_lies n (suc k) (f + month_len k) d (ap (λ (x : ℕ). x + month_len k) e ∙ sym (next k)) (ltb-false d (f + month_len k) a)
     (omega arith) u))
 
--- a day of these years has its place in the month that `monthDay` gives
+-- a day of these years has its place in the month that `month_day` gives
 pub lies : (d : ℕ) → d < 36525 → Lies d (month_day d).0 (month_day d).1
 unfolding month_day
 lies d h = seek_lies 1199 0 0 d start (omega arith) (omega arith) (omega (arith, end))

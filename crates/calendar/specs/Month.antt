@@ -28,7 +28,7 @@ seek (suc n) k f d = elim (ltb d (f + month_len k)) [ true ↦ (k, d - f) | fals
 unfoldable pub month_day : ℕ → ℕ × ℕ
 month_day d = seek 1199 0 0 d
 
--- Day d has place p in month k, one of the 1,200 from 2000 to 2099: what is proved of `monthDay` (`lies` of proofs/Months.antt).
+-- Day d has place p in month k, one of the 1,200 from 2000 to 2099: what is proved of `month_day` (`lies` of proofs/Months.antt).
 pub record Lies (d k p : ℕ) : Type 0 where
   pub starts : first_day k + p ≡ d
   pub inside : p < month_len k

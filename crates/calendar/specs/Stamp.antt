@@ -70,7 +70,7 @@ stamp_val s = record {
 
 -- ---- the format, and what the functions answer
 
--- The time stamps: exactly the octets that a time and a zone in range give, each read back as these (`stamp-law` of
+-- The time stamps: exactly the octets that a time and a zone in range give, each read back as these (`stamp_law` of
 -- proofs/Stamps.antt).
 abbrev pub stamp : Fmt Stamp
 stamp = checked stamp_ok stamp_enc stamp_val 9

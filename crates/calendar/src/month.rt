@@ -25,7 +25,7 @@ fn four_weeks_before(day: u32) -> u32
 }
 
 // A mean month has 30.4375 days, which is 487 / 16. The day four weeks earlier, divided by that, gives the month before the day's or, late in
-// a month, that month (`near-month` of proofs/Months.antt). So mostly one look at the month after it is enough, and never more than two.
+// a month, that month (`near_month` of proofs/Months.antt). So mostly one look at the month after it is enough, and never more than two.
 pub fn date_of(day: u32) -> Date
     requires { day < 36525 }
     ensures { Dated day result.month result.place }

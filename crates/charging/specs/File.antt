@@ -10,7 +10,7 @@ use Rattle.charging.specs.Done.{Done, nothing, and_then}
 abbrev pub next_event : List ℕ → List ℕ
 next_event s = take (next_length s) s
 
--- room for what one event can write: 16 records of 1,024 octets, each after its mark (that it is enough is a theorem, `room-enough`)
+-- room for what one event can write: 16 records of 1,024 octets, each after its mark (that it is enough is a theorem, `room_enough`)
 unfoldable pub roomy : List ℕ
 roomy = replicate 16416 0
 

@@ -1,20 +1,19 @@
 -- A profile and a container read field by field, and what is written put together.
-use mathlib.Core.Path.{◌≡◌, refl, sym, ap, subst, ◌∙◌}
-use mathlib.Core.Bool.{Bool, true, false, ◌&&◌}
+use mathlib.Core.Path.{◌≡◌, refl, sym, subst}
+use mathlib.Core.Bool.{true, false, ◌&&◌}
 use mathlib.Core.Option.{Option, none, some}
-use mathlib.Core.List.{List, [], ◌∷◌}
+use mathlib.Core.List.{List, []}
 use Prim.Native.Nat.{ℕ, ◌<◌}
 use native.Mathlib.Omega.{arith}
 use lib.Dec.{T, eqb}
 use lib.ListN.{length}
 use borrow.Author.Tests.{le-leb}
 use Rattle.format.specs.Maybe.{guard}
-use Rattle.format.specs.Format.{mapped}
 use Rattle.format.proofs.Tests.{by, T_true, and_l}
 use Rattle.format.proofs.Maybe.{guard_yes}
 use Rattle.ber.specs.Tlv.{tlv_enc, tlv_dec}
 use Rattle.ber.specs.Field.{first, new}
-use Rattle.ber.specs.Table.{layout, row_enc, row_dec, tag}
+use Rattle.ber.specs.Table.{row_enc, row_dec, tag}
 use Rattle.ber.specs.Read.{nowhere, Reads}
 use Rattle.ber.specs.Private.Stay.{stay}
 use Rattle.ber.specs.Write.{Puts}
@@ -29,7 +28,7 @@ use Rattle.calendar.specs.Stamp.{stamp_read, stamp_ok}
 use Rattle.container.specs.declared.Qos.{Qos}
 use Rattle.container.specs.declared.Container.{Container}
 use Rattle.container.specs.Qos.{qos_ok, same_qos, Reliability, Delay, Precedence, Peak, Mean, qos_table, qos, no_qos, to_qos, of_qos}
-use Rattle.container.specs.Container.{container_ok, is_new, told, is_told, formed, QosAfter, Uplink, Downlink, Condition, Time, container_table}
+use Rattle.container.specs.Container.{container_ok, is_new, is_told, formed, QosAfter, Uplink, Downlink, Condition, Time, container_table}
 use Rattle.container.specs.Container.{container, to_container, of_container, no_stamp}
 use Rattle.container.specs.Private.NewForm.{new_form}
 use Rattle.container.proofs.Formats.{qos_law, qos_good, told_none, told_some, container_law, container_good, within}

@@ -17,7 +17,7 @@ use Rattle.ber.proofs.Ints.{int_law, int_good}
 use Rattle.ber.proofs.Fields.{Caps, many_law}
 use Rattle.ber.proofs.Tables.{Laws, layout_law}
 use Rattle.calendar.specs.declared.Stamp.{Stamp}
-use Rattle.calendar.specs.Stamp.{stamp, stamp_ok}
+use Rattle.calendar.specs.Stamp.{stamp_ok}
 use Rattle.calendar.proofs.Stamps.{stamp_law}
 use Rattle.container.specs.declared.Qos.{Qos}
 use Rattle.container.specs.declared.Container.{Container}

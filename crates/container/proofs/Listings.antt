@@ -4,7 +4,7 @@ use mathlib.Core.Bool.{Bool, true, false}
 use mathlib.Core.Option.{Option, none, some}
 use mathlib.Core.List.{List, []}
 use Prim.Native.Nat.{ℕ}
-use lib.ListN.{length, take}
+use lib.ListN.{take}
 use Rattle.ber.specs.Field.{first}
 use Rattle.ber.specs.Read.{nowhere, Reads, cut, Lies}
 use Rattle.ber.proofs.Readers.{under_none, under_some}

@@ -1,19 +1,19 @@
 -- The rules of an open record in a sound node: each by itself, how the code finds them, and that a report, a change, a closing and time leave
 -- them as they must be.
 use mathlib.Core.Path.{◌≡◌, refl, sym, ap, ◌∙◌}
-use mathlib.Core.Bool.{Bool, true, false, not, ◌&&◌, and-true, and-false}
-use mathlib.Core.List.{List, [], ◌∷◌, ◌++◌}
-use Prim.Native.Nat.{ℕ, suc, ◌+◌, ◌-◌, ◌^◌, ◌≤◌, ◌<◌}
+use mathlib.Core.Bool.{Bool, true, false, ◌&&◌, and-true, and-false}
+use mathlib.Core.List.{[], ◌∷◌}
+use Prim.Native.Nat.{ℕ, ◌+◌, ◌-◌, ◌^◌, ◌≤◌, ◌<◌}
 use native.Mathlib.Omega.{arith}
 use lib.Dec.{leb, ltb, eqb}
-use lib.ListN.{length, take, drop, set, length-append, length-set}
+use lib.ListN.{length, drop, set, length-append}
 use lib.Seq.{length-take-le}
-use borrow.Author.Tests.{ltb-true, leb-true, leb-false, eqb-true, le-leb, lt-leb, lt-ltb, eq-eqb, ne_eqb}
+use borrow.Author.Tests.{ltb-true, leb-true, leb-false, eqb-true, le-leb, lt-leb, lt-ltb, eq-eqb}
 use Rattle.format.proofs.Tests.{both, by}
 use Rattle.calendar.specs.declared.Stamp.{Stamp}
 use Rattle.calendar.specs.Stamp.{stamp_ok}
 use Rattle.limits.specs.declared.Limits.{Limits}
-use Rattle.limits.specs.Limits.{limits_ok, no_limits, blank_limits}
+use Rattle.limits.specs.Limits.{limits_ok, blank_limits}
 use Rattle.limits.proofs.Ranges.{limits_hold, blank_limits_lem}
 use Rattle.container.specs.declared.Qos.{Qos}
 use Rattle.container.specs.declared.Container.{Container}
@@ -21,11 +21,11 @@ use Rattle.container.specs.declared.OpenRecord.{OpenRecord}
 use Rattle.container.specs.Qos.{qos_ok, same_qos, no_qos}
 use Rattle.container.specs.Container.{container_ok}
 use Rattle.container.specs.List.{changes, list_ok, no_containers, padded, blanks, is_blank}
-use Rattle.container.specs.Open.{used, opened, no_open, reported, running, ended_all, changed, volume_of, open_ok, volume_met, changes_met}
+use Rattle.container.specs.Open.{used, opened, no_open, reported, running, ended_all, changed, volume_of, open_ok, volume_met}
 use Rattle.container.specs.Open.{unused_ok, count_ok, containers_ok, volume_ok, sound_open, blank_open}
 use Rattle.container.specs.Private.Held.{held_ok}
 use Rattle.container.proofs.Formats.{same_qos_lem}
-use Rattle.container.proofs.Padded.{blanks_are, take_padded, padded_length, padded_rest, padded_more}
+use Rattle.container.proofs.Padded.{blanks_are, take_padded, padded_rest, padded_more}
 use Rattle.container.proofs.Opens.{below_left, volume_more, open_none, open_later, open_more, open_closes, open_since}
 
 -- ---- the rules one by one

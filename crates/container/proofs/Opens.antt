@@ -6,15 +6,15 @@ use Prim.Native.Nat.{ℕ, zero, suc, ◌+◌, ◌-◌, ◌≤◌, ◌<◌}
 use native.Mathlib.Numerals.{add-one}
 use native.Mathlib.Omega.{arith}
 use lib.Dec.{leb, ltb, eqb}
-use lib.ListN.{length, take, drop, get_or, set, length-append, length-take, length-drop, length-set, take-append-drop, drop_of_length-le}
-use lib.Seq.{take-suc, take-suc-set, take_all, take-append-le, drop-append-le, drop-cons, drop-set-lt, get_or-take, length-take-le, drop-append_seam}
+use lib.ListN.{length, take, drop, get_or, length-append, length-take, drop_of_length-le}
+use lib.Seq.{take-suc, take_all, take-append-le, drop-append-le, drop-cons, get_or-take, length-take-le}
 use borrow.Author.Tests.{not-true, not-false, leb-true, leb-false, ltb-true, ltb-false, le-leb, lt-ltb, le-ltb, eq-eqb}
 use Rattle.format.proofs.Tests.{both}
 use Rattle.container.specs.declared.Qos.{Qos}
 use Rattle.container.specs.declared.Container.{Container}
 use Rattle.container.specs.declared.held.Run.{Run}
 use Rattle.container.specs.Container.{container_ok}
-use Rattle.container.specs.List.{each_ok, last_alone, one_offset, in_order, changes, qos_rule, list_ok, no_containers, padded, blanks, is_blank}
+use Rattle.container.specs.List.{each_ok, last_alone, one_offset, in_order, changes, qos_rule, list_ok, blanks, is_blank}
 use Rattle.container.specs.Open.{midway, times_to, qos_run, open_ok, volume_of}
 use Rattle.container.specs.Private.Held.{held_ok}
 use Rattle.container.specs.Private.Stepwise.{precedes, looked}

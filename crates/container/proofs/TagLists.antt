@@ -1,6 +1,6 @@
 -- The tables of a container's and of a QoS's fields as lists of tags: all, those that are always there, those that are there only sometimes.
 use mathlib.Core.Path.{◌≡◌, refl}
-use mathlib.Core.List.{List, [], ◌∷◌}
+use mathlib.Core.List.{[], ◌∷◌}
 use Rattle.ber.specs.Table.{tags, tags_always, tags_sometimes}
 use Rattle.container.specs.declared.Container.{Container}
 use Rattle.container.specs.Qos.{qos_table}

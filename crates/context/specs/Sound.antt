@@ -15,7 +15,7 @@ fields_ok c = leb c.flags 3 && imsi_ok c.imsi && apn_ok c.apn c.apnlen
 unfoldable pub closed_ok : ℕ → Context → Bool
 closed_ok accepted c = ltb c.closed accepted
 
--- "each context's set is one that the node has" (02, W6), of so many; and of the open record what `soundOpen` says: its limits and its QoS in range,
+-- "each context's set is one that the node has" (02, W6), of so many; and of the open record what `sound_open` says: its limits and its QoS in range,
 -- unused places zero, container count, conditions, times, QoS rule, volumes
 unfoldable pub context_ok : ℕ → ℕ → ℕ → ℕ → Context → Bool
 context_ok count zone clock accepted c = fields_ok c && has_set count c.set && closed_ok accepted c && sound_open zone clock c.current

@@ -1,15 +1,13 @@
 -- What stands at a place, by the octets there: a law for each way out of the stepper.
-use mathlib.Core.Path.{◌≡◌, ap, ◌∙◌}
-use mathlib.Core.Bool.{true, false, not}
+use mathlib.Core.Path.{◌≡◌}
+use mathlib.Core.Bool.{true, false}
 use Prim.Native.Nat.{ℕ, ◌+◌, ◌-◌, ◌≤◌, ◌<◌}
-use native.Mathlib.Omega.{arith}
 use mathlib.Core.List.{List}
 use lib.ListN.{length, get_or}
 use borrow.Author.Tests.{le-leb, lt-leb, lt-ltb, le-ltb, eq-eqb, ne_eqb}
 use Rattle.ber.specs.declared.length.Len.{Len}
 use Rattle.ber.specs.declared.length.Len.TheVariants as L
 use Rattle.ber.specs.Read.{len_at}
-use Rattle.entries.specs.declared.Entry.{Entry}
 use Rattle.entries.specs.declared.Entry.TheVariants.{Found, End, NoMark, Cut, NoValue}
 use Rattle.entries.specs.Entry.{is_tag, most_contents, sized_at, value_at, entry_at}
 

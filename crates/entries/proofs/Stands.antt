@@ -2,15 +2,13 @@
 use mathlib.Core.Path.{◌≡◌, refl, sym, ap, ap₂, subst, ◌∙◌}
 use mathlib.Core.Bool.{Bool, true, false, cond}
 use mathlib.Core.Option.{Option, none, some, none-ne-some, some-injective}
-use mathlib.Core.List.{List, [], ◌∷◌}
+use mathlib.Core.List.{List}
 use Prim.Native.Nat.{ℕ, suc, ◌+◌, ◌-◌, ◌≤◌, ◌<◌}
 use native.Mathlib.Omega.{arith}
 use lib.Dec.{leb, ltb, eqb}
 use lib.ListN.{length, drop, get_or, drop_of_length-le, length-drop, length-append}
 use lib.Seq.{take-append_seam}
 use borrow.Author.Tests.{leb-true, leb-false, eqb-true, eqb-false, eq-eqb, ne_eqb}
-use types.Run.{OneOf, miss}
-use denote.Enum.Declared.{tag_of}
 use Rattle.format.specs.Maybe.{bind}
 use Rattle.format.proofs.Maybe.{bind_some, bind_bind}
 use Rattle.format.proofs.Tests.{by, either}
@@ -22,7 +20,6 @@ use Rattle.ber.proofs.Places.{at_cons, rest_at, rest_is, starts_at, len_none, le
 use Rattle.cdrs.specs.List.{mark_at}
 use Rattle.cdrs.proofs.Values.{is_mm, kind_tag, value_of, value_long, value_sound}
 use Rattle.entries.specs.declared.Entry.{Entry}
-use Rattle.entries.specs.contracts.Entry as E
 use Rattle.entries.specs.declared.Entry.TheVariants.{Found, End, NoMark, Cut, NoValue}
 use Rattle.entries.specs.Entry.{is_tag, most_contents, sized_at, value_at, entry_at}
 use Rattle.entries.specs.Steps.{place_of}
@@ -180,12 +177,12 @@ module _ (s : List ℕ) (at : ℕ) {x : Entry} {a e : ℕ} (k : x ≡ Found a e)
   found_fits = let w = found_stands in (omega (arith, w.begins, w.long), w.inside)
 
 -- an answer that is no entry, as a `match` knows it where it is not `Found`
-pub other : (x : Entry) → OneOf (1 ∷ 2 ∷ 3 ∷ 4 ∷ []) (tag_of E.the_type x) → place_of x ≡ none
-other (Found a e) k = absurd (miss (1 ∷ 2 ∷ 3 ∷ 4 ∷ []) 0 tt k)
+pub other : (x : Entry) → ((a e : ℕ) → x ≡ Found a e → ⊥) → place_of x ≡ none
+other (Found a e) k = absurd (k a e refl)
 other End k = refl
 other (NoMark p) k = refl
 other (Cut p) k = refl
 other (NoValue p) k = refl
 
-pub other_place : (s : List ℕ) (at : ℕ) (x : Entry) → OneOf (1 ∷ 2 ∷ 3 ∷ 4 ∷ []) (tag_of E.the_type x) → x ≡ entry_at s at → place_of (entry_at s at) ≡ none
+pub other_place : (s : List ℕ) (at : ℕ) (x : Entry) → ((a e : ℕ) → x ≡ Found a e → ⊥) → x ≡ entry_at s at → place_of (entry_at s at) ≡ none
 other_place s at x k q = ap place_of (sym q) ∙ other x k

@@ -1,8 +1,7 @@
 -- The octets of a traffic event say what they were made of.
 use mathlib.Core.Path.{◌≡◌}
-use mathlib.Core.List.{List}
 use Prim.Native.Nat.{ℕ, ◌^◌, ◌<◌}
-use Rattle.ber.specs.Int.{spelt, octets_from, number_in, lowest}
+use Rattle.ber.specs.Int.{octets_from, number_in, lowest}
 use Rattle.ber.proofs.Fixeds.{spelt_lowest}
 use Rattle.event.specs.Fields.{time_of}
 use Rattle.event.specs.Kinds.{kinds, kind_in, whole_of}

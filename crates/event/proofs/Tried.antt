@@ -6,7 +6,7 @@ use Prim.Native.Nat.{ℕ, ◌≤◌, ◌<◌}
 use native.Mathlib.Omega.{arith}
 use lib.Dec.{leb, eqb}
 use lib.ListN.{length, drop, length-append, length-drop, take-append-drop}
-use borrow.Author.Tests.{lt-ltb, le-ltb, lt-leb, ne_eqb, not-true, not-false}
+use borrow.Author.Tests.{lt-ltb, le-ltb, ne_eqb, not-true, not-false}
 use Rattle.ber.specs.Imsi.{imsi_ok, imsi_room}
 use Rattle.container.specs.Qos.{qos_ok}
 use Rattle.octets.specs.declared.names.Checked.{Checked}

@@ -75,7 +75,7 @@ abbrev pub cause_of : List ℕ → ℕ
 cause_of s = get_or s 15 0
 
 -- Kinds 8 to 11 (02, W4) name a subscriber by its IMSI: eight octets, and the number that they spell, which is its name. (Eight octets spell a number
--- that no other eight spell: `one-imsi` of proofs/Theorems.antt.)
+-- that no other eight spell: `one_imsi` of proofs/Theorems.antt.)
 abbrev pub subscriber_imsi : List ℕ → List ℕ
 subscriber_imsi s = take 8 (drop 7 s)
 

@@ -20,8 +20,8 @@ use Rattle.octets.proofs.Filled.{fill_length}
 use Rattle.mcdr.specs.declared.Change.{Change}
 use Rattle.mcdr.specs.declared.MmRecord.{MmRecord}
 use Rattle.mcdr.specs.declared.fields.Wire.{Wire}
-use Rattle.mcdr.specs.Change.{place_ok, change_ok, no_place}
-use Rattle.mcdr.specs.Changes.{changes, each_ok, no_changes, padded}
+use Rattle.mcdr.specs.Change.{place_ok, change_ok}
+use Rattle.mcdr.specs.Changes.{each_ok, no_changes, padded}
 use Rattle.mcdr.specs.Rules.{all_places_ok, shaped, within}
 use Rattle.mcdr.specs.Table.{record_tag, Changes, NodeId}
 use Rattle.mcdr.specs.Layout.{Fields, body, of_record, to_record, inside, mcdr}

@@ -6,7 +6,7 @@ use mathlib.Core.List.{List}
 use Prim.Native.Nat.{ℕ}
 use native.Mathlib.Omega.{arith}
 use lib.Dec.{leb}
-use lib.ListN.{length, drop}
+use lib.ListN.{drop}
 use Rattle.ber.specs.Imsi.{imsi_ok}
 use Rattle.ber.specs.Tlv.{tlv_form}
 use Rattle.ber.specs.Read.{nowhere}

@@ -1,6 +1,7 @@
 -- The law of the record's fields: that of each row's values, and no tag stands twice. The tags as plain lists, for who looks them up.
 use mathlib.Core.Path.{◌≡◌, refl}
-use mathlib.Core.List.{List, [], ◌∷◌}
+use mathlib.Core.Bool.{true}
+use mathlib.Core.List.{[], ◌∷◌}
 use Prim.Native.Nat.{◌^◌}
 use lib.Dec.{leb, ltb}
 use lib.ListN.{length}
@@ -25,12 +26,12 @@ laws =
     (exactly_law (20 ∷ []), tt)
     ⨾ (imsi_law, tt)
     ⨾ (ipv4_law, tt)
-    ⨾ (octet_law _, tt)
+    ⨾ (octet_law (λ x. true), tt)
     ⨾ (fixed_law 2, tt)
     ⨾ (changes_law, rw changes_most tt)
     ⨾ (stamp_law, tt)
     ⨾ (refined_law (λ n. ltb n (2 ^ 32)) int int_law, tt)
-    ⨾ (octet_law _, tt)
+    ⨾ (octet_law (λ x. true), tt)
     ⨾ (counted_law, tt)
     ⨾ (octets_law 20 (λ x. leb 1 (length x)), tt)
     ⨾ tt

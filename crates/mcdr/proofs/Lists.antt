@@ -1,16 +1,16 @@
 -- The list of changes, read and written in a loop: what ber's laws of values one after another say of it. And the list under its tag, where it may be
 -- missing.
-use mathlib.Core.Path.{◌≡◌, refl, sym, ap, subst, ◌∙◌}
+use mathlib.Core.Path.{◌≡◌, refl, sym, ◌∙◌}
 use mathlib.Core.Bool.{Bool, true, false, ◌&&◌}
-use mathlib.Core.Option.{Option, none, some}
+use mathlib.Core.Option.{none, some}
 use mathlib.Core.List.{List, [], ◌∷◌}
 use Prim.Native.Nat.{ℕ, zero, suc, ◌≤◌, ◌<◌}
 use native.Mathlib.Omega.{arith}
-use lib.Dec.{T, leb}
+use lib.Dec.{T}
 use lib.ListN.{length, take, drop}
 use borrow.Author.Tests.{le-leb, lt-leb, ne_eqb}
-use Rattle.ber.specs.Tlv.{tlv_enc, tlv_dec}
-use Rattle.ber.specs.Field.{first, maybe, starts, unless_none}
+use Rattle.ber.specs.Tlv.{tlv_enc}
+use Rattle.ber.specs.Field.{maybe, starts, unless_none}
 use Rattle.ber.specs.Table.{row_enc, tag}
 use Rattle.ber.specs.Read.{nowhere, Reads, cut, Lies}
 use Rattle.ber.proofs.Tlvs.{tlv_fits}

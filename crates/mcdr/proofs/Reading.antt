@@ -1,10 +1,9 @@
 -- Eleven fields read one after another are the body.
 use mathlib.Core.Path.{◌≡◌, refl, sym}
-use mathlib.Core.Option.{none, some}
 use mathlib.Core.List.{List}
 use Prim.Native.Nat.{ℕ, ◌<◌}
 use lib.Dec.{eqb}
-use lib.ListN.{length, take, replicate}
+use lib.ListN.{length, replicate}
 use borrow.Author.Tests.{eqb-true, eqb-false}
 use Rattle.ber.specs.Table.{Row, Value, row_dec, tag}
 use Rattle.ber.specs.Count.{counts}

@@ -2,7 +2,7 @@
 -- within them and of no other, and none passes 400 octets.
 use mathlib.Core.Path.{◌≡◌, refl, sym, ap, ◌∙◌}
 use mathlib.Core.Logic.{◌↔◌}
-use mathlib.Core.Bool.{Bool, true, ◌&&◌}
+use mathlib.Core.Bool.{true}
 use mathlib.Core.Option.{none, some}
 use mathlib.Core.List.{List, [], ◌∷◌, append-nil}
 use Prim.Native.Nat.{ℕ, zero, suc, ◌^◌, ◌≤◌, ◌<◌}
@@ -11,7 +11,7 @@ use lib.Dec.{T, ltb, lt→ltb}
 use lib.ListN.{length, take}
 use lib.Seq.{length-take-le}
 use Rattle.format.specs.Format.{Law}
-use Rattle.format.proofs.Tests.{T_true, true_T, and_l, and_r, and_i, both}
+use Rattle.format.proofs.Tests.{true_T, and_l, and_r, and_i, both}
 use Rattle.format.proofs.Formats.{refined_law, viewed_law, injective, refuses}
 use Rattle.ber.specs.Int.{int, lowest}
 use Rattle.ber.specs.Tlv.{tlv_enc}
@@ -42,7 +42,7 @@ use Rattle.mcdr.proofs.Formats.{each_good}
 use Rattle.mcdr.proofs.Order.{changes_times}
 use Rattle.mcdr.proofs.Lists.{list_short}
 use Rattle.mcdr.proofs.BodyLaw.{body_law}
-use Rattle.mcdr.proofs.Views.{Shape, shape, Within, withins, Places, places_rules, number_most, fields_back, record_back}
+use Rattle.mcdr.proofs.Views.{shape, Within, withins, places_rules, number_most, fields_back, record_back}
 
 -- ---- changes of which each has a form
 

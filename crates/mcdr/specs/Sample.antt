@@ -1,6 +1,6 @@
 -- Two records and their octets, by hand: one that a detach closes with no change before, and so without a number; and the second of an attachment,
 -- closed by management, with two changes.
-use Rattle.std.specs.Prelude.{List, [], ◌∷◌, ◌++◌, ℕ}
+use Rattle.std.specs.Prelude.{List, [], ◌∷◌, ℕ}
 use Rattle.octets.specs.Filled.{fill_to}
 use Rattle.mcdr.specs.declared.Change.{Change}
 use Rattle.mcdr.specs.declared.MmRecord.{MmRecord}

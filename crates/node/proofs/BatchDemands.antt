@@ -1,5 +1,5 @@
 -- Demand 1 of a list of reports, as 02 reads it (W2), and what the call does: over any node, name, time, list of numbers and lent buffer.
--- `batchOf` is a fold of `step_of`; these theorems say what that is. That it keeps a sound node sound is `batch-kept` (BatchKept).
+-- `batch_of` is a fold of `step_of`; these theorems say what that is. That it keeps a sound node sound is `batch_kept` (BatchKept).
 use mathlib.Core.Path.{◌≡◌, refl, sym, ap, ◌∙◌}
 use mathlib.Core.Bool.{true, false, not, cond, ◌||◌}
 use mathlib.Core.List.{List, [], ◌∷◌, ◌++◌, map}

@@ -125,7 +125,7 @@ activated p t n b = record {
 }
 
 -- How the node handles contexts: a named event is heard by the context of that name, a tariff and a tick by all in slot order,
--- "activation takes the lowest free slot", "a freed slot is used again" (`slotsAfter`, `writes` of history's specs/Table.antt). What the node is set to
+-- "activation takes the lowest free slot", "a freed slot is used again" (`slots_after`, `writes` of history's specs/Table.antt). What the node is set to
 -- says with which limits a record opens.
 abbrev pub handling : Profile → Handling Settings Name Brought Message (Event × List ℕ) Context Record
 handling p = record {

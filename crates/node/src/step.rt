@@ -84,7 +84,7 @@ fn imsi_of(event: &[u8]) -> [u8; 8]
     ensures { result ≡ imsi_of event.now }
 {
     let mut imsi = [0u8; 8];
-    bytes::copy(&event[16..24], &mut imsi);
+    imsi.copy_from_slice(&event[16..24]);
     imsi
 }
 
@@ -161,7 +161,7 @@ fn attached(p: Profile, t: u32, place: Place, event: &[u8]) -> Told
     ensures { (result.answer ≡ 0) × ((result.subscriber ≡ subscriber.attached p t (subscriber_imsi event.now) place) × (result.written ≡ 0)) }
 {
     let mut imsi = [0u8; 8];
-    bytes::copy(&event[7..15], &mut imsi);
+    imsi.copy_from_slice(&event[7..15]);
     let subscriber = hear::opened(p, imsi, t, place, 0);
     Told {
         answer: 0,

@@ -28,7 +28,7 @@ use Rattle.history.specs.Demand.{Forms}
 
 -- ---- 01, "Events": what they say
 
--- What an activation brings, and no event changes: the flags, the IMSI's octets, the APN's with its letters lowered (02, W5: `apnOf`), the PDP type,
+-- What an activation brings, and no event changes: the flags, the IMSI's octets, the APN's with its letters lowered (02, W5: `apn_of`), the PDP type,
 -- the PDP address, and the number of its set of limits (02, W6).
 pub record Brought : Type 0 where
   pub flags : ℕ

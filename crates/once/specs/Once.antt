@@ -78,7 +78,7 @@ abbrev pub applies_of : Node → Call → ℕ
 applies_of n (step s b) = if_zero (step_of n s b).0
 applies_of n (batch m t vs b) = (batch_of n m t vs b).applied
 
--- Each event has the time that its octets say. `recordsBy` says which records a call writes.
+-- Each event has the time that its octets say. `records_by` says which records a call writes.
 abbrev pub machine : (Node → Call → List Cdr) → Machine Node Call (List ℕ) Cdr
 machine records_by = record {
   holds = λ c. map (λ s. record { time = time_of s; event = s }) (events_of c);
@@ -209,7 +209,7 @@ module _ {G N S E C B : Type 0} (K : Kind G N S E C B) (p : Profile) (records_by
     -- It writes a record with a cause, and no other under the name, exactly when a closing condition holds there with that cause.
     pub exactly : (name : N) (cause : ℕ) → OneFor K.cause_of (records_under name) cause ↔ ClosesUnder name cause
 
--- What must hold of a kind, where `recordsBy` says which records a call writes.
+-- What must hold of a kind, where `records_by` says which records a call writes.
 pub record Charged {G N S E C B : Type 0} (K : Kind G N S E C B) (p : Profile) (records_by : Node → Call → List Cdr) : Type 0 where
   -- Under every name these records, and what is stored, are exactly what its histories make and leave.
   pub demand : (calls : List Call) (name : N) → Demand3 K.rules K.meaning K.forms K.sight (machine records_by) (fresh_node p) K.settings calls name

@@ -3,15 +3,14 @@ use mathlib.Core.Path.{◌≡◌, refl, sym, ap, subst, ◌∙◌}
 use mathlib.Core.Bool.{Bool, true, false, ◌&&◌}
 use mathlib.Core.Option.{Option, none, some, none-ne-some}
 use mathlib.Core.List.{List, [], ◌∷◌}
-use Prim.Native.Nat.{ℕ, zero, suc, ◌+◌, ◌-◌, ◌^◌, ◌≤◌, ◌<◌}
+use Prim.Native.Nat.{ℕ, zero, suc, ◌+◌, ◌-◌, ◌^◌, ◌≤◌}
 use native.Mathlib.Nat.{le_of_suc-le-suc}
 use native.Mathlib.Omega.{arith}
 use lib.Dec.{eqb, ltb→lt}
 use lib.ListN.{length, take, drop}
 use lib.Seq.{drop-drop}
-use denote.Ref.{MutBor}
+use denote.Bor.{Bor}
 use Rattle.format.specs.Maybe.{guard}
-use Rattle.format.specs.Format.{Law}
 use Rattle.format.proofs.Tests.{by, and_l, T_true, true_T}
 use Rattle.ber.specs.Tlv.{tlv_dec}
 use Rattle.ber.specs.Field.{first}
@@ -29,7 +28,7 @@ use Rattle.scdr.specs.Table.{record_tag, NodeId}
 use Rattle.scdr.specs.Layout.{Fields, body, fields_of, to_record, duration_right, inside, scdr}
 use Rattle.scdr.specs.Private.Pieces.{NameEnds, Wired}
 use Rattle.scdr.specs.Answers.{read_of, ReadsRecord}
-use Rattle.scdr.specs.Apn.{walk, walk_in, apn_place, apn_of, ShowsApn}
+use Rattle.scdr.specs.Apn.{apn_place, apn_of, ShowsApn}
 use Rattle.scdr.specs.Private.Taken.{Taken, NotTaken}
 use Rattle.scdr.proofs.BodyLaw.{body_law}
 use Rattle.octets.proofs.Filled.{fill_length}
@@ -161,7 +160,7 @@ taken_nothing s d n = record {
 }
 
 -- the part that was shown is the one where the name lies
-pub shows : {s p : MutBor (List ℕ)} {n : ℕ} {r : Record} {from to : ℕ}
+pub shows : {s p : Bor (List ℕ)} {n : ℕ} {r : Record} {from to : ℕ}
     → Taken s.now n r from to → p.now ≡ cut (from, to) s.now → p.ref_ptr ≡ (s.ref_ptr.0, from + s.ref_ptr.1) → ShowsApn s p
 shows {s} {p} {n} {r} {from} {to} t c q =
     let e = t.place in

@@ -1,7 +1,8 @@
 -- The law of the record's fields: that of each row's values, and no tag stands twice. The tags as plain lists, for who looks them up.
 use mathlib.Core.Path.{◌≡◌, refl}
-use mathlib.Core.List.{List, [], ◌∷◌}
+use mathlib.Core.List.{[], ◌∷◌}
 use Prim.Native.Nat.{◌^◌}
+use mathlib.Core.Bool.{true}
 use lib.Dec.{leb, ltb}
 use lib.ListN.{length}
 use Rattle.format.specs.Format.{Law}
@@ -36,7 +37,7 @@ laws =
     ⨾ (stamp_law, tt)
     ⨾ (int_law, tt)
     ⨾ tt
-    ⨾ (octet_law _, tt)
+    ⨾ (octet_law (λ x. true), tt)
     ⨾ (counted_law, tt)
     ⨾ (octets_law 20 (λ x. leb 1 (length x)), tt)
     ⨾ tt

@@ -1,6 +1,6 @@
 -- Sixteen fields read one after another are the body.
 use mathlib.Core.Path.{◌≡◌, refl, sym}
-use mathlib.Core.Bool.{Bool, true, false}
+use mathlib.Core.Bool.{Bool, false}
 use mathlib.Core.Option.{none, some}
 use mathlib.Core.List.{List}
 use Prim.Native.Nat.{ℕ, ◌-◌, ◌<◌}
@@ -46,7 +46,7 @@ use Rattle.octets.specs.Filled.{fill_to}
 use Rattle.scdr.specs.Layout.{body, fields_of}
 use Rattle.scdr.specs.Private.Pieces.{NameEnds, Wired}
 use Rattle.scdr.proofs.Views.{made}
-use Rattle.scdr.proofs.Walks.{Finds, finds_rows, finds_here}
+use Rattle.scdr.proofs.Walks.{finds_rows, finds_here}
 
 -- ---- the fields
 

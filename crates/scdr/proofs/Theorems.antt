@@ -5,7 +5,7 @@ use mathlib.Core.Logic.{◌↔◌}
 use mathlib.Core.Bool.{Bool, true, false, ◌&&◌}
 use mathlib.Core.Option.{none, some}
 use mathlib.Core.List.{List, [], ◌∷◌}
-use Prim.Native.Nat.{ℕ, zero, suc, ◌-◌, ◌^◌, ◌≤◌, ◌<◌}
+use Prim.Native.Nat.{ℕ, ◌^◌, ◌≤◌, ◌<◌}
 use native.Mathlib.Omega.{arith}
 use lib.Dec.{T, leb, ltb, leb→le, ltb→lt, le→leb, lt→ltb}
 use lib.ListN.{length, take}
@@ -13,7 +13,7 @@ use lib.Seq.{length-take-le}
 use Rattle.format.specs.Format.{Law}
 use Rattle.format.proofs.Tests.{T_true, and_l, and_r}
 use Rattle.format.proofs.Formats.{viewed_law, injective, refuses}
-use Rattle.ber.specs.Field.{unless0, unless_none, ◌⨾◌}
+use Rattle.ber.specs.Field.{◌⨾◌}
 use Rattle.ber.specs.Table.{if_set, row_good, tag}
 use Rattle.ber.proofs.Ints.{int_good}
 use Rattle.ber.proofs.Counts.{number_good}

@@ -1,6 +1,6 @@
 -- Where a field lies: the readers that go from field to field come to the place to which `walk` comes.
 use mathlib.Core.Path.{◌≡◌, refl, sym, ap, subst, ◌∙◌}
-use mathlib.Core.Bool.{Bool, true, false, not, cond, ◌&&◌}
+use mathlib.Core.Bool.{Bool, false, not, cond, ◌&&◌}
 use mathlib.Core.Option.{Option, none, some, none-ne-some, some-injective}
 use mathlib.Core.List.{List, [], ◌∷◌}
 use Prim.Native.Nat.{ℕ, zero, suc, ◌+◌, ◌-◌, ◌≤◌, ◌<◌}
@@ -8,8 +8,7 @@ use native.Mathlib.Nat.{not-suc-le-zero, le_of_suc-le-suc}
 use native.Mathlib.Omega.{arith}
 use lib.Dec.{T, leb, eqb, eqb_refl}
 use lib.ListN.{length, take, drop, get_or, length-drop}
-use borrow.Author.Tests.{le-leb, eqb-true, eqb-false}
-use Rattle.format.specs.Maybe.{bind}
+use borrow.Author.Tests.{eqb-true, eqb-false}
 use Rattle.format.specs.Format.{Fmt, exactly}
 use Rattle.format.proofs.Tests.{by, either, T_true}
 use Rattle.format.proofs.Maybe.{bind_some, guard_some}

@@ -1,6 +1,6 @@
 -- The access point name as the reader shows it: "as the very part of the input where it lies" (01, "The record's octets"). Where it lies is found by
 -- going over the values that stand under A0, one after another: tag, length, contents.
-use Rattle.std.specs.Prelude.{◌≡◌, Bool, cond, List, [], ℕ, zero, suc, ◌+◌, ◌-◌, ◌≤◌, eqb, length, take, drop, get_or}
+use Rattle.std.specs.Prelude.{◌≡◌, Bool, cond, List, [], ℕ, zero, suc, ◌+◌, ◌≤◌, eqb, length, take, get_or}
 use Rattle.std.proofs.Math.Option.{Option, none, some}
 use Rattle.std.specs.Borrow.{Bor}
 use Rattle.ber.specs.Read.{part_at, cut}

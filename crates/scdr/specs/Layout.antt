@@ -1,5 +1,5 @@
 -- The record's octets (12.15's SGSNPDPRecord): A0, and inside the fields of the table in their order.
-use Rattle.std.specs.Prelude.{Bool, ◌&&◌, List, ℕ, eqb, length, take}
+use Rattle.std.specs.Prelude.{Bool, ◌&&◌, ℕ, eqb, length, take}
 use Rattle.format.specs.Format.{Fmt, viewed}
 use Rattle.octets.specs.Filled.{fill_to}
 use Rattle.ber.specs.Field.{alone, unless0, or_zero, unless_none, ◌⨾◌}

@@ -33,8 +33,8 @@ use Rattle.scdr.specs.Table.{
 }
 use Rattle.scdr.specs.Layout.{body, fields_of, of_record, rules, inside, scdr}
 use Rattle.scdr.proofs.Theorems.{good_is_rules}
-use Rattle.tally.specs.Seek.{before, seek}
-use Rattle.tally.specs.Say.{Saying, other, carries, found, say_number, say_ggsn, say_of}
+use Rattle.tally.specs.Seek.{seek}
+use Rattle.tally.specs.Say.{Saying, other, carries, say_number, say_ggsn, say_of}
 use Rattle.tally.specs.Named.{is_named}
 use Rattle.tally.proofs.Seeks.{seek_end}
 use Rattle.tally.proofs.Rows.{at_value, behind, rows_rest, past_rows}

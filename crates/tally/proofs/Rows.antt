@@ -1,5 +1,5 @@
 -- The fields of a record gone through: rows of a table that have another tag are stepped over.
-use Rattle.std.proofs.Common.{◌≡◌, ℕ, ◌+◌, ◌<◌, ◌≤◌, Bool, true, false, ◌||◌, eqb, List, [], ◌∷◌, ◌++◌, length, sym, refl, ◌∙◌, arith, length-append}
+use Rattle.std.proofs.Common.{◌≡◌, ℕ, ◌<◌, ◌≤◌, Bool, true, false, ◌||◌, eqb, List, [], ◌∷◌, ◌++◌, length, sym, refl, ◌∙◌, arith, length-append}
 use mathlib.Core.Option.{none, some}
 use lib.Dec.{eqb_refl}
 use Rattle.format.specs.Format.{Fmt}

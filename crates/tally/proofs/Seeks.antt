@@ -7,7 +7,7 @@ use Rattle.ber.specs.Read.{part_at, or_start, Lies}
 use Rattle.ber.proofs.Tlvs.{tlv_sound, tlv_length, head_2}
 use Rattle.ber.proofs.Places.{at_cons, rest_at, rest_is, PartIs, part_none, part_some}
 use Rattle.tally.specs.declared.seek.Sought as D
-use Rattle.tally.specs.Seek.{Sought, before, unfit, over, seek_in, seek}
+use Rattle.tally.specs.Seek.{Sought, before, unfit, seek_in, seek}
 use Rattle.tally.specs.Private.Places.{sought_in}
 
 -- ---- the two ways to stop

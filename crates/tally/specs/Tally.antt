@@ -1,6 +1,6 @@
 -- How many records a name has in octets, and the number that the last of them carries (02, W7): step by step from the front, up to the end, or
 -- up to what does not fit. This fixes the count of all octets. That it is the right one is claimed of lists that read in full alone
--- (`in-full` in proofs/Theorems.antt).
+-- (`in_full` in proofs/Theorems.antt).
 use Rattle.std.specs.Prelude.{ℕ, zero, suc, ◌+◌, Bool, true, false, cond, ◌&&◌, ◌||◌, List, length, drop, ◌==◌, nat_le}
 use Rattle.tally.specs.declared.Fault.{Fault}
 use Rattle.tally.specs.declared.Fault.TheVariants as F

@@ -1,0 +1,5 @@
+-- `container::open::no_open` meets its contract.
+use Rattle.container.proofs.open.no_open.Goals as goal
+
+pub returns : goal.returns
+returns c = rw (c.opened.ensures, c.no_limits-limits.ensures, c.no_qos-none.ensures)

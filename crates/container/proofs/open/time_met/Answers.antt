@@ -1,0 +1,5 @@
+-- `container::open::time_met` meets its contract.
+use Rattle.container.proofs.open.time_met.Goals as goal
+
+pub returns : goal.returns
+returns c = rw c.rest_of.ensures

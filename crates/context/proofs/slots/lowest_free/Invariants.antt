@@ -1,0 +1,11 @@
+-- `context::slots::lowest_free` meets its contract. The loop's invariant: none before i passes.
+use Prim.Native.Nat.{◌-◌}
+use Rattle.context.specs.Slots.{is_free}
+use Rattle.history.proofs.Scans.{Scan}
+use Rattle.context.proofs.slots.lowest_free.Given as goal
+
+abbrev pub invariant-loop-i : goal.invariant-loop-i
+invariant-loop-i l = Scan is_free l.slots l.i
+
+abbrev pub decreases-loop-i : goal.decreases-loop-i
+decreases-loop-i l = 16 - l.i

@@ -1,0 +1,9 @@
+-- `mcdr::changes::is_blank` meets its contract: the code is the test.
+use mathlib.Core.Path.{refl}
+use Rattle.mcdr.specs.Change.{same_place}
+use Rattle.mcdr.specs.Changes.{is_blank}
+use Rattle.mcdr.proofs.changes.is_blank.Goals as goal
+
+pub returns : goal.returns
+unfolding is_blank same_place
+returns c = refl

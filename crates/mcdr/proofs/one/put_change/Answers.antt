@@ -1,0 +1,27 @@
+-- `mcdr::one::put_change` meets its contract: its fields fill the array's front, which goes under the tag.
+use mathlib.Core.Path.{◌∙◌, refl, sym}
+use native.Mathlib.Omega.{arith}
+use Rattle.format.proofs.Tests.{true_T}
+use Rattle.ber.proofs.Writers.{puts_is}
+use Rattle.ber.proofs.Ready.{puts_not, ready, filled_count}
+use Rattle.calendar.specs.Stamp.{stamp_ok}
+use Rattle.mcdr.specs.Change.{change_tag}
+use Rattle.mcdr.proofs.one.put_change.Goals as goal
+
+pub returns-then-not-stamp_within : goal.returns-then-not-stamp_within
+returns-then-not-stamp_within c = puts_not (stamp_ok c.args.c.time) _ (sym c.stamp_within.ensures ∙ c.if-not-stamp_within.true)
+
+pub put_fields-end-requires : goal.put_fields-end-requires
+put_fields-end-requires c = (refl, true_T _ (sym c.stamp_within.ensures ∙ c.if-not-stamp_within.false))
+
+pub slice_bounds-b-end : goal.slice_bounds-b-end
+slice_bounds-b-end c = c.put_fields-end.ensures.inside
+
+pub slice_bounds-put_tlv-end : goal.slice_bounds-put_tlv-end
+slice_bounds-put_tlv-end c = filled_count c.put_fields-end.ensures
+
+pub returns : goal.returns
+returns c =
+    let f = c.put_fields-end.ensures in
+    puts_is (ready (stamp_ok c.args.c.time) change_tag
+    (sym c.stamp_within.ensures ∙ c.if-not-stamp_within.false) f.front (omega (arith, f.most))) c.put_tlv.ensures

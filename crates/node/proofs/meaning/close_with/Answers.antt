@@ -1,0 +1,6 @@
+-- `node::meaning::close_with` meets its contract.
+use borrow.Author.Rules.{rules}
+use Rattle.node.proofs.meaning.close_with.Goals as goal
+
+pub returns : goal.returns
+returns c = rw c.quiet-m.ensures

@@ -1,0 +1,6 @@
+-- `node::meaning::quiet` meets its contract.
+use borrow.Author.Rules.{rules}
+use Rattle.node.proofs.meaning.quiet.Goals as goal
+
+pub returns : goal.returns
+returns c = rw c.no_qos-none.ensures

@@ -1,0 +1,6 @@
+-- `node::meaning::report` meets its contract.
+use borrow.Author.Rules.{rules}
+use Rattle.node.proofs.meaning.report.Goals as goal
+
+pub returns : goal.returns
+returns c = rw c.quiet-m.ensures

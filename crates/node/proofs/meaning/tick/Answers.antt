@@ -1,0 +1,6 @@
+-- `node::meaning::tick` meets its contract.
+use borrow.Author.Rules.{rules}
+use Rattle.node.proofs.meaning.tick.Goals as goal
+
+pub returns : goal.returns
+returns c = rw c.quiet-m.ensures

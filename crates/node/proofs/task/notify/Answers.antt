@@ -1,0 +1,13 @@
+-- `node::task::notify` meets its contract.
+use mathlib.Core.Path.{sym, ◌∙◌}
+use Rattle.node.specs.Private.Task.{notify_task}
+use borrow.Author.Rules.{rules}
+use Rattle.node.proofs.task.notify.Goals as goal
+
+pub returns-in-At : goal.returns-in-At
+unfolding notify_task
+returns-in-At c = (rw (sym c.find-found.ensures ∙ c.in-At.is), c.requires)
+
+pub returns-in-Nothing : goal.returns-in-Nothing
+unfolding notify_task
+returns-in-Nothing c = (rw (sym c.find-found.ensures ∙ c.in-Nothing.is), tt)
