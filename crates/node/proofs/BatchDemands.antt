@@ -159,7 +159,7 @@ module _ (n : Node) (m : Name) (t : ℕ) (vs b : List ℕ) where
 
   -- so its written length is that of what those calls write
   pub written_length : length (octets_by n pairs_done) ≡ (batch_of n m t vs b).written
-  written_length = ap length one_by_one.octets ∙ front_long later_octets
+  written_length = ap length one_by_one_lem.octets ∙ front_long later_octets
 
 -- ---- which numbers there are: with numbers of 32 bits an event of a pair is never refused with 1 to 5, 9 or 10
 

@@ -79,10 +79,10 @@ try_slot-requires c =
     (looking_end (slots_ask _ _ _ _) v.0 (omega (arith, c.loop-i-test.false, h.size)))
     (looking_end (subscribers-ask _ _ _) v.1 (omega (arith, c.loop-i-test.false, h.places)))
     c.keeps_rules-sound.ensures (sym e ∙ c.task_for-k.ensures.0) in
-    let t = the_task _ c.in-One.is in (
-      slotted c.args.node.profile c.args.node.settings _ c.args.node.contexts _ (omega (arith, held.size, t.fit.0)) (ready c.args.node _ t.fit.1),
-      rw c.in-One.is at c.task_for-k.ensures.1,
-    )
+    let t = the_task _ c.in-One.is in record {
+      sound_slot = slotted c.args.node.profile c.args.node.settings _ c.args.node.contexts _ (omega (arith, held.size, t.fit.0)) (ready c.args.node _ t.fit.1);
+      in_range = rw c.in-One.is at c.task_for-k.ensures.1;
+    }
 
 pub placed-requires : goal.placed-requires
 placed-requires c =
@@ -113,7 +113,11 @@ serve-requires c =
     (looking_end (subscribers-ask _ _ _) v.1 (omega (arith, c.loop-i-test.false, h.places)))
     c.keeps_rules-sound.ensures (sym e ∙ c.task_for-k.ensures.0) in
     let t = the_task _ c.in-All.is in
-    (ready c.args.node _ t.fit, (rw c.in-All.is at c.task_for-k.ensures.1, t.fit.few))
+    record {
+      sound_table = ready c.args.node _ t.fit;
+      in_range = rw c.in-All.is at c.task_for-k.ensures.1;
+      accepted_lt_most_accepted = t.fit.few;
+    }
 
 -- a context is opened
 pub opened-requires : goal.opened-requires

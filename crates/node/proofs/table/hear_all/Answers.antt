@@ -22,10 +22,11 @@ hear_slot-e-requires c =
     let l = c.loop-i in
     let q = c.loop-i-test.true in
     let n : 16 ≤ length a.cs = omega (arith, whole) in
-    let e = still (slot_next a.p a.g a.t a.m) 0 16 a.cs l.invariant.standing in (
-      rw e (slotted a.p a.g a.t a.cs _ (omega arith) c.requires.0),
-      (c.requires.1.0, rw e (room puts (slot_next a.p a.g a.t a.m) (slot_out a.p a.g a.t a.m) 0 16 a.cs l.invariant _ q n c.requires.1.1)),
-    )
+    let e = still (slot_next a.p a.g a.t a.m) 0 16 a.cs l.invariant.standing in record {
+      sound_slot = rw e (slotted a.p a.g a.t a.cs _ (omega arith) c.requires.sound_table);
+      in_range = c.requires.in_range;
+      c_in_bounds = rw e (room puts (slot_next a.p a.g a.t a.m) (slot_out a.p a.g a.t a.m) 0 16 a.cs l.invariant _ q n c.requires.cs_in_bounds);
+    }
 
 pub loop-i-preserved : goal.loop-i-preserved
 loop-i-preserved c =

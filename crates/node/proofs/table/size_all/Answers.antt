@@ -18,7 +18,7 @@ slot_size-n-requires c =
     let whole : length c.args.cs ≡ 16 =
     search (rules, length_of_map) in
     let a = c.args in
-    (slotted a.p a.g a.t a.cs _ (omega (arith, whole, c.loop-i-test.true)) c.requires.0, c.requires.1)
+    record { sound_slot = slotted a.p a.g a.t a.cs _ (omega (arith, whole, c.loop-i-test.true)) c.requires.sound_table; in_range = c.requires.in_range }
 
 pub overflow_add-n : goal.overflow_add-n
 overflow_add-n c = omega (arith, c.loop-i.invariant.few, c.slot_size-n.ensures.most)
