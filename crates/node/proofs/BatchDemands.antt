@@ -19,9 +19,7 @@ use Rattle.event.specs.Event.{event_of, said_by, decoded}
 use Rattle.event.specs.Traffic.{traffic_event}
 use Rattle.event.proofs.Traffics.{traffic_said}
 use Rattle.history.specs.Lists.{All}
-use Rattle.history.specs.Log.{Said}
 use Rattle.node.specs.declared.Node.{Node}
-use Rattle.node.specs.declared.Message.{Message}
 use Rattle.node.specs.Sound.{sound, latest, most_accepted}
 use Rattle.node.specs.Step.{Words, handling, subscribing, slots, places, output, said_of, unknown_set, other_edition, refusals, step_of}
 use Rattle.history.specs.Table.{not_active, is_active, all_taken}

@@ -1,17 +1,15 @@
 -- The access point name of an activate, as the code takes it.
-use mathlib.Core.Path.{◌≡◌, refl, sym, ap, ◌∙◌}
+use mathlib.Core.Path.{◌≡◌, refl, ap, ◌∙◌}
 use mathlib.Core.Bool.{true}
-use mathlib.Core.List.{List, ◌++◌, append-nil}
-use Prim.Native.Nat.{ℕ, ◌+◌, ◌-◌, ◌≤◌}
-use native.Mathlib.Omega.{arith}
-use lib.ListN.{length, take, drop, length-drop, drop_of_length-le}
-use lib.Seq.{take-length, length-take-le}
+use mathlib.Core.List.{List}
+use Prim.Native.Nat.{ℕ, ◌-◌}
+use lib.ListN.{length, take, drop}
 use Rattle.octets.specs.declared.names.Checked.{Checked}
 use Rattle.octets.specs.Filled.{fill_to}
 use Rattle.octets.specs.Names.{is_apn, checked_apn}
 use Rattle.octets.proofs.Stored.{rest_all}
 use Rattle.octets.proofs.Checked.{checked_apn_lem}
-use Rattle.event.specs.Fields.{imsi_of, spelling_of, apn_of, subscriber_imsi}
+use Rattle.event.specs.Fields.{spelling_of, apn_of}
 
 -- the access point name of an activate, with its letters lowered
 pub checked_name : (s : List ℕ) {k : Checked} → k ≡ checked_apn (take (length s - 37) (drop 37 s)) → is_apn (spelling_of s) ≡ true

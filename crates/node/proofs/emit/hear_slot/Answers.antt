@@ -1,6 +1,5 @@
 -- `node::emit::hear_slot` meets its contract.
 use Rattle.node.proofs.Emits.{slot_apt, slot_active, slot_turns, free_turns}
-use borrow.Author.Rules.{rules}
 use Rattle.node.proofs.emit.hear_slot.Goals as goal
 
 pub hear-requires : goal.hear-requires

@@ -1,6 +1,5 @@
 -- `node::emit::slot_size` meets its contract.
 use Rattle.node.proofs.Emits.{slot_apt, slot_counts, free_counts}
-use borrow.Author.Rules.{rules}
 use Rattle.node.proofs.emit.slot_size.Goals as goal
 
 pub size_of-requires : goal.size_of-requires

@@ -1,9 +1,8 @@
 -- `node::step::attached` meets its contract.
-use mathlib.Core.Path.{◌≡◌, refl, ap, ◌∙◌}
+use mathlib.Core.Path.{refl, ap, ◌∙◌}
 use mathlib.Core.List.{List}
 use Prim.Native.Nat.{ℕ}
 use Rattle.subscriber.specs.Hear.{attached}
-use borrow.Author.Rules.{rules}
 use Rattle.node.proofs.step.attached.Goals as goal
 
 pub returns : goal.returns

@@ -1,11 +1,10 @@
 -- `node::table::hear_all` meets its contract.
 use Prim.Native.Nat.{◌≤◌}
 use mathlib.Core.Path.{◌≡◌}
-use Prim.Native.Nat.{◌-◌}
 use native.Mathlib.Omega.{arith}
 use lib.ListN.{length}
 use Rattle.format.proofs.Arrays.{length_of_map}
-use Rattle.history.proofs.Ranges.{still, Hearing, hearing_none, hearing_more, hearing_end, room}
+use Rattle.history.proofs.Ranges.{still, hearing_none, hearing_more, hearing_end, room}
 use Rattle.node.specs.Private.Range.{slot_next, slot_out}
 use Rattle.node.proofs.Ranges.{slotted, puts}
 use borrow.Author.Rules.{rules}
