@@ -6,9 +6,12 @@
 // what the whole gives). Standard output has one line, the count and the number, or - where the last one carries none; and nothing where the
 // list is refused: standard error says then what does not fit, and where (docs/FORMATS.md).
 use crate::refusal;
-use libc::STDERR_FILENO;
+use out::Stream;
 use profile::{address, number};
+use std::env::Env;
+use std::io::{Read, Stderr, Stdout};
 use std::num::{wrapping_add_usize, wrapping_sub_usize};
+use std::rt::Files;
 use tally::Tally;
 use template::four;
 use window::Place;
@@ -29,9 +32,9 @@ struct State {
 }
 
 // More of the file, or its end.
-fn read_on(fd: i32, s: State, held: &mut [u8; 65536]) -> State {
+fn read_on<F: Read>(error: Stderr, file: &mut F, s: State, held: &mut [u8; 65536]) -> State {
     let p = s.place;
-    let f = setup::read_on(b"count", b"the record list", fd, held, p);
+    let f = setup::read_on(error, b"count", b"the record list", file, held, p);
     let place = f.place;
     let t = s.tally;
     State {
@@ -58,39 +61,47 @@ fn count_on(s: State, id: u32, ggsn: u32, here: &[u8]) -> State {
 }
 
 // Counts on, or reads more of the file: so that a whole record is in the window, or all that is left.
-fn take_turn(fd: i32, id: u32, ggsn: u32, s: State, held: &mut [u8; 65536]) -> State {
+fn take_turn<F: Read>(
+    error: Stderr,
+    file: &mut F,
+    id: u32,
+    ggsn: u32,
+    s: State,
+    held: &mut [u8; 65536],
+) -> State {
     let p = s.place;
     if !s.ended & (window::left(p) < LONGEST) {
-        return read_on(fd, s, held);
+        return read_on(error, file, s, held);
     }
     count_on(s, id, ggsn, octets::part(held, p.at, p.end))
 }
 
 // The line: how many records there are, and the number of the last.
-fn write_count(t: Tally) {
+fn write_count(to: &mut Stream, error: Stderr, t: Tally) {
     let v = four(t.count as u64, t.number, (t.number != 0) as u64, 0);
-    if !template::write(b"%k %M-%;%l%.\n", &v, b"") {
-        setup::fail(b"count", b"standard output");
+    if !template::write(to, b"%k %M-%;%l%.\n", &v, b"") {
+        setup::fail_output(error, b"count", to);
     }
 }
 
 // Says how it ended. Where the file could not be read, that has been said.
-fn finish(s: State) {
+fn finish(output: Stdout, error: Stderr, s: State) {
     let t = s.tally;
     let f = t.fault;
     let answer = tally::count::answer(f);
     if answer != 0 {
-        refusal::say_unfit(answer, f, t.at as u64);
+        refusal::say_unfit(error, answer, f, t.at as u64);
         return;
     }
     if s.ended {
-        write_count(t);
+        let mut to = out::to_output(output);
+        write_count(&mut to, error, t);
     }
 }
 
 // A proved loop has to end, and nothing says that a file does. So it counts its turns down, from a number that no run uses up.
-fn run(fd: i32, id: u32, ggsn: u32) {
-    let mut held = io::large_buffer();
+fn run<F: Read>(output: Stdout, error: Stderr, file: &mut F, id: u32, ggsn: u32) {
+    let mut held = [0u8; 65536];
     let mut s = State {
         place: window::START,
         tally: tally::count::START,
@@ -99,10 +110,10 @@ fn run(fd: i32, id: u32, ggsn: u32) {
     };
     let mut turns = u64::MAX;
     while turns > 0 && s.going {
-        s = take_turn(fd, id, ggsn, s, &mut held);
+        s = take_turn(error, file, id, ggsn, s, &mut held);
         turns -= 1;
     }
-    finish(s);
+    finish(output, error, s);
 }
 
 // The number that v spells; one above every charging ID where it spells none, or has zeros in front.
@@ -114,55 +125,51 @@ fn number_in(v: &[u8]) -> u64 {
 }
 
 // The number that an argument is. One that is longer than the longest ID by far counts as empty.
-fn number_of(argument: usize) -> u64 {
+fn number_of(rt: &impl Env, argument: usize) -> u64 {
     let mut held = [0u8; 16];
-    let n = os::arg(argument, &mut held);
-    number_in(&held[..n])
+    number_in(setup::arg(rt, argument, &mut held))
 }
 
 // Is an argument an address?
-fn is_address(argument: usize) -> bool {
+fn is_address(rt: &impl Env, argument: usize) -> bool {
     let mut held = [0u8; 16];
-    let n = os::arg(argument, &mut held);
-    address::address_ok(&held[..n])
+    address::address_ok(setup::arg(rt, argument, &mut held))
 }
 
 // The address that an argument is.
-fn address_of(argument: usize) -> u32 {
+fn address_of(rt: &impl Env, argument: usize) -> u32 {
     let mut held = [0u8; 16];
-    let n = os::arg(argument, &mut held);
-    address::address(&held[..n])
+    address::address(setup::arg(rt, argument, &mut held))
 }
 
 // The list that an argument names, counted for the context that the two after it name.
-pub fn count_file(argument: usize) {
-    let id = number_of(wrapping_add_usize(argument, 1));
+pub fn count_file<R: Env + Files>(rt: &R, output: Stdout, error: Stderr, argument: usize) {
+    let id = number_of(rt, wrapping_add_usize(argument, 1));
     let ggsn = wrapping_add_usize(argument, 2);
     if LAST_ID < id {
-        io::write_all(
-            STDERR_FILENO,
+        setup::say_line(
+            error,
             b"count: ID is a whole number of 0 to 4294967295 in decimal, without zeros in front\n",
         );
         return;
     }
-    if !is_address(ggsn) {
-        io::write_all(
-            STDERR_FILENO,
+    if !is_address(rt, ggsn) {
+        setup::say_line(
+            error,
             b"count: GGSN is an address: four numbers of 0 to 255 with dots\n",
         );
         return;
     }
-    let fd = setup::open(b"count", argument);
-    if 0 <= fd {
-        run(fd, (id % 4294967296) as u32, address_of(ggsn));
-        libc::close(fd);
+    if let Some(mut file) = setup::open(rt, error, b"count", argument) {
+        let address = address_of(rt, ggsn);
+        run(output, error, &mut file, (id % 4294967296) as u32, address);
     }
 }
 
-pub fn main() {
-    if os::arg_count() != 5 {
-        io::write_all(STDERR_FILENO, b"usage: count RECORDS ID GGSN\n");
+pub fn main<R: Env + Files>(rt: &R, output: Stdout, error: Stderr) {
+    if setup::arg_count(rt) != 5 {
+        setup::say_line(error, b"usage: count RECORDS ID GGSN\n");
         return;
     }
-    count_file(2);
+    count_file(rt, output, error, 2);
 }

@@ -13,29 +13,26 @@ mod count;
 mod refusal;
 mod show;
 
-use libc::STDERR_FILENO;
-
-fn main() {
-    if setup::is_word(1, b"charge") {
-        charge::main();
+fn main(rt: HostRuntime) {
+    let output = rt.stdout();
+    let error = rt.stderr();
+    if setup::is_word(&rt, 1, b"charge") {
+        charge::main(&rt, output, error);
         return;
     }
-    if setup::is_word(1, b"show") {
-        show::main();
+    if setup::is_word(&rt, 1, b"show") {
+        show::main(&rt, output, error);
         return;
     }
-    if setup::is_word(1, b"count") {
-        count::main();
+    if setup::is_word(&rt, 1, b"count") {
+        count::main(&rt, output, error);
         return;
     }
-    if setup::is_word(1, b"all") {
-        charge::charge_file();
-        show::show_file(4, out::TEXT);
-        count::count_file(4);
+    if setup::is_word(&rt, 1, b"all") {
+        charge::charge_file(&rt, output, error);
+        show::show_file(&rt, output, error, 4, out::TEXT);
+        count::count_file(&rt, output, error, 4);
         return;
     }
-    io::write_all(
-        STDERR_FILENO,
-        b"usage: commands charge|show|count ARGUMENT..\n",
-    );
+    setup::say_line(error, b"usage: commands charge|show|count ARGUMENT..\n");
 }

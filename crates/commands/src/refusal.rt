@@ -1,11 +1,13 @@
 // The refusals in words: the table's own first, then what to do.
+use std::io::Stderr;
 use tally::Fault;
 use template::{four, say};
 
 // Says, on standard error, what was refused: the answer, which event it is, counted from 1, and how many octets of the file lie before it.
 // (A bad profile, 12, is setup's to say.)
-pub fn say_refused(answer: u8, number: u64, offset: u64) {
+pub fn say_refused(error: Stderr, answer: u8, number: u64, offset: u64) {
     say(
+        error,
         b"charge: refused %k at event %l (octet %m): %K\
 %;event under 7 octets: it is cut short; get the whole file\
 %;mark: an event begins with C3 5E; here none begins, so look at the event before it, its n (octet 36) if it is an activate\
@@ -43,8 +45,9 @@ fn number_of(f: Fault) -> u64 {
 }
 
 // The same of a record list that a count refuses: the answer, what does not fit, and how many octets of the list lie before it.
-pub fn say_unfit(answer: u8, f: Fault, offset: u64) {
+pub fn say_unfit(error: Stderr, answer: u8, f: Fault, offset: u64) {
     say(
+        error,
         b"count: refused %k at octet %m: %L\
 %;the mark does not fit: a record begins with C3 5A, and here none does; the length of the record before may be wrong\
 %;the length does not fit: the list ends within this record; get the whole file\

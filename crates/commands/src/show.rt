@@ -7,11 +7,13 @@
 // been written then. The last line on standard error says how many records were shown, and how many octets of the file they take.
 // docs/FORMATS.md has both forms.
 use entries::Entry;
-use libc::{STDERR_FILENO, STDOUT_FILENO};
 use mcdr::MmRecord;
-use out::{JSON, TEXT};
+use out::{JSON, Stream, TEXT};
 use scdr::Record;
+use std::env::Env;
+use std::io::{Read, Stderr, Stdout};
 use std::num::{wrapping_add_u64, wrapping_sub_u64};
+use std::rt::Files;
 use template::{four, say};
 use window::Place;
 
@@ -42,9 +44,9 @@ struct State {
 }
 
 // More of the file, or its end.
-fn read_on(fd: i32, s: State, held: &mut [u8; 65536]) -> State {
+fn read_on<F: Read>(error: Stderr, file: &mut F, s: State, held: &mut [u8; 65536]) -> State {
     let p = s.place;
-    let f = setup::read_on(b"show", b"the record list", fd, held, p);
+    let f = setup::read_on(error, b"show", b"the record list", file, held, p);
     let place = f.place;
     State {
         place,
@@ -104,7 +106,7 @@ fn past_record(s: State, end: usize, waiting: usize) -> State {
 }
 
 // What lies at the front of the octets that are left: a record and more, or all that is left of the file.
-fn show_one(style: u8, s: State, here: &[u8], text: &mut [u8; 4096]) -> State {
+fn show_one(to: &mut Stream, style: u8, s: State, here: &[u8], text: &mut [u8; 4096]) -> State {
     let z = entries::read::read_entry(here, 0);
     let e = z.entry;
     let turn = turn_after(e, z.answer);
@@ -114,16 +116,24 @@ fn show_one(style: u8, s: State, here: &[u8], text: &mut [u8; 4096]) -> State {
     let end = end_of(e);
     if z.mm {
         let cdr = z.mmcdr;
-        return show_mm(style, s, end, cdr, text);
+        return show_mm(to, style, s, end, cdr, text);
     }
     let cdr = z.cdr;
-    show_cdr(style, s, end, cdr, text)
+    show_cdr(to, style, s, end, cdr, text)
 }
 
 // An S-CDR, whose entry takes so many octets of the file.
-fn show_cdr(style: u8, s: State, end: usize, cdr: Record, text: &mut [u8; 4096]) -> State {
+fn show_cdr(
+    to: &mut Stream,
+    style: u8,
+    s: State,
+    end: usize,
+    cdr: Record,
+    text: &mut [u8; 4096],
+) -> State {
     let p = s.place;
     let waiting = shown::put_record(
+        to,
         text,
         s.waiting,
         style,
@@ -136,9 +146,17 @@ fn show_cdr(style: u8, s: State, end: usize, cdr: Record, text: &mut [u8; 4096])
 }
 
 // An M-CDR, in the same way.
-fn show_mm(style: u8, s: State, end: usize, cdr: MmRecord, text: &mut [u8; 4096]) -> State {
+fn show_mm(
+    to: &mut Stream,
+    style: u8,
+    s: State,
+    end: usize,
+    cdr: MmRecord,
+    text: &mut [u8; 4096],
+) -> State {
     let p = s.place;
     let waiting = shown::mm::put_record(
+        to,
         text,
         s.waiting,
         style,
@@ -151,24 +169,33 @@ fn show_mm(style: u8, s: State, end: usize, cdr: MmRecord, text: &mut [u8; 4096]
 }
 
 // One record, or more of the file: so that a whole record is in the window, or all that is left.
-fn take_turn(fd: i32, style: u8, s: State, held: &mut [u8; 65536], text: &mut [u8; 4096]) -> State {
+fn take_turn<F: Read>(
+    to: &mut Stream,
+    error: Stderr,
+    file: &mut F,
+    style: u8,
+    s: State,
+    held: &mut [u8; 65536],
+    text: &mut [u8; 4096],
+) -> State {
     let p = s.place;
     if !s.ended & (window::left(p) < LONGEST) {
-        return read_on(fd, s, held);
+        return read_on(error, file, s, held);
     }
-    show_one(style, s, octets::part(held, p.at, p.end), text)
+    show_one(to, style, s, octets::part(held, p.at, p.end), text)
 }
 
 // Writes what waits, and says how it ended: which record was refused, counted from 1, how many octets lie before its mark and what was found
 // there; and what was shown.
-fn finish(s: State, text: &[u8; 4096]) {
-    if !out::write_out(STDOUT_FILENO, text, s.waiting) {
-        setup::fail(b"show", b"standard output");
+fn finish(to: &mut Stream, error: Stderr, s: State, text: &[u8; 4096]) {
+    if !out::write_out(to, text, s.waiting) {
+        setup::fail_output(error, b"show", to);
         return;
     }
     let p = s.place;
     let next = wrapping_add_u64(s.records, 1);
     say(
+        error,
         b"%K%;show: refused 20 at record %l (octet %m): no mark\n%;show: refused 20 at record %l (octet %m): cut short\n\
 %;show: refused 20 at record %l (octet %m): not a record within the rules\n%.show: %n records, %m octets\n",
         &four(s.turn % OVER, next, p.offset, s.records),
@@ -177,8 +204,8 @@ fn finish(s: State, text: &[u8; 4096]) {
 }
 
 // A proved loop has to end, and nothing says that a file does. So it counts its turns down, from a number that no run uses up.
-fn run(fd: i32, style: u8) {
-    let mut held = io::large_buffer();
+fn run<F: Read>(to: &mut Stream, error: Stderr, file: &mut F, style: u8) {
+    let mut held = [0u8; 65536];
     let mut text = [0u8; 4096];
     let mut s = State {
         place: window::START,
@@ -189,31 +216,36 @@ fn run(fd: i32, style: u8) {
     };
     let mut turns = u64::MAX;
     while turns > 0 && s.turn == GOING {
-        s = take_turn(fd, style, s, &mut held, &mut text);
+        s = take_turn(to, error, file, style, s, &mut held, &mut text);
         turns -= 1;
     }
-    finish(s, &text);
+    finish(to, error, s, &text);
 }
 
 // The list that an argument names.
-pub fn show_file(argument: usize, style: u8) {
-    let fd = setup::open(b"show", argument);
-    if 0 <= fd {
-        run(fd, style);
-        libc::close(fd);
+pub fn show_file<R: Env + Files>(
+    rt: &R,
+    output: Stdout,
+    error: Stderr,
+    argument: usize,
+    style: u8,
+) {
+    if let Some(mut file) = setup::open(rt, error, b"show", argument) {
+        let mut to = out::to_output(output);
+        run(&mut to, error, &mut file, style);
     }
 }
 
-pub fn main() {
-    let count = os::arg_count();
-    let json = setup::is_word(2, b"--json");
+pub fn main<R: Env + Files>(rt: &R, output: Stdout, error: Stderr) {
+    let count = setup::arg_count(rt);
+    let json = setup::is_word(rt, 2, b"--json");
     if (count == 3) & !json {
-        show_file(2, TEXT);
+        show_file(rt, output, error, 2, TEXT);
         return;
     }
     if (count == 4) & json {
-        show_file(3, JSON);
+        show_file(rt, output, error, 3, JSON);
         return;
     }
-    io::write_all(STDERR_FILENO, b"usage: show [--json] RECORDS\n");
+    setup::say_line(error, b"usage: show [--json] RECORDS\n");
 }

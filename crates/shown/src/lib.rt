@@ -14,12 +14,13 @@ mod parts;
 mod rows;
 
 use calendar::Stamp;
-use out::{JSON, PLAIN};
+use out::{JSON, PLAIN, Stream};
 use scdr::Record;
 
 // Puts a whole S-CDR behind the characters that wait, and answers how many wait then: which it is, how many octets of the file lie before
 // its mark, how many it has without the mark. (The plain form says none of the three.)
 pub fn put_record(
+    to: &mut Stream,
     text: &mut [u8; 4096],
     waiting: usize,
     style: u8,
@@ -31,18 +32,19 @@ pub fn put_record(
     let v = numbers::of_record(r, which, before, size);
     let imsi = r.imsi;
     let apn = r.apn;
-    let a = put_front(text, waiting, style, &v, imsi, apn, r.apnlen);
+    let a = put_front(to, text, waiting, style, &v, imsi, apn, r.apnlen);
     let list = r.containers;
-    let b = rows::put_rows(text, a, style, list, rows_at(style, false, r.count));
+    let b = rows::put_rows(to, text, a, style, list, rows_at(style, false, r.count));
     let opening = r.opening;
     let id = r.nodeid;
-    let c = put_back(text, b.waiting, style, &v, opening, id, r.nodelen);
-    let d = rows::put_rows(text, c, style, list, rows_at(style, true, r.count));
-    rows::put_end(text, d, style)
+    let c = put_back(to, text, b.waiting, style, &v, opening, id, r.nodelen);
+    let d = rows::put_rows(to, text, c, style, list, rows_at(style, true, r.count));
+    rows::put_end(to, text, d, style)
 }
 
 // What stands before the opening time.
 fn put_front(
+    to: &mut Stream,
     text: &mut [u8; 4096],
     waiting: usize,
     style: u8,
@@ -51,12 +53,13 @@ fn put_front(
     apn: [u8; 63],
     n: usize,
 ) -> usize {
-    let a = parts::put_head(text, waiting, style, v, &imsi);
-    parts::put_name(text, a, style, v, octets::front(&apn, shown(style, n)))
+    let a = parts::put_head(to, text, waiting, style, v, &imsi);
+    parts::put_name(to, text, a, style, v, octets::front(&apn, shown(style, n)))
 }
 
 // From the opening time on.
 fn put_back(
+    to: &mut Stream,
     text: &mut [u8; 4096],
     waiting: usize,
     style: u8,
@@ -66,9 +69,9 @@ fn put_back(
     n: usize,
 ) -> usize {
     let time = octets_of(opening);
-    let a = parts::put_opening(text, waiting, style, v, &time);
-    let b = parts::put_cause(text, a, style, v);
-    parts::put_id(text, b, style, v, octets::front(&id, shown(style, n)))
+    let a = parts::put_opening(to, text, waiting, style, v, &time);
+    let b = parts::put_cause(to, text, a, style, v);
+    parts::put_id(to, text, b, style, v, octets::front(&id, shown(style, n)))
 }
 
 // The nine octets of a time.

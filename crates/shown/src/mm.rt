@@ -2,11 +2,13 @@
 use crate::{moves, numbers, octets_of, parts, rows_at, shown};
 use calendar::Stamp;
 use mcdr::{MmRecord, Place};
+use out::Stream;
 use template::put_styled;
 
 // Puts a whole M-CDR behind the characters that wait, and answers how many wait then: which it is, how many octets of the file lie before
 // its mark, how many it has without the mark. (The plain form says none of the three.)
 pub fn put_record(
+    to: &mut Stream,
     text: &mut [u8; 4096],
     waiting: usize,
     style: u8,
@@ -18,18 +20,19 @@ pub fn put_record(
     let v = numbers::of_mm_record(r, which, before, size);
     let imsi = r.imsi;
     let place = r.place;
-    let a = put_front(text, waiting, style, &v, imsi, place);
+    let a = put_front(to, text, waiting, style, &v, imsi, place);
     let list = r.changes;
-    let b = moves::put_moves(text, a, style, list, rows_at(style, false, r.count));
+    let b = moves::put_moves(to, text, a, style, list, rows_at(style, false, r.count));
     let opening = r.opening;
     let id = r.nodeid;
-    let c = put_back(text, b, style, &v, opening, id, r.nodelen);
-    let d = moves::put_moves(text, c, style, list, rows_at(style, true, r.count));
-    put_end(text, d, style, &v)
+    let c = put_back(to, text, b, style, &v, opening, id, r.nodelen);
+    let d = moves::put_moves(to, text, c, style, list, rows_at(style, true, r.count));
+    put_end(to, text, d, style, &v)
 }
 
 // What stands before the location changes.
 fn put_front(
+    to: &mut Stream,
     text: &mut [u8; 4096],
     waiting: usize,
     style: u8,
@@ -37,13 +40,14 @@ fn put_front(
     imsi: [u8; 8],
     place: Place,
 ) -> usize {
-    let a = put_head(text, waiting, style, v, &imsi);
+    let a = put_head(to, text, waiting, style, v, &imsi);
     let area = moves::octets_of_place(place);
-    put_area(text, a, style, v, &area)
+    put_area(to, text, a, style, v, &area)
 }
 
 // From the opening time on.
 fn put_back(
+    to: &mut Stream,
     text: &mut [u8; 4096],
     waiting: usize,
     style: u8,
@@ -53,14 +57,22 @@ fn put_back(
     n: usize,
 ) -> usize {
     let time = octets_of(opening);
-    let a = put_opening(text, waiting, style, v, &time);
-    let b = parts::put_cause(text, a, style, v);
-    put_id(text, b, style, v, octets::front(&id, shown(style, n)))
+    let a = put_opening(to, text, waiting, style, v, &time);
+    let b = parts::put_cause(to, text, a, style, v);
+    put_id(to, text, b, style, v, octets::front(&id, shown(style, n)))
 }
 
 // What stands before the place, with the IMSI. For people the record says first of what kind it is.
-fn put_head(text: &mut [u8; 4096], waiting: usize, style: u8, v: &[u64; 27], imsi: &[u8]) -> usize {
+fn put_head(
+    to: &mut Stream,
+    text: &mut [u8; 4096],
+    waiting: usize,
+    style: u8,
+    v: &[u64; 27],
+    imsi: &[u8],
+) -> usize {
     put_styled(
+        to,
         text,
         waiting,
         style,
@@ -77,8 +89,16 @@ fn put_head(text: &mut [u8; 4096], waiting: usize, style: u8, v: &[u64; 27], ims
 }
 
 // The place at the opening.
-fn put_area(text: &mut [u8; 4096], waiting: usize, style: u8, v: &[u64; 27], area: &[u8]) -> usize {
+fn put_area(
+    to: &mut Stream,
+    text: &mut [u8; 4096],
+    waiting: usize,
+    style: u8,
+    v: &[u64; 27],
+    area: &[u8],
+) -> usize {
     put_styled(
+        to,
         text,
         waiting,
         style,
@@ -94,6 +114,7 @@ fn put_area(text: &mut [u8; 4096], waiting: usize, style: u8, v: &[u64; 27], are
 
 // The opening time and the duration.
 fn put_opening(
+    to: &mut Stream,
     text: &mut [u8; 4096],
     waiting: usize,
     style: u8,
@@ -101,6 +122,7 @@ fn put_opening(
     time: &[u8],
 ) -> usize {
     put_styled(
+        to,
         text,
         waiting,
         style,
@@ -115,8 +137,16 @@ fn put_opening(
 }
 
 // The node ID; and for people the head of the table of location changes, where there is one.
-fn put_id(text: &mut [u8; 4096], waiting: usize, style: u8, v: &[u64; 27], id: &[u8]) -> usize {
+fn put_id(
+    to: &mut Stream,
+    text: &mut [u8; 4096],
+    waiting: usize,
+    style: u8,
+    v: &[u64; 27],
+    id: &[u8],
+) -> usize {
     put_styled(
+        to,
         text,
         waiting,
         style,
@@ -132,6 +162,12 @@ fn put_id(text: &mut [u8; 4096], waiting: usize, style: u8, v: &[u64; 27], id: &
 }
 
 // The end of a record: in the plain form a line feed.
-fn put_end(text: &mut [u8; 4096], waiting: usize, style: u8, v: &[u64; 27]) -> usize {
-    put_styled(text, waiting, style, b"", b"", b"\n", v, b"")
+fn put_end(
+    to: &mut Stream,
+    text: &mut [u8; 4096],
+    waiting: usize,
+    style: u8,
+    v: &[u64; 27],
+) -> usize {
+    put_styled(to, text, waiting, style, b"", b"", b"\n", v, b"")
 }

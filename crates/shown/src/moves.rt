@@ -1,10 +1,12 @@
 // The location changes of an M-CDR.
 use crate::{numbers, octets_of};
 use mcdr::{Change, Place};
+use out::Stream;
 use template::put_styled;
 
 // The first changes of a list, as many as are counted.
 pub fn put_moves(
+    to: &mut Stream,
     text: &mut [u8; 4096],
     waiting: usize,
     style: u8,
@@ -14,7 +16,7 @@ pub fn put_moves(
     let mut w = waiting;
     let mut i: usize = 0;
     while i < 15 {
-        w = put_move(text, w, style, list[i], i, i < count);
+        w = put_move(to, text, w, style, list[i], i, i < count);
         i += 1;
     }
     w
@@ -22,6 +24,7 @@ pub fn put_moves(
 
 // A change at a place of the list, if it is there.
 fn put_move(
+    to: &mut Stream,
     text: &mut [u8; 4096],
     waiting: usize,
     style: u8,
@@ -33,12 +36,11 @@ fn put_move(
         return waiting;
     }
     let v = numbers::of_change(c, place);
-    let to = c.place;
     let t = c.time;
-    let area = octets_of_place(to);
+    let area = octets_of_place(c.place);
     let time = octets_of(t);
-    let w = put_area(text, waiting, style, &v, &area);
-    put_time(text, w, style, &v, &time)
+    let w = put_area(to, text, waiting, style, &v, &area);
+    put_time(to, text, w, style, &v, &time)
 }
 
 // The octets of a place: two of the location area, one of the routing area.
@@ -47,8 +49,16 @@ pub fn octets_of_place(p: Place) -> [u8; 3] {
 }
 
 // Where the subscriber moved to.
-fn put_area(text: &mut [u8; 4096], waiting: usize, style: u8, v: &[u64; 27], area: &[u8]) -> usize {
+fn put_area(
+    to: &mut Stream,
+    text: &mut [u8; 4096],
+    waiting: usize,
+    style: u8,
+    v: &[u64; 27],
+    area: &[u8],
+) -> usize {
     put_styled(
+        to,
         text,
         waiting,
         style,
@@ -61,8 +71,16 @@ fn put_area(text: &mut [u8; 4096], waiting: usize, style: u8, v: &[u64; 27], are
 }
 
 // And when.
-fn put_time(text: &mut [u8; 4096], waiting: usize, style: u8, v: &[u64; 27], time: &[u8]) -> usize {
+fn put_time(
+    to: &mut Stream,
+    text: &mut [u8; 4096],
+    waiting: usize,
+    style: u8,
+    v: &[u64; 27],
+    time: &[u8],
+) -> usize {
     put_styled(
+        to,
         text,
         waiting,
         style,

@@ -1,8 +1,10 @@
 // The parts of an S-CDR that have one word each, in the three forms; and the part that M-CDRs have too.
+use out::Stream;
 use template::put_styled;
 
 // What stands before the access point name, with the IMSI.
 pub fn put_head(
+    to: &mut Stream,
     text: &mut [u8; 4096],
     waiting: usize,
     style: u8,
@@ -10,6 +12,7 @@ pub fn put_head(
     imsi: &[u8],
 ) -> usize {
     put_styled(
+        to,
         text,
         waiting,
         style,
@@ -30,6 +33,7 @@ pub fn put_head(
 
 // From the access point name to the PDP address.
 pub fn put_name(
+    to: &mut Stream,
     text: &mut [u8; 4096],
     waiting: usize,
     style: u8,
@@ -37,6 +41,7 @@ pub fn put_name(
     name: &[u8],
 ) -> usize {
     put_styled(
+        to,
         text,
         waiting,
         style,
@@ -53,6 +58,7 @@ pub fn put_name(
 
 // The opening time, and what stands between it and the cause.
 pub fn put_opening(
+    to: &mut Stream,
     text: &mut [u8; 4096],
     waiting: usize,
     style: u8,
@@ -60,6 +66,7 @@ pub fn put_opening(
     time: &[u8],
 ) -> usize {
     put_styled(
+        to,
         text,
         waiting,
         style,
@@ -75,8 +82,15 @@ pub fn put_opening(
 }
 
 // The cause and the number, of records of both kinds.
-pub fn put_cause(text: &mut [u8; 4096], waiting: usize, style: u8, v: &[u64; 27]) -> usize {
+pub fn put_cause(
+    to: &mut Stream,
+    text: &mut [u8; 4096],
+    waiting: usize,
+    style: u8,
+    v: &[u64; 27],
+) -> usize {
     put_styled(
+        to,
         text,
         waiting,
         style,
@@ -92,8 +106,16 @@ maximum number of changes in charging conditions%;management intervention%;maxim
 }
 
 // The node ID; and for people the head of the table of containers.
-pub fn put_id(text: &mut [u8; 4096], waiting: usize, style: u8, v: &[u64; 27], id: &[u8]) -> usize {
+pub fn put_id(
+    to: &mut Stream,
+    text: &mut [u8; 4096],
+    waiting: usize,
+    style: u8,
+    v: &[u64; 27],
+    id: &[u8],
+) -> usize {
     put_styled(
+        to,
         text,
         waiting,
         style,
@@ -110,6 +132,7 @@ pub fn put_id(text: &mut [u8; 4096], waiting: usize, style: u8, v: &[u64; 27], i
 
 // A container, with the time at which it ended.
 pub fn put_container(
+    to: &mut Stream,
     text: &mut [u8; 4096],
     waiting: usize,
     style: u8,
@@ -117,6 +140,7 @@ pub fn put_container(
     time: &[u8],
 ) -> usize {
     put_styled(
+        to,
         text,
         waiting,
         style,
@@ -130,8 +154,15 @@ pub fn put_container(
 }
 
 // The end of a record: for people the sums, in the plain form a line feed; the JSON has its own.
-pub fn put_end(text: &mut [u8; 4096], waiting: usize, style: u8, v: &[u64; 27]) -> usize {
+pub fn put_end(
+    to: &mut Stream,
+    text: &mut [u8; 4096],
+    waiting: usize,
+    style: u8,
+    v: &[u64; 27],
+) -> usize {
     put_styled(
+        to,
         text,
         waiting,
         style,

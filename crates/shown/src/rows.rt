@@ -1,6 +1,7 @@
 // The containers of a record.
 use crate::{numbers, octets_of, parts};
 use container::Container;
+use out::Stream;
 use std::num::wrapping_add_u64;
 
 // What was put of a list of containers: how many characters wait, and the sums so far. Fifteen volumes below 2^40 never wrap.
@@ -13,6 +14,7 @@ pub struct Rows {
 
 // The first containers of a list, as many as are counted.
 pub fn put_rows(
+    to: &mut Stream,
     text: &mut [u8; 4096],
     waiting: usize,
     style: u8,
@@ -26,7 +28,7 @@ pub fn put_rows(
     };
     let mut i: usize = 0;
     while i < 15 {
-        rows = put_row(text, rows, style, list[i], i, i < count);
+        rows = put_row(to, text, rows, style, list[i], i, i < count);
         i += 1;
     }
     rows
@@ -34,6 +36,7 @@ pub fn put_rows(
 
 // A container at a place of the list, if it is there.
 fn put_row(
+    to: &mut Stream,
     text: &mut [u8; 4096],
     rows: Rows,
     style: u8,
@@ -48,14 +51,14 @@ fn put_row(
     let t = c.time;
     let time = octets_of(t);
     Rows {
-        waiting: parts::put_container(text, rows.waiting, style, &v, &time),
+        waiting: parts::put_container(to, text, rows.waiting, style, &v, &time),
         up: wrapping_add_u64(rows.up, c.uplink),
         down: wrapping_add_u64(rows.down, c.downlink),
     }
 }
 
 // The end of a record, with the sums.
-pub fn put_end(text: &mut [u8; 4096], rows: Rows, style: u8) -> usize {
+pub fn put_end(to: &mut Stream, text: &mut [u8; 4096], rows: Rows, style: u8) -> usize {
     let v = numbers::of_sums(rows.up, rows.down);
-    parts::put_end(text, rows.waiting, style, &v)
+    parts::put_end(to, text, rows.waiting, style, &v)
 }

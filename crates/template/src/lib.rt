@@ -18,8 +18,8 @@
 ghost use Rattle.std.specs.Prelude.{◌≡◌};
 ghost use Rattle.template.specs.Numbers.{four_of};
 
-use libc::{STDERR_FILENO, STDOUT_FILENO};
-use out::{APART, DIGITS, JSON, PLAIN, TEXT, put, put_all, put_one, put_right};
+use out::{APART, DIGITS, JSON, PLAIN, Stream, TEXT, put, put_all, put_one, put_right};
+use std::io::Stderr;
 use std::num::wrapping_sub_u64;
 
 // How far a form has been written: how many characters wait; whether a `%` came last; how many `%;` are to come until characters stand.
@@ -32,6 +32,7 @@ struct Fill {
 
 // Puts what a form says behind the characters that wait, and answers how many wait then.
 pub fn put_form(
+    to: &mut Stream,
     text: &mut [u8; 4096],
     waiting: usize,
     style: u8,
@@ -46,30 +47,28 @@ pub fn put_form(
     };
     let mut i: usize = 0;
     while i < form.len() {
-        f = put_next(text, f, style, form[i], numbers, word);
+        f = put_next(to, text, f, style, form[i], numbers, word);
         i += 1;
     }
     f.waiting
 }
 
-// What a form says, in the style for people, on standard error. It has at most 4,096 characters.
-pub fn say(form: &[u8], numbers: &[u64; 27], word: &[u8]) {
-    write_to(STDERR_FILENO, form, numbers, word);
+// What a form says, in the style for people, on standard error.
+pub fn say(to: Stderr, form: &[u8], numbers: &[u64; 27], word: &[u8]) {
+    let mut error = out::to_error(to);
+    write(&mut error, form, numbers, word);
 }
 
-// The same on standard output, of any length. Answers whether it could be written.
-pub fn write(form: &[u8], numbers: &[u64; 27], word: &[u8]) -> bool {
-    write_to(STDOUT_FILENO, form, numbers, word)
-}
-
-fn write_to(fd: i32, form: &[u8], numbers: &[u64; 27], word: &[u8]) -> bool {
+// The same on standard output. Answers whether it could be written.
+pub fn write(to: &mut Stream, form: &[u8], numbers: &[u64; 27], word: &[u8]) -> bool {
     let mut text = [0u8; 4096];
-    let n = put_form(&mut text, 0, TEXT, form, numbers, word);
-    out::write_out(fd, &text, n)
+    let n = put_form(to, &mut text, 0, TEXT, form, numbers, word);
+    out::write_out(to, &text, n)
 }
 
 // Puts what one of three forms says: the one of the style.
 pub fn put_styled<'a>(
+    to: &mut Stream,
     text: &mut [u8; 4096],
     waiting: usize,
     style: u8,
@@ -80,7 +79,7 @@ pub fn put_styled<'a>(
     word: &[u8],
 ) -> usize {
     let form = form_of(style, for_text, for_json, for_plain);
-    put_form(text, waiting, style, form, numbers, word)
+    put_form(to, text, waiting, style, form, numbers, word)
 }
 
 fn form_of<'a>(style: u8, text: &'a [u8], json: &'a [u8], plain: &'a [u8]) -> &'a [u8] {
@@ -102,6 +101,7 @@ pub fn four(k: u64, l: u64, m: u64, n: u64) -> [u64; 27]
 
 // One character of a form.
 fn put_next(
+    to: &mut Stream,
     text: &mut [u8; 4096],
     f: Fill,
     style: u8,
@@ -110,7 +110,7 @@ fn put_next(
     word: &[u8],
 ) -> Fill {
     if f.code {
-        return put_code(text, f, style, x, number_of(numbers, x), word);
+        return put_code(to, text, f, style, x, number_of(numbers, x), word);
     }
     if x == b'%' {
         return Fill {
@@ -123,14 +123,22 @@ fn put_next(
         return f;
     }
     Fill {
-        waiting: put(text, f.waiting, x),
+        waiting: put(to, text, f.waiting, x),
         code: false,
         skip: 0,
     }
 }
 
 // The character after a `%`, and its number.
-fn put_code(text: &mut [u8; 4096], f: Fill, style: u8, x: u8, n: u64, word: &[u8]) -> Fill {
+fn put_code(
+    to: &mut Stream,
+    text: &mut [u8; 4096],
+    f: Fill,
+    style: u8,
+    x: u8,
+    n: u64,
+    word: &[u8],
+) -> Fill {
     let skip = skip_after(f.skip, x, n);
     if f.skip != 0 {
         return Fill {
@@ -140,7 +148,7 @@ fn put_code(text: &mut [u8; 4096], f: Fill, style: u8, x: u8, n: u64, word: &[u8
         };
     }
     Fill {
-        waiting: put_value(text, f.waiting, style, x, n, word),
+        waiting: put_value(to, text, f.waiting, style, x, n, word),
         code: false,
         skip,
     }
@@ -176,6 +184,7 @@ fn number_of(numbers: &[u64], letter: u8) -> u64 {
 
 // A value: an octet of the word, the word, or else a number.
 fn put_value(
+    to: &mut Stream,
     text: &mut [u8; 4096],
     waiting: usize,
     style: u8,
@@ -185,9 +194,9 @@ fn put_value(
 ) -> usize {
     match x {
         b'.' | b';' | b'A'..=b'Z' => waiting,
-        b'0'..=b'8' => put_one(text, waiting, style_of(style, x), octet_of(word, x)),
-        b'a' | b'i' | b'x' | b'_' => put_all(text, waiting, style_of(style, x), word),
-        _ => put_number(text, waiting, style, x, n),
+        b'0'..=b'8' => put_one(to, text, waiting, style_of(style, x), octet_of(word, x)),
+        b'a' | b'i' | b'x' | b'_' => put_all(to, text, waiting, style_of(style, x), word),
+        _ => put_number(to, text, waiting, style, x, n),
     }
 }
 
@@ -203,14 +212,21 @@ fn style_of(style: u8, x: u8) -> u8 {
 }
 
 // A number: an address, an octet, or else in a column.
-fn put_number(text: &mut [u8; 4096], waiting: usize, style: u8, letter: u8, n: u64) -> usize {
+fn put_number(
+    to: &mut Stream,
+    text: &mut [u8; 4096],
+    waiting: usize,
+    style: u8,
+    letter: u8,
+    n: u64,
+) -> usize {
     if style == PLAIN {
-        return put_plain(text, waiting, letter, n);
+        return put_plain(to, text, waiting, letter, n);
     }
     match letter {
-        b'g' | b'p' | b's' => put_address(text, waiting, n),
-        b'y' | b'z' => put_plain(text, waiting, letter, n),
-        _ => put_right(text, waiting, n, width(style, letter)),
+        b'g' | b'p' | b's' => put_address(to, text, waiting, n),
+        b'y' | b'z' => put_plain(to, text, waiting, letter, n),
+        _ => put_right(to, text, waiting, n, width(style, letter)),
     }
 }
 
@@ -230,9 +246,10 @@ fn width(style: u8, letter: u8) -> usize {
 }
 
 // As many octets of a number as its letter has.
-fn put_plain(text: &mut [u8; 4096], waiting: usize, letter: u8, n: u64) -> usize {
+fn put_plain(to: &mut Stream, text: &mut [u8; 4096], waiting: usize, letter: u8, n: u64) -> usize {
     let octets = octets_of(n);
     put_all(
+        to,
         text,
         waiting,
         PLAIN,
@@ -270,14 +287,14 @@ fn lowest(n: u64) -> u8 {
 }
 
 // An IPv4 address, dotted.
-fn put_address(text: &mut [u8; 4096], waiting: usize, a: u64) -> usize {
-    let w = put_part(text, waiting, a / 16777216);
-    let w = put_part(text, w, a / 65536 % 256);
-    let w = put_part(text, w, a / 256 % 256);
-    put_right(text, w, a % 256, 0)
+fn put_address(to: &mut Stream, text: &mut [u8; 4096], waiting: usize, a: u64) -> usize {
+    let w = put_part(to, text, waiting, a / 16777216);
+    let w = put_part(to, text, w, a / 65536 % 256);
+    let w = put_part(to, text, w, a / 256 % 256);
+    put_right(to, text, w, a % 256, 0)
 }
 
-fn put_part(text: &mut [u8; 4096], waiting: usize, n: u64) -> usize {
-    let w = put_right(text, waiting, n, 0);
-    put(text, w, b'.')
+fn put_part(to: &mut Stream, text: &mut [u8; 4096], waiting: usize, n: u64) -> usize {
+    let w = put_right(to, text, waiting, n, 0);
+    put(to, text, w, b'.')
 }

@@ -8,10 +8,14 @@
 mod reports;
 
 use crate::records::block::two;
-use libc::STDERR_FILENO;
 use node::Node;
+use out::Stream;
 use profile::Profile;
+use setup::Begun;
+use std::env::Env;
+use std::io::{Read, Stderr};
 use std::num::{wrapping_add_u64, wrapping_add_usize};
+use std::rt::Files;
 use template::{four, say};
 use window::Place;
 
@@ -42,46 +46,52 @@ fn moved(s: State, place: Place, going: bool) -> State {
 }
 
 // Looks for a whole call in the window, or reads on.
-fn fed(fd: i32, s: State, held: &mut [u8; 4096]) -> State {
+fn fed<F: Read>(error: Stderr, file: &mut F, s: State, held: &mut [u8; 4096]) -> State {
     let p = s.place;
     let here = window::left(p);
     if here < 4 {
-        return read_on(fd, s, held);
+        return read_on(error, file, s, held);
     }
     let room = two(held, p.at);
     let length = two(held, wrapping_add_usize(p.at, 2));
     if length == reports::LIST {
-        return fed_list(fd, s, room, held);
+        return fed_list(error, file, s, room, held);
     }
     if (20000 < room) | (300 < length) {
-        say_large(s, room, length);
+        say_large(error, s, room, length);
         return moved(s, p, false);
     }
     if here - 4 < length {
-        return read_on(fd, s, held);
+        return read_on(error, file, s, held);
     }
     found(s, room, length, false)
 }
 
 // The same of a list of reports, whose room was read.
-fn fed_list(fd: i32, s: State, room: usize, held: &mut [u8; 4096]) -> State {
+fn fed_list<F: Read>(
+    error: Stderr,
+    file: &mut F,
+    s: State,
+    room: usize,
+    held: &mut [u8; 4096],
+) -> State {
     let p = s.place;
     let here = window::left(p);
     if 20000 < room {
-        say_wrong(s, 1, room);
+        say_wrong(error, s, 1, room);
         return moved(s, p, false);
     }
     if here < 18 {
-        return read_on(fd, s, held);
+        return read_on(error, file, s, held);
     }
     let count = two(held, wrapping_add_usize(p.at, 16));
     if 1000 < count {
-        say_wrong(s, 3, count);
+        say_wrong(error, s, 3, count);
         return moved(s, p, false);
     }
     let length = 14 + 4 * count;
     if here - 4 < length {
-        return read_on(fd, s, held);
+        return read_on(error, file, s, held);
     }
     found(s, room, length, true)
 }
@@ -101,20 +111,21 @@ fn found(s: State, room: usize, length: usize, batch: bool) -> State {
 }
 
 // More of the file, or its end.
-fn read_on(fd: i32, s: State, held: &mut [u8; 4096]) -> State {
+fn read_on<F: Read>(error: Stderr, file: &mut F, s: State, held: &mut [u8; 4096]) -> State {
     let p = s.place;
-    let f = setup::read_on(b"calls", b"the file of calls", fd, held, p);
+    let f = setup::read_on(error, b"calls", b"the file of calls", file, held, p);
     let q = f.place;
     if (f.got == 0) & (0 < window::left(q)) {
-        say_wrong(s, 0, 0);
+        say_wrong(error, s, 0, 0);
     }
     moved(s, q, 0 < f.got)
 }
 
 // Says what is wrong with the next call, which has a size: 0 the file ends within it, 1 its room is too large, 2 its event is, 3 its list is.
-fn say_wrong(s: State, wrong: u64, size: usize) {
+fn say_wrong(error: Stderr, s: State, wrong: u64, size: usize) {
     let p = s.place;
     say(
+        error,
         b"calls: call %k, at octet %l of the file: %Mthe file ends within the call%;a room of %n octets; at most 20000\
 %;an event of %n octets; at most 300%;a batch of %n numbers; at most 1000%.\n",
         &four(s.number, p.offset, wrong, size as u64),
@@ -123,12 +134,12 @@ fn say_wrong(s: State, wrong: u64, size: usize) {
 }
 
 // What is too large.
-fn say_large(s: State, room: usize, length: usize) {
+fn say_large(error: Stderr, s: State, room: usize, length: usize) {
     if 20000 < room {
-        say_wrong(s, 1, room);
+        say_wrong(error, s, 1, room);
         return;
     }
-    say_wrong(s, 2, length);
+    say_wrong(error, s, 2, length);
 }
 
 // The event of a call.
@@ -171,13 +182,22 @@ fn call(now: Node, s: State, held: &[u8; 4096], out: &mut [u8]) -> Called {
 }
 
 // What a call answered and wrote, if there was one.
-fn told(s: State, answer: u8, applied: usize, written: usize, out: &[u8; 20000]) -> State {
+fn told(
+    to: &mut Stream,
+    error: Stderr,
+    s: State,
+    answer: u8,
+    applied: usize,
+    written: usize,
+    out: &[u8; 20000],
+) -> State {
     if !s.whole {
         return s;
     }
     let p = s.place;
     let place = window::after(p, wrapping_add_usize(s.length, 4));
     let going = write_line(
+        to,
         s.batch,
         answer,
         applied,
@@ -185,7 +205,7 @@ fn told(s: State, answer: u8, applied: usize, written: usize, out: &[u8; 20000])
         octets::front(out, written),
     );
     if !going {
-        setup::fail(b"calls", b"standard output");
+        setup::fail_output(error, b"calls", to);
     }
     State {
         place,
@@ -200,17 +220,24 @@ fn told(s: State, answer: u8, applied: usize, written: usize, out: &[u8; 20000])
 
 // Writes a line: the answer, of a list how many pairs were applied, how many octets were written, and these in hex. Answers whether it could be
 // written.
-fn write_line(batch: bool, answer: u8, applied: usize, written: usize, octets: &[u8]) -> bool {
+fn write_line(
+    to: &mut Stream,
+    batch: bool,
+    answer: u8,
+    applied: usize,
+    written: usize,
+    octets: &[u8],
+) -> bool {
     let v = four(answer as u64, written as u64, applied as u64, 0);
     if batch {
-        return template::write(b"batch %k %m %l %x\n", &v, octets);
+        return template::write(to, b"batch %k %m %l %x\n", &v, octets);
     }
-    template::write(b"%k %l %x\n", &v, octets)
+    template::write(to, b"%k %l %x\n", &v, octets)
 }
 
 // A proved loop has to end, and nothing says that a file does. So it counts its turns down, from a number that no run uses up.
-fn run(fd: i32, profile: Profile) {
-    let mut held = io::buffer();
+fn run<F: Read>(to: &mut Stream, error: Stderr, file: &mut F, profile: Profile) {
+    let mut held = [0u8; 4096];
     let mut out = [0u8; 20000];
     let mut now = setup::node_of(profile);
     let mut s = State {
@@ -224,10 +251,10 @@ fn run(fd: i32, profile: Profile) {
     };
     let mut turns = u64::MAX;
     while s.going {
-        s = fed(fd, s, &mut held);
+        s = fed(error, file, s, &mut held);
         let r = call(now, s, &held, crate::lent(&mut out, s.room));
         now = r.node;
-        s = told(s, r.answer, r.applied, r.written, &out);
+        s = told(to, error, s, r.answer, r.applied, r.written, &out);
         if turns == 0 {
             return;
         }
@@ -236,19 +263,17 @@ fn run(fd: i32, profile: Profile) {
 }
 
 // The file that an argument names, from a fresh node.
-pub fn run_file(argument: usize) {
-    let s = setup::start(b"calls", argument);
-    if 0 <= s.fd {
-        let p = s.profile;
-        run(s.fd, p);
-        libc::close(s.fd);
+pub fn run_file<R: Env + Files>(rt: &R, to: &mut Stream, error: Stderr, argument: usize) {
+    if let Some(begun) = setup::start(rt, error, b"calls", argument) {
+        let Begun { profile, mut file } = begun;
+        run(to, error, &mut file, profile);
     }
 }
 
-pub fn main() {
-    if os::arg_count() != 4 {
-        io::write_all(STDERR_FILENO, b"usage: calls PROFILE CALLS\n");
+pub fn main<R: Env + Files>(rt: &R, to: &mut Stream, error: Stderr) {
+    if setup::arg_count(rt) != 4 {
+        setup::say_line(error, b"usage: calls PROFILE CALLS\n");
         return;
     }
-    run_file(3);
+    run_file(rt, to, error, 3);
 }

@@ -8,8 +8,11 @@
 // (docs/FORMATS.md).
 use crate::lent;
 use crate::records::block;
-use libc::{STDERR_FILENO, STDIN_FILENO};
+use out::Stream;
+use std::env::Env;
+use std::io::{Read, Stderr};
 use std::num::wrapping_add_usize;
+use std::rt::Files;
 use tally::{Fault, Tally};
 use template::four;
 
@@ -28,16 +31,16 @@ fn number_of(f: Fault) -> u64 {
 }
 
 // Writes the line of a case.
-fn write_tally(t: Tally) {
+fn write_tally(to: &mut Stream, t: Tally) {
     let f = t.fault;
     let answer = tally::count::answer(f);
     if answer != 0 {
         let v = four(answer as u64, number_of(f), t.at as u64, 0);
-        template::write(b"%k %L%;mark%;cut%;value%;field%. %m\n", &v, b"");
+        template::write(to, b"%k %L%;mark%;cut%;value%;field%. %m\n", &v, b"");
         return;
     }
     let v = four(t.count as u64, t.number, (t.number != 0) as u64, 0);
-    template::write(b"0 %k %M-%;%l%.\n", &v, b"");
+    template::write(to, b"0 %k %M-%;%l%.\n", &v, b"");
 }
 
 // One turn: counts on over what a window of so many octets shows of the list.
@@ -74,52 +77,57 @@ fn tally_of(head: &[u8], list: &[u8]) -> Tally {
     in_turns(list, wide, id, ggsn)
 }
 
-fn cut_short() -> bool {
-    io::write_all(STDERR_FILENO, b"counts: the last case is cut short\n");
+fn cut_short(error: Stderr) -> bool {
+    setup::say_line(error, b"counts: the last case is cut short\n");
     false
 }
 
 // Takes the n octets of a list, and answers whether they were there.
-fn take_list(fd: i32, head: &[u8], b: &mut [u8], n: usize) -> bool {
-    let got = io::read_full(fd, lent(b, n));
+fn take_list<F: Read>(
+    to: &mut Stream,
+    error: Stderr,
+    file: &mut F,
+    head: &[u8],
+    b: &mut [u8],
+    n: usize,
+) -> bool {
+    let got = window::read_full(file, lent(b, n));
     if got < n {
-        return cut_short();
+        return cut_short(error);
     }
-    write_tally(tally_of(head, octets::front(b, n)));
+    write_tally(to, tally_of(head, octets::front(b, n)));
     true
 }
 
 // Takes one case from a file, and answers whether to go on.
-fn one(fd: i32) -> bool {
+fn one<F: Read>(to: &mut Stream, error: Stderr, file: &mut F) -> bool {
     let mut head = [0u8; 12];
-    let h = io::read_full(fd, &mut head);
+    let h = window::read_full(file, &mut head);
     if h == 0 {
         return false;
     }
     if h < 12 {
-        return cut_short();
+        return cut_short(error);
     }
-    let mut b = io::large_buffer();
-    take_list(fd, &head, &mut b, block::two(&head, 10))
+    let mut b = [0u8; 65536];
+    take_list(to, error, file, &head, &mut b, block::two(&head, 10))
 }
 
 // Counts its turns down, as `records` does.
-fn all(fd: i32) {
+fn all<F: Read>(to: &mut Stream, error: Stderr, file: &mut F) {
     let mut turns = u64::MAX;
-    while turns > 0 && one(fd) {
+    while turns > 0 && one(to, error, file) {
         turns -= 1;
     }
 }
 
 // The cases of the file that an argument names.
-pub fn count_file(argument: usize) {
-    let fd = setup::open(b"counts", argument);
-    if 0 <= fd {
-        all(fd);
-        libc::close(fd);
+pub fn count_file<R: Env + Files>(rt: &R, to: &mut Stream, error: Stderr, argument: usize) {
+    if let Some(mut file) = setup::open(rt, error, b"counts", argument) {
+        all(to, error, &mut file);
     }
 }
 
-pub fn main() {
-    all(STDIN_FILENO);
+pub fn main<F: Read>(to: &mut Stream, error: Stderr, input: &mut F) {
+    all(to, error, input);
 }

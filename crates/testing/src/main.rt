@@ -20,20 +20,23 @@ mod records;
 mod table;
 mod tick;
 
-use libc::{STDERR_FILENO, STDIN_FILENO};
+use out::Stream;
+use std::env::Env;
+use std::io::{Read, Stderr};
+use std::rt::Files;
 
 // Each file of calls from a fresh node.
-fn all() {
-    let count = os::arg_count();
+fn all<R: Env + Files, F: Read>(rt: &R, to: &mut Stream, error: Stderr, input: &mut F) {
+    let count = setup::arg_count(rt);
     let mut i: usize = 5;
     while i < count {
-        calls::run_file(i);
+        calls::run_file(rt, to, error, i);
         i += 1;
     }
-    records::all(STDIN_FILENO, false, records::BOTH);
-    records::both_mm(3);
-    table::write_rows();
-    counts::count_file(4);
+    records::all(to, error, input, false, records::BOTH);
+    records::both_mm(rt, to, error, 3);
+    table::write_rows(to);
+    counts::count_file(rt, to, error, 4);
 }
 
 // The first n octets of a buffer; all where there are fewer.
@@ -44,37 +47,40 @@ fn lent(buffer: &mut [u8], n: usize) -> &mut [u8] {
     buffer
 }
 
-fn main() {
-    if setup::is_word(1, b"calls") {
-        calls::main();
+fn main(rt: HostRuntime) {
+    let mut to = out::to_output(rt.stdout());
+    let mut input = rt.stdin();
+    let error = rt.stderr();
+    if setup::is_word(&rt, 1, b"calls") {
+        calls::main(&rt, &mut to, error);
         return;
     }
-    if setup::is_word(1, b"records") {
-        records::main();
+    if setup::is_word(&rt, 1, b"records") {
+        records::main(&rt, &mut to, error, &mut input);
         return;
     }
-    if setup::is_word(1, b"dates") {
-        dates::main();
+    if setup::is_word(&rt, 1, b"dates") {
+        dates::main(&mut to, error, &mut input);
         return;
     }
-    if setup::is_word(1, b"counts") {
-        counts::main();
+    if setup::is_word(&rt, 1, b"counts") {
+        counts::main(&mut to, error, &mut input);
         return;
     }
-    if setup::is_word(1, b"pace") {
-        pace::main();
+    if setup::is_word(&rt, 1, b"pace") {
+        pace::main(&rt, &mut to, error);
         return;
     }
-    if setup::is_word(1, b"tick") {
-        tick::main();
+    if setup::is_word(&rt, 1, b"tick") {
+        tick::main(&rt, &mut to, error);
         return;
     }
-    if setup::is_word(1, b"all") {
-        all();
+    if setup::is_word(&rt, 1, b"all") {
+        all(&rt, &mut to, error, &mut input);
         return;
     }
-    io::write_all(
-        STDERR_FILENO,
+    setup::say_line(
+        error,
         b"usage: testing calls|records|dates|counts|pace|tick|all ARGUMENT..\n",
     );
 }

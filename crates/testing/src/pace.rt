@@ -11,10 +11,14 @@ ghost use Rattle.std.specs.Prelude.{◌≤◌};
 
 use entries::Entry;
 use event::framing;
-use libc::STDERR_FILENO;
+use out::Stream;
 use profile::Profile;
 use scdr::Record;
+use std::env::Env;
+use std::io::Stderr;
 use std::num::{wrapping_add_u64, wrapping_add_usize, wrapping_sub_u64};
+use std::rt::Files;
+use std::time::{CpuClock, Duration};
 use template::four;
 
 // A place again below the end, from the start on; 0 where there is no place.
@@ -195,92 +199,95 @@ fn count_names(s: &[u8], k: Kept, reading: bool) -> u64 {
     sum
 }
 
-// A number that is not below 0; else 0.
-fn natural(t: i64) -> u64 {
-    if t < 0 {
-        return 0;
-    }
-    t as u64
+// A time in microseconds. No process runs for so long that they would not fit.
+fn micros(t: Duration) -> u64 {
+    (t.as_micros() % 18446744073709551616) as u64
 }
 
-// The microseconds of this process.
-pub fn clock() -> u64 {
-    natural(libc::clock())
+// The microseconds of this process; 0 where the system does not tell them.
+pub fn clock(rt: &impl CpuClock) -> u64 {
+    match rt.process_cpu_time() {
+        Ok(t) => micros(t),
+        Err(_) => 0,
+    }
 }
 
 // One line: calls of which kind, how many, a sum over what they answered, and the microseconds since a time.
-pub fn say(kind: &[u8], calls: u64, sum: u64, from: u64) {
-    let took = wrapping_sub_u64(clock(), from);
-    template::write(b"%a %k %l %m\n", &four(calls, sum, took, 0), kind);
+pub fn say(rt: &impl CpuClock, to: &mut Stream, kind: &[u8], calls: u64, sum: u64, from: u64) {
+    let took = wrapping_sub_u64(clock(rt), from);
+    template::write(to, b"%a %k %l %m\n", &four(calls, sum, took, 0), kind);
 }
 
 // The file that an argument of a command names, from the start of a buffer: how many octets it has.
-pub fn load(command: &[u8], argument: usize, held: &mut [u8; 65536]) -> usize {
-    let fd = setup::open(command, argument);
-    if fd < 0 {
-        return 0;
+pub fn load<R: Env + Files>(
+    rt: &R,
+    error: Stderr,
+    command: &[u8],
+    argument: usize,
+    held: &mut [u8; 65536],
+) -> usize {
+    match setup::open(rt, error, command, argument) {
+        Some(mut file) => window::read_full(&mut file, held),
+        None => 0,
     }
-    let n = io::read_full(fd, held);
-    libc::close(fd);
-    n
 }
 
 pub fn in_file(held: &[u8; 65536], n: usize) -> &[u8] {
     octets::front(held, n)
 }
 
-fn pace_step(profile: Profile) {
-    let mut held = io::large_buffer();
-    let n = load(b"pace", 3, &mut held);
-    let from = clock();
+fn pace_step<R: Env + Files + CpuClock>(rt: &R, to: &mut Stream, error: Stderr, profile: Profile) {
+    let mut held = [0u8; 65536];
+    let n = load(rt, error, b"pace", 3, &mut held);
+    let from = clock(rt);
     let sum = run_events(profile, in_file(&held, n));
-    say(b"step", 90000, sum, from);
+    say(rt, to, b"step", 90000, sum, from);
 }
 
-fn pace_write(list: &[u8]) {
+fn pace_write(rt: &impl CpuClock, to: &mut Stream, list: &[u8]) {
     let kept = keep(list);
-    let from = clock();
+    let from = clock(rt);
     let sum = write_records(kept);
-    say(b"write", 20000, sum, from);
+    say(rt, to, b"write", 20000, sum, from);
 }
 
-fn pace_read(list: &[u8]) {
-    let from = clock();
+fn pace_read(rt: &impl CpuClock, to: &mut Stream, list: &[u8]) {
+    let from = clock(rt);
     let sum = read_records(list);
-    say(b"read", 100000, sum, from);
+    say(rt, to, b"read", 100000, sum, from);
 }
 
-fn pace_count(kind: &[u8], list: &[u8], reading: bool) {
+fn pace_count(rt: &impl CpuClock, to: &mut Stream, kind: &[u8], list: &[u8], reading: bool) {
     let kept = keep(list);
     let records = entries::count::count(list) as u64;
-    let from = clock();
+    let from = clock(rt);
     let sum = count_names(list, kept, reading);
-    say(kind, records % 65536 * COUNTS, sum, from);
+    say(rt, to, kind, records % 65536 * COUNTS, sum, from);
 }
 
-fn pace_records() {
-    let mut held = io::large_buffer();
-    let n = load(b"pace", 4, &mut held);
-    pace_list(&held, n);
+fn pace_records<R: Env + Files + CpuClock>(rt: &R, to: &mut Stream, error: Stderr) {
+    let mut held = [0u8; 65536];
+    let n = load(rt, error, b"pace", 4, &mut held);
+    pace_list(rt, to, &held, n);
 }
 
-fn pace_list(held: &[u8; 65536], n: usize) {
+fn pace_list(rt: &impl CpuClock, to: &mut Stream, held: &[u8; 65536], n: usize) {
     let list = in_file(held, n);
-    pace_write(list);
-    pace_read(list);
-    pace_count(b"count", list, false);
-    pace_count(b"full", list, true);
+    pace_write(rt, to, list);
+    pace_read(rt, to, list);
+    pace_count(rt, to, b"count", list, false);
+    pace_count(rt, to, b"full", list, true);
 }
 
-pub fn main() {
-    if os::arg_count() != 5 {
-        io::write_all(STDERR_FILENO, b"usage: pace PROFILE EVENTS RECORDS\n");
+pub fn main<R: Env + Files + CpuClock>(rt: &R, to: &mut Stream, error: Stderr) {
+    if setup::arg_count(rt) != 5 {
+        setup::say_line(error, b"usage: pace PROFILE EVENTS RECORDS\n");
         return;
     }
-    let p = setup::profile_of_file(b"pace");
+    let p = setup::profile_of_file(rt, error, b"pace");
     if !profile::profile_ok(p) {
         return;
     }
-    pace_step(p);
-    pace_records();
+    pace_step(rt, to, error, p);
+    pace_records(rt, to, error);
 }

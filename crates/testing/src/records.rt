@@ -11,9 +11,11 @@
 pub mod block;
 
 use crate::lent;
-use libc::{STDERR_FILENO, STDIN_FILENO, STDOUT_FILENO};
-use out::PLAIN;
+use out::{PLAIN, Stream};
 use setup::is_word;
+use std::env::Env;
+use std::io::{Read, Stderr};
+use std::rt::Files;
 use template::four;
 
 // What is to be done with a file.
@@ -24,70 +26,70 @@ const READ: u8 = 1;
 pub const BOTH: u8 = 2;
 
 // Writes a line: the number of a refusal, or else octets in hex.
-fn line(answer: u8, s: &[u8]) {
+fn line(to: &mut Stream, answer: u8, s: &[u8]) {
     let v = four(answer as u64, (answer != 0) as u64, 0, 0);
-    template::write(b"%L%;%k%.%x\n", &v, s);
+    template::write(to, b"%L%;%k%.%x\n", &v, s);
 }
 
 // One block of an S-CDR: its record's octets, or the number of the refusal; and read back, where that is asked. Unless it is, a block whose
 // flags are neither 0 nor 1 is refused: a record can't hold anything else.
-fn write_block(b: &[u8], back: bool) {
+fn write_block(to: &mut Stream, b: &[u8], back: bool) {
     if !back & !block::flags_ok(b) {
-        line(24, b"");
+        line(to, 24, b"");
         return;
     }
     let mut out = [0u8; 1024];
     let w = scdr::write::write_record(block::record_of(b), &mut out);
-    written(w.answer, octets::front(&out, w.n), back);
+    written(to, w.answer, octets::front(&out, w.n), back);
 }
 
 // The octets of an S-CDR, or none and the number of the refusal; what they are read as, and the access point name where it lies in them.
-fn written(answer: u8, s: &[u8], back: bool) {
-    line(answer, s);
+fn written(to: &mut Stream, answer: u8, s: &[u8], back: bool) {
+    line(to, answer, s);
     if back & (answer == 0) {
-        read_one(s);
-        line(0, scdr::read::apn_part(s));
+        read_one(to, s);
+        line(to, 0, scdr::read::apn_part(s));
     }
 }
 
 // One S-CDR: its block, or the number of the refusal.
-fn read_one(s: &[u8]) {
+fn read_one(to: &mut Stream, s: &[u8]) {
     let r = scdr::read::read_record(s);
     if r.answer != 0 {
-        line(r.answer, b"");
+        line(to, r.answer, b"");
         return;
     }
     let cdr = r.cdr;
     let mut text = [0u8; 4096];
-    let w = shown::put_record(&mut text, 0, PLAIN, cdr, 0, 0, 0);
-    out::write_out(STDOUT_FILENO, &text, w);
+    let w = shown::put_record(to, &mut text, 0, PLAIN, cdr, 0, 0, 0);
+    out::write_out(to, &text, w);
 }
 
 // One block of an M-CDR, in the same way.
-fn write_mm_block(b: &[u8], back: bool) {
+fn write_mm_block(to: &mut Stream, b: &[u8], back: bool) {
     let mut out = [0u8; 1024];
     let w = mcdr::write::write_record(block::mm_record_of(b), &mut out);
-    mm_written(w.answer, octets::front(&out, w.n), back);
+    mm_written(to, w.answer, octets::front(&out, w.n), back);
 }
 
-fn mm_written(answer: u8, s: &[u8], back: bool) {
-    line(answer, s);
+fn mm_written(to: &mut Stream, answer: u8, s: &[u8], back: bool) {
+    line(to, answer, s);
     if back & (answer == 0) {
-        read_one_mm(s);
+        read_one_mm(to, s);
     }
 }
 
 // One M-CDR: its block, or the number of the refusal.
-fn read_one_mm(s: &[u8]) {
+fn read_one_mm(to: &mut Stream, s: &[u8]) {
     let r = mcdr::read::read_record(s);
     if r.answer != 0 {
-        line(r.answer, b"");
+        line(to, r.answer, b"");
         return;
     }
     let cdr = r.cdr;
     let mut text = [0u8; 4096];
-    let w = shown::mm::put_record(&mut text, 0, PLAIN, cdr, 0, 0, 0);
-    out::write_out(STDOUT_FILENO, &text, w);
+    let w = shown::mm::put_record(to, &mut text, 0, PLAIN, cdr, 0, 0, 0);
+    out::write_out(to, &text, w);
 }
 
 // How many octets a block has: of an M-CDR, or of an S-CDR.
@@ -99,110 +101,115 @@ fn size_of(mm: bool) -> usize {
 }
 
 // Takes one block from a file, and answers whether to go on.
-fn one_block(fd: i32, mm: bool, back: bool) -> bool {
+fn one_block<F: Read>(to: &mut Stream, error: Stderr, file: &mut F, mm: bool, back: bool) -> bool {
     let mut b = [0u8; 549];
     let size = size_of(mm);
-    let n = io::read_full(fd, lent(&mut b, size));
+    let n = window::read_full(file, lent(&mut b, size));
     if n == 0 {
         return false;
     }
     if n < size {
-        io::write_all(STDERR_FILENO, b"records: the last block is cut short\n");
+        setup::say_line(error, b"records: the last block is cut short\n");
         return false;
     }
-    write_front(octets::front(&b, size), mm, back);
+    write_front(to, octets::front(&b, size), mm, back);
     true
 }
 
-fn write_front(b: &[u8], mm: bool, back: bool) {
+fn write_front(to: &mut Stream, b: &[u8], mm: bool, back: bool) {
     if mm {
-        write_mm_block(b, back);
+        write_mm_block(to, b, back);
         return;
     }
-    write_block(b, back);
+    write_block(to, b, back);
 }
 
 // Takes one record from a file, and answers whether to go on.
-fn one_record(fd: i32, mm: bool) -> bool {
+fn one_record<F: Read>(to: &mut Stream, error: Stderr, file: &mut F, mm: bool) -> bool {
     let mut head = [0u8; 2];
-    let h = io::read_full(fd, &mut head);
+    let h = window::read_full(file, &mut head);
     if h == 0 {
         return false;
     }
     let n = block::two(&head, 0);
-    let mut b = io::large_buffer();
-    take_record(fd, mm, &mut b, n)
+    let mut b = [0u8; 65536];
+    take_record(to, error, file, mm, &mut b, n)
 }
 
 // Takes the n octets of a record, and answers whether they were there.
-fn take_record(fd: i32, mm: bool, b: &mut [u8], n: usize) -> bool {
-    let got = io::read_full(fd, lent(b, n));
+fn take_record<F: Read>(
+    to: &mut Stream,
+    error: Stderr,
+    file: &mut F,
+    mm: bool,
+    b: &mut [u8],
+    n: usize,
+) -> bool {
+    let got = window::read_full(file, lent(b, n));
     if got < n {
-        io::write_all(STDERR_FILENO, b"records: the last record is cut short\n");
+        setup::say_line(error, b"records: the last record is cut short\n");
         return false;
     }
-    read_front(mm, b, n);
+    read_front(to, mm, b, n);
     true
 }
 
-fn read_front(mm: bool, s: &[u8], n: usize) {
+fn read_front(to: &mut Stream, mm: bool, s: &[u8], n: usize) {
     if mm {
-        read_one_mm(octets::front(s, n));
+        read_one_mm(to, octets::front(s, n));
         return;
     }
-    read_one(octets::front(s, n));
+    read_one(to, octets::front(s, n));
 }
 
 // Does one task, of M-CDRs or of S-CDRs, and answers whether to go on.
-fn one(fd: i32, mm: bool, task: u8) -> bool {
+fn one<F: Read>(to: &mut Stream, error: Stderr, file: &mut F, mm: bool, task: u8) -> bool {
     if task == READ {
-        return one_record(fd, mm);
+        return one_record(to, error, file, mm);
     }
-    one_block(fd, mm, task == BOTH)
+    one_block(to, error, file, mm, task == BOTH)
 }
 
 // A proved loop has to end, and nothing says that a file does. So it counts its turns down, from a number that no run uses up.
-pub fn all(fd: i32, mm: bool, task: u8) {
+pub fn all<F: Read>(to: &mut Stream, error: Stderr, file: &mut F, mm: bool, task: u8) {
     let mut turns = u64::MAX;
-    while turns > 0 && one(fd, mm, task) {
+    while turns > 0 && one(to, error, file, mm, task) {
         turns -= 1;
     }
 }
 
 // The blocks of M-CDRs in the file that an argument names.
-pub fn both_mm(argument: usize) {
-    let fd = setup::open(b"records", argument);
-    if 0 <= fd {
-        all(fd, true, BOTH);
-        libc::close(fd);
+pub fn both_mm<R: Env + Files>(rt: &R, to: &mut Stream, error: Stderr, argument: usize) {
+    if let Some(mut file) = setup::open(rt, error, b"records", argument) {
+        all(to, error, &mut file, true, BOTH);
     }
 }
 
 // The command is a word, or for M-CDRs another.
-fn is_task(word: &[u8], for_mm: &[u8]) -> bool {
-    is_word(2, word) | is_word(2, for_mm)
+fn is_task(rt: &impl Env, word: &[u8], for_mm: &[u8]) -> bool {
+    is_word(rt, 2, word) | is_word(rt, 2, for_mm)
 }
 
-fn run(task: u8) {
-    let mm = is_word(2, b"write-mm") | is_word(2, b"read-mm") | is_word(2, b"both-mm");
-    all(STDIN_FILENO, mm, task);
+fn run<F: Read>(rt: &impl Env, to: &mut Stream, error: Stderr, input: &mut F, task: u8) {
+    let mm = is_word(rt, 2, b"write-mm") | is_word(rt, 2, b"read-mm") | is_word(rt, 2, b"both-mm");
+    all(to, error, input, mm, task);
 }
 
-pub fn main() {
-    if is_task(b"write", b"write-mm") {
-        run(WRITE);
+pub fn main<F: Read>(rt: &impl Env, to: &mut Stream, error: Stderr, input: &mut F) {
+    if is_task(rt, b"write", b"write-mm") {
+        run(rt, to, error, input, WRITE);
         return;
     }
-    if is_task(b"both", b"both-mm") {
-        run(BOTH);
+    if is_task(rt, b"both", b"both-mm") {
+        run(rt, to, error, input, BOTH);
         return;
     }
-    if is_task(b"read", b"read-mm") {
-        run(READ);
+    if is_task(rt, b"read", b"read-mm") {
+        run(rt, to, error, input, READ);
         return;
     }
-    io::write_all(
-        STDERR_FILENO,
+    setup::say_line(
+        error,
         b"usage: records write|read|both|write-mm|read-mm|both-mm\n",
     );
 }

@@ -5,9 +5,13 @@
 // The events are run from a fresh node on, and the last one again and again, each time on the node that the others made. Standard output has
 // one line as those of `pace`, in which only the calls of the last event are counted.
 use crate::pace::{after_event, clock, in_file, load, say};
-use libc::STDERR_FILENO;
+use out::Stream;
 use profile::Profile;
+use std::env::Env;
+use std::io::Stderr;
 use std::num::wrapping_add_u64;
+use std::rt::Files;
+use std::time::CpuClock;
 
 // How often the last event was run, and how many octets all of them wrote.
 #[derive(Clone, Copy)]
@@ -43,18 +47,18 @@ fn counted(ran: Ran, written: u64, last: bool) -> Ran {
     }
 }
 
-pub fn main() {
-    if os::arg_count() != 4 {
-        io::write_all(STDERR_FILENO, b"usage: tick PROFILE EVENTS\n");
+pub fn main<R: Env + Files + CpuClock>(rt: &R, to: &mut Stream, error: Stderr) {
+    if setup::arg_count(rt) != 4 {
+        setup::say_line(error, b"usage: tick PROFILE EVENTS\n");
         return;
     }
-    let p = setup::profile_of_file(b"tick");
+    let p = setup::profile_of_file(rt, error, b"tick");
     if !profile::profile_ok(p) {
         return;
     }
-    let mut held = io::large_buffer();
-    let n = load(b"tick", 3, &mut held);
-    let from = clock();
+    let mut held = [0u8; 65536];
+    let n = load(rt, error, b"tick", 3, &mut held);
+    let from = clock(rt);
     let ran = run_last(p, in_file(&held, n));
-    say(b"tick", ran.last, ran.sum, from);
+    say(rt, to, b"tick", ran.last, ran.sum, from);
 }

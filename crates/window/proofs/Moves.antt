@@ -1,10 +1,10 @@
 -- Moving what is left to the front of a window, octet by octet; and reading on behind it.
-use Rattle.std.proofs.Common.{◌≡◌, ℕ, suc, ◌+◌, ◌-◌, ◌%◌, ◌^◌, ◌<◌, ◌≤◌, min, ltb, List, [], ◌∷◌, ◌++◌, length, get_or, take, drop, set, ℤ, sym, refl, ap, ◌∙◌, mod-eq_of_lt, add-one, arith, length-append, length-drop, length-take, get_or-drop, take_all, drop-cons, take-suc, take_at, get_or-append-add, le-ltb, lt-ltb}
+use Rattle.std.proofs.Common.{◌≡◌, ℕ, suc, ◌+◌, ◌-◌, ◌%◌, ◌^◌, ◌<◌, ◌≤◌, min, List, [], ◌∷◌, ◌++◌, length, get_or, take, drop, set, ℤ, sym, refl, ap, ◌∙◌, mod-eq_of_lt, add-one, arith, length-append, length-drop, length-take, get_or-drop, take_all, drop-cons, take-suc, take_at, get_or-append-add, le-ltb, lt-ltb}
 use native.Mathlib.Nat.{min-eq_left}
 use native.Mathlib.Decide.{dec_le}
 use lib.Seq.{append_snoc, set_at}
 use borrow.Rule.Slice.PartMut.{put_mid}
-use Rattle.io.specs.Counts.{clamp_len}
+use Rattle.window.specs.Fill.{clamp_len}
 use Rattle.window.specs.declared.Place.{Place}
 use Rattle.window.specs.Moved.{moved_of, at_front}
 use Rattle.window.specs.Private.Again.{again_of}

@@ -3,11 +3,13 @@
 // What lies there is for the program to say. `fill` reads, so no contract can say what comes behind what was left.
 #![tactic(auto)]
 
-ghost use Rattle.std.specs.Prelude.{◌≡◌, ◌+◌, ◌-◌, ◌%◌, ◌^◌};
+ghost use Rattle.std.specs.Prelude.{◌≡◌, ◌+◌, ◌-◌, ◌%◌, ◌^◌, ◌≤◌, length};
 ghost use Rattle.window.specs.Moved.{Moves};
 ghost use Rattle.window.specs.Fill.{Fills};
 ghost use Rattle.window.specs.Private.Again.{again_of};
 
+use std::io;
+use std::io::Read;
 use std::num::{wrapping_add_u64, wrapping_add_usize};
 
 // Where the next thing lies: in the window from `at` on, where octets of the file stand up to `end`; in the file after `offset` octets.
@@ -26,11 +28,12 @@ pub const START: Place = Place {
 };
 
 // A place in the window after a read, and what the read answered: how many octets came, 0 at the end of the file, less than 0 where it
-// failed.
+// failed; and then why.
 #[derive(Clone, Copy)]
 pub struct Filled {
     pub place: Place,
     pub got: isize,
+    pub failed: Option<io::Error>,
 }
 
 // How many octets of the window are left.
@@ -83,20 +86,50 @@ fn to_front(window: &mut [u8], p: Place) -> Place
 }
 
 // Reads on, behind what is left.
-pub fn fill(fd: i32, window: &mut [u8], p: Place) -> Filled
+pub fn fill<R: Read>(file: &mut R, window: &mut [u8], p: Place) -> Filled
     ensures { Fills window.old window.new p result }
 {
     let q = to_front(window, p);
     let n = q.end;
     if window.len() <= n {
-        return Filled { place: q, got: 0 };
+        return Filled {
+            place: q,
+            got: 0,
+            failed: None,
+        };
     }
-    let got = libc::read(fd, &mut window[n..]);
-    let more = io::count(got, window);
-    let place = Place {
-        at: 0,
-        end: wrapping_add_usize(n, more),
-        offset: q.offset,
-    };
-    Filled { place, got }
+    match file.read(&mut window[n..]) {
+        Ok(more) => {
+            let place = Place {
+                at: 0,
+                end: wrapping_add_usize(n, more),
+                offset: q.offset,
+            };
+            Filled {
+                place,
+                got: more as isize,
+                failed: None,
+            }
+        }
+        Err(e) => Filled {
+            place: q,
+            got: -1,
+            failed: Some(e),
+        },
+    }
+}
+
+// Reads until the buffer is full, the file ends or a read fails, and answers how many octets it put at the start.
+pub fn read_full<R: Read>(file: &mut R, buffer: &mut [u8]) -> usize
+    ensures { result ≤ length buffer.new }
+{
+    let mut done: usize = 0;
+    while done < buffer.len() {
+        match file.read(&mut buffer[done..]) {
+            Ok(0) => return done,
+            Ok(more) => done += more,
+            Err(_) => return done,
+        }
+    }
+    done
 }

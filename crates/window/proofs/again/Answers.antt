@@ -1,5 +1,5 @@
 -- `window::again` meets its contract.
-use Rattle.std.proofs.Common.{length, rules, le-ltb, lt-ltb}
+use Rattle.std.proofs.Common.{length, le-ltb, lt-ltb}
 use Rattle.window.specs.Private.Again.{again_of}
 use Rattle.window.proofs.again.Goals as goal
 

@@ -1,6 +1,5 @@
 -- `window::to_front` meets its contract: before each turn the octets before i have been moved.
-use Rattle.std.proofs.Common.{◌≡◌, ◌+◌, ◌-◌, ◌^◌, ◌<◌, ◌≤◌, length, refl, ap, ◌∙◌, mod-eq_of_lt, arith, rules}
-use Rattle.window.specs.Moved.{moved_of}
+use Rattle.std.proofs.Common.{◌+◌, ◌^◌, ◌<◌, length, ap, ◌∙◌, mod-eq_of_lt, arith}
 use Rattle.window.proofs.Moves.{moved_none, moved_length, moved_more, moved_end}
 use Rattle.window.proofs.to_front.Goals as goal
 
@@ -11,7 +10,7 @@ pub loop-i-preserved : goal.loop-i-preserved
 loop-i-preserved c =
     let a = c.args in
     let small : a.p.at + c.loop-i.i < 2 ^ 64 = omega (arith, c.left-n.ensures) in
-    let from = c.wrapping_add_usize.ensures ∙ mod-eq_of_lt small in
+    let from = c.wrapping_add_usize.ensures.value ∙ mod-eq_of_lt small in
     (omega arith, moved_more a.window.now a.p.at _ _ c.loop-i.invariant.1 from c.again.ensures)
 
 pub shape_of-window : goal.shape_of-window

@@ -1,7 +1,6 @@
 -- `window::to_front` meets its contract: before each turn the octets before i have been moved.
-use Rattle.std.proofs.Common.{◌≡◌, ◌+◌, ◌-◌, ◌^◌, ◌<◌, ◌≤◌, length, refl, ap, ◌∙◌, mod-eq_of_lt, arith, rules}
+use Rattle.std.proofs.Common.{◌≡◌, ◌-◌, ◌≤◌}
 use Rattle.window.specs.Moved.{moved_of}
-use Rattle.window.proofs.Moves.{moved_none, moved_length, moved_more, moved_end}
 use Rattle.window.proofs.to_front.Given as goal
 
 abbrev pub invariant-loop-i : goal.invariant-loop-i
