@@ -1,28 +1,25 @@
 -- The next event of a file charged: what is known of it whatever the node says; and that it is the same in a window, if that has 292 octets or the
 -- rest of the file.
 use mathlib.Core.Path.{◌≡◌, refl, sym, ap, ◌∙◌}
-use mathlib.Core.Bool.{Bool, true, false, not, cond, ◌&&◌}
-use mathlib.Core.List.{List, [], ◌∷◌, ◌++◌}
-use Prim.Native.Nat.{ℕ, zero, suc, ◌+◌, ◌≤◌, ◌<◌}
+use mathlib.Core.Bool.{Bool, true, false, not, cond}
+use mathlib.Core.List.{List, []}
+use Prim.Native.Nat.{ℕ, ◌≤◌, ◌<◌}
 use native.Mathlib.Omega.{arith}
-use lib.Dec.{leb, ltb, eqb}
-use lib.ListN.{length, get_or, take, drop, length-take}
+use lib.Dec.{eqb}
+use lib.ListN.{length, get_or, take, length-take}
 use lib.Seq.{get_or-take, take_all, take-take}
-use borrow.Author.Tests.{eqb-true, eqb-false, le-leb, le-ltb, ne_eqb}
-use Rattle.format.proofs.Tests.{by, either}
-use Rattle.event.specs.Fields.{kind_of, time_of}
+use borrow.Author.Tests.{eqb-false, le-leb, le-ltb, ne_eqb}
+use Rattle.format.proofs.Tests.{by}
 use Rattle.event.specs.Kinds.{whole_of}
-use Rattle.event.specs.Rows.{row, first_fit, rows, marked, known}
+use Rattle.event.specs.Rows.{first_fit, marked, known}
 use Rattle.event.specs.Framing.{next_length}
 use Rattle.event.proofs.Framed.{whole_most, whole_same, next_within, next_some}
-use Rattle.history.specs.Lists.{All}
 use Rattle.node.specs.declared.Node.{Node}
 use Rattle.node.specs.Sound.{sound}
-use Rattle.node.specs.Step.{said_of, refusals, step_of}
+use Rattle.node.specs.Step.{refusals, step_of}
 use Rattle.node.specs.Held.{Octets}
 use Rattle.node.proofs.Brings.{octet_at}
 use Rattle.node.proofs.Demands.{refused}
-use Rattle.charging.specs.Done.{Done, nothing}
 use Rattle.charging.specs.File.{next_event, roomy, taken, first_of}
 
 -- ---- how far it goes

@@ -2,7 +2,7 @@
 use mathlib.Core.Path.{◌≡◌, refl, sym, ap, ◌∙◌}
 use mathlib.Core.Bool.{Bool, true, false}
 use mathlib.Core.List.{List, [], ◌++◌, append_assoc, append-nil}
-use Prim.Native.Nat.{ℕ, zero, suc, ◌+◌, ◌-◌, ◌≤◌, ◌<◌}
+use Prim.Native.Nat.{ℕ, zero, suc, ◌+◌, ◌-◌, ◌≤◌}
 use native.Mathlib.Omega.{arith}
 use lib.ListN.{length, take, drop, length-append, length-take, length-drop, take-append-drop}
 use lib.Seq.{take_all, take_at, drop_at, drop-drop, drop-append-le}
@@ -11,8 +11,7 @@ use Rattle.event.specs.Framing.{next_length}
 use Rattle.event.proofs.Framed.{next_within, next_some}
 use Rattle.node.specs.declared.Node.{Node}
 use Rattle.node.specs.Step.{Steps}
-use Rattle.charging.specs.declared.Charged.{Charged}
-use Rattle.charging.specs.Done.{Done, nothing, joined, and_then}
+use Rattle.charging.specs.Done.{Done, joined, and_then}
 use Rattle.charging.specs.File.{next_event, first_of}
 use Rattle.charging.specs.Window.{ready, here_in, here, told, Charges}
 use Rattle.charging.proofs.Joins.{made, same_done, later_no, and_ok, and_no, nothing_then, then_nothing, and_assoc}

@@ -1,20 +1,18 @@
 -- The node takes the next event in a part of the buffer that has just the room for any: what is answered is what `first_of` says.
-use mathlib.Core.Path.{◌≡◌, refl, sym, ap, ◌∙◌}
+use mathlib.Core.Path.{◌≡◌, sym, ap, ◌∙◌}
 use mathlib.Core.List.{List, [], ◌++◌}
 use Prim.Native.Nat.{ℕ, ◌≤◌}
 use native.Mathlib.Omega.{arith}
-use lib.Dec.{eqb}
-use lib.ListN.{length, take, drop, length-replicate}
+use lib.ListN.{length, drop, length-replicate}
 use lib.Seq.{take-append_seam}
 use Rattle.event.specs.Fields.{time_of}
 use Rattle.event.specs.Rows.{first_fit}
 use Rattle.event.specs.Framing.{next_length}
 use Rattle.node.specs.declared.Node.{Node}
-use Rattle.node.specs.Step.{said_of, node_after, output, refusals, step_of, Steps}
+use Rattle.node.specs.Step.{said_of, node_after, output, refusals, Steps}
 use Rattle.node.proofs.Demands.{answered, refused, accepted}
 use Rattle.node.proofs.NodeKept.{accepts}
-use Rattle.charging.specs.Done.{Done}
-use Rattle.charging.specs.File.{next_event, roomy, taken, first_of}
+use Rattle.charging.specs.File.{next_event, roomy, first_of}
 use Rattle.charging.proofs.Joins.{made}
 use Rattle.charging.proofs.Firsts.{taken_refused}
 

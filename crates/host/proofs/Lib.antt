@@ -1,3 +1,2 @@
 mod Starts
 pub mod Fixes
-pub mod Thin

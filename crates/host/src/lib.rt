@@ -1,5 +1,5 @@
-// The host's call: the node where it lies, for firmware in C (include/charging.h). Each function calls a by-value one and stores what it
-// hands back, so it answers the same.
+// The host's call: the node where it lies, for Rattle code, and by host_c for firmware in C (include/charging.h). Each function calls a
+// by-value one and stores what it hands back, so it answers the same.
 #![tactic(auto)]
 
 ghost use Rattle.node.specs.Step.{Steps};
@@ -17,8 +17,7 @@ pub struct Answer {
 }
 
 // Takes an event: any octets, any node, any buffer.
-#[unsafe(no_mangle)]
-pub extern "C" fn charging_step(node: &mut Node, event: &[u8], out: &mut [u8]) -> Answer
+pub fn charging_step(node: &mut Node, event: &[u8], out: &mut [u8]) -> Answer
     ensures { Steps node.old event.now out.old out.new result.answer node.new result.written }
 {
     let r = node::step::step(*node, event, out);
@@ -39,8 +38,7 @@ pub struct BatchAnswer {
 }
 
 // Takes a list of reports, uplink and downlink by turns, for the context of a name at one time: any list, any node, any buffer.
-#[unsafe(no_mangle)]
-pub extern "C" fn charging_batch(
+pub fn charging_batch(
     node: &mut Node,
     id: u32,
     ggsn: u32,
@@ -100,8 +98,7 @@ pub fn begin(old: Node, text: &[u8]) -> Begun
 }
 
 // Makes a fresh node of a profile's text. After 12 the node is all zero, which every later call answers with 13.
-#[unsafe(no_mangle)]
-pub extern "C" fn charging_fresh(node: &mut Node, text: &[u8]) -> Start
+pub fn charging_fresh(node: &mut Node, text: &[u8]) -> Start
     ensures { Begins text.now result.answer node.new result.line }
 {
     let r = begin(*node, text);

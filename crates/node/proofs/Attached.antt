@@ -1,10 +1,10 @@
 -- The table of subscribers: what is found in it by the names of its slots is found in the table itself, and what it does when it hears
 -- something. History's laws (proofs/Scans.antt, Slots.antt, Hearing.antt) of subscribers.
-use mathlib.Core.Path.{◌≡◌, refl, sym, ap, ◌∙◌}
+use mathlib.Core.Path.{◌≡◌, sym, ◌∙◌}
 use mathlib.Core.Logic.{◌↔◌}
 use mathlib.Core.Bool.{Bool, true, false, not}
 use mathlib.Core.List.{List, map}
-use Prim.Native.Nat.{ℕ, suc}
+use Prim.Native.Nat.{ℕ}
 use lib.Dec.{eqb}
 use borrow.Author.Tests.{eqb-true, eqb-false, eq-eqb}
 use Rattle.history.specs.Lists.{All}

@@ -19,9 +19,7 @@ use Rattle.event.specs.Event.{event_of, said_by, decoded}
 use Rattle.event.specs.Traffic.{traffic_event}
 use Rattle.event.proofs.Traffics.{traffic_said}
 use Rattle.history.specs.Lists.{All}
-use Rattle.history.specs.Log.{Said}
 use Rattle.node.specs.declared.Node.{Node}
-use Rattle.node.specs.declared.Message.{Message}
 use Rattle.node.specs.Sound.{sound, latest, most_accepted}
 use Rattle.node.specs.Step.{Words, handling, subscribing, slots, places, output, said_of, unknown_set, other_edition, refusals, step_of}
 use Rattle.history.specs.Table.{not_active, is_active, all_taken}
@@ -159,7 +157,7 @@ module _ (n : Node) (m : Name) (t : ℕ) (vs b : List ℕ) where
 
   -- so its written length is that of what those calls write
   pub written_length : length (octets_by n pairs_done) ≡ (batch_of n m t vs b).written
-  written_length = ap length one_by_one.octets ∙ front_long later_octets
+  written_length = ap length one_by_one_lem.octets ∙ front_long later_octets
 
 -- ---- which numbers there are: with numbers of 32 bits an event of a pair is never refused with 1 to 5, 9 or 10
 

@@ -13,7 +13,6 @@ use Rattle.event.specs.Traffic.{traffic_event}
 use Rattle.history.specs.Lists.{All}
 use Rattle.history.proofs.Lists.{all_append}
 use Rattle.node.specs.declared.Node.{Node}
-use Rattle.node.specs.Sound.{sound}
 use Rattle.node.specs.Step.{step_of}
 use Rattle.node.specs.Held.{Octets, Whole}
 use Rattle.node.specs.Batch.{pairs_of, reports_of, and_then, one_by_one, list_refusals, batch_by, batch_of}

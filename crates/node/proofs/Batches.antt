@@ -5,16 +5,14 @@ use mathlib.Core.List.{List, [], ◌∷◌, map}
 use Prim.Native.Nat.{ℕ, zero, suc, ◌+◌, ◌%◌, ◌^◌, ◌≤◌, ◌<◌}
 use native.Mathlib.Omega.{arith}
 use lib.Dec.{leb, ltb, eqb}
-use lib.ListN.{length, get_or, set}
+use lib.ListN.{length, get_or}
 use lib.Seq.{set-get_or}
-use borrow.Author.Tests.{eqb-true, eqb-false, leb-true, leb-false, ltb-true, ltb-false, le-leb, ne_eqb, le-ltb}
+use borrow.Author.Tests.{eqb-true, eqb-false, leb-false, ltb-false, ne_eqb}
 use Rattle.format.proofs.Tests.{by, both}
 use Rattle.profile.specs.Profile.{profile_ok}
 use Rattle.limits.specs.Sets.{sets_ok}
 use Rattle.event.specs.declared.Name.{Name}
 use Rattle.event.specs.declared.Event.TheVariants as E
-use Rattle.event.specs.declared.Decoded.TheVariants as D
-use Rattle.event.specs.Event.{decoded}
 use Rattle.event.specs.Rows.{first_fit}
 use Rattle.event.specs.Traffic.{traffic_event}
 use Rattle.event.proofs.Traffics.{traffic_said}
@@ -23,11 +21,11 @@ use Rattle.context.specs.declared.slots.Slot.{Slot}
 use Rattle.context.specs.declared.slots.Found.{Found}
 use Rattle.context.specs.declared.slots.Found.TheVariants as F
 use Rattle.context.specs.Slots.{slot_of, bears, first_from, distinct}
-use Rattle.context.specs.Sound.{slots_ok, context_ok}
+use Rattle.context.specs.Sound.{slots_ok}
 use Rattle.context.proofs.Scans.{slots_ask}
 use Rattle.context.proofs.Sounds.{slot_active}
 use Rattle.history.specs.Lists.{All}
-use Rattle.history.proofs.Lists.{all_map, all_at}
+use Rattle.history.proofs.Lists.{all_at}
 use Rattle.history.proofs.Scans.{first_passes, first_below, asks_at}
 use Rattle.history.proofs.Slots.{neither}
 use Rattle.keys.specs.declared.Slot as N
@@ -37,15 +35,14 @@ use Rattle.subscriber.specs.Sound.{slots_ok as subscribersOk}
 use Rattle.node.specs.declared.Node.{Node}
 use Rattle.node.specs.declared.batch.Reports.{Reports}
 use Rattle.node.specs.declared.batch.Reports.TheVariants.{Refuse, Nothing, Tell}
-use Rattle.node.specs.Meaning.{report}
 use Rattle.node.specs.Sound.{sound, latest, most_accepted}
 use Rattle.node.specs.Step.{taken, step_of}
-use Rattle.node.specs.Held.{Shaped, HeldContext, Held, Whole}
+use Rattle.node.specs.Held.{Shaped, Held}
 use Rattle.node.specs.Batch.{Done, pairs_of, reports_of, and_then, one_by_one, list_refusals, batch_by, batch_of, Batches}
 use Rattle.node.specs.Private.Task.{named_task, task_of, timely_task, task_for, done_by}
 use Rattle.node.specs.Private.Pairs.{Seat, seated, seat_at, moved, seat_step, Listens, Tells, tell_at, first_pair, reports_for}
 use Rattle.node.proofs.Rules.{rules}
-use Rattle.node.proofs.Found.{named, named_at}
+use Rattle.node.proofs.Found.{named_at}
 use Rattle.node.proofs.TableKept.{shapes}
 use Rattle.node.proofs.Calls.{is_sound}
 use Rattle.node.proofs.Tasks.{Tasked, tasked}

@@ -1,9 +1,9 @@
 -- What an accepted event brings is in range, and the context that an activate opens is as it must be.
-use mathlib.Core.Path.{◌≡◌, refl, sym, ap, ◌∙◌}
+use mathlib.Core.Path.{◌≡◌, refl, sym, ◌∙◌}
 use mathlib.Core.Bool.{true, false}
 use mathlib.Core.List.{List, [], ◌∷◌}
 use mathlib.Core.Option.{Option, none, some}
-use Prim.Native.Nat.{ℕ, zero, suc, ◌+◌, ◌-◌, ◌^◌, ◌≤◌, ◌<◌}
+use Prim.Native.Nat.{ℕ, zero, suc, ◌+◌, ◌^◌, ◌≤◌, ◌<◌}
 use native.Mathlib.Omega.{arith}
 use lib.ListN.{length, get_or}
 use borrow.Author.Tests.{lt-ltb}
@@ -37,7 +37,6 @@ use Rattle.event.proofs.Theorems.{activated as activate-in, reported as reports,
 use Rattle.mcdr.specs.declared.Place.{Place}
 use Rattle.mcdr.specs.Change.{place_ok}
 use Rattle.mcdr.specs.Rules as mm
-use Rattle.subscriber.specs.declared.Notice.{Notice}
 use Rattle.subscriber.specs.declared.Notice.TheVariants.{Moved, Managed, Detached}
 use Rattle.subscriber.specs.Hear.{notice_ok}
 use Rattle.subscriber.specs.Held.{notice_held}

@@ -1,18 +1,16 @@
 -- The whole call: the rows of the refusal table in their order.
-use mathlib.Core.Path.{◌≡◌, refl, sym, ap, ◌∙◌}
-use mathlib.Core.Bool.{Bool, true, false, not, cond, ◌&&◌, ◌||◌}
-use mathlib.Core.List.{List, [], ◌∷◌, ◌++◌, map}
+use mathlib.Core.Path.{◌≡◌, ◌∙◌}
+use mathlib.Core.Bool.{Bool, true, false, ◌&&◌}
+use mathlib.Core.List.{List, ◌++◌, map}
 use Prim.Native.Nat.{ℕ, ◌≤◌, ◌<◌}
 use native.Mathlib.Omega.{arith}
-use lib.Dec.{leb, ltb, eqb}
-use lib.ListN.{length}
-use borrow.Author.Tests.{le-leb, lt-leb, le-ltb, lt-ltb, eqb-true, ne_eqb}
+use lib.Dec.{leb, eqb}
+use borrow.Author.Tests.{le-leb, lt-leb, le-ltb, lt-ltb, eqb-true}
 use Rattle.format.proofs.Tests.{by}
 use Rattle.event.specs.declared.Event.{Event}
-use Rattle.event.specs.declared.Decoded.{Decoded}
 use Rattle.event.specs.declared.Decoded.TheVariants.{Said, Refused}
 use Rattle.event.specs.Fields.{time_of}
-use Rattle.event.specs.Rows.{Row, row, first_fit, rows}
+use Rattle.event.specs.Rows.{first_fit, rows}
 use Rattle.event.specs.Event.{event_of, said_by, decoded}
 use Rattle.event.proofs.Theorems.{heard}
 use Rattle.profile.specs.Profile.{profile_ok}
@@ -26,7 +24,7 @@ use Rattle.subscriber.specs.Subscriber.{slot_of as imsiSlot}
 use Rattle.subscriber.specs.Sound.{slots_ok as subscribersOk}
 use Rattle.node.specs.declared.Node.{Node}
 use Rattle.node.specs.Sound.{sound, latest, most_accepted}
-use Rattle.node.specs.Step.{Words, takes, said_of, refusals, outcome, step_of, Steps}
+use Rattle.node.specs.Step.{Words, takes, said_of, refusals, step_of, Steps}
 use Rattle.node.proofs.RefusalRows.{table_rows, later_rows, parted, numbered_rows, fit_more, fit_first}
 use Rattle.node.proofs.Served.{Outs, outs_refused}
 

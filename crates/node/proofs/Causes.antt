@@ -1,13 +1,12 @@
 -- The cause with which a record closes, as the code finds it: by what closes at once, then by the first limit that is met.
 use mathlib.Core.Path.{◌≡◌, sym, ap, ◌∙◌}
 use mathlib.Core.Bool.{Bool, true, false, cond, ◌&&◌}
-use mathlib.Core.Option.{Option, some}
+use mathlib.Core.Option.{some}
 use Prim.Native.Nat.{ℕ}
 use Rattle.container.specs.declared.OpenRecord.{OpenRecord}
 use Rattle.container.specs.Open as O
 use Rattle.history.specs.Lists.{is_some}
 use Rattle.node.specs.declared.Message.{Message}
-use Rattle.node.specs.declared.closing.Perhaps.{Perhaps}
 use Rattle.node.specs.declared.closing.Perhaps.TheVariants.{Is, Nothing}
 use Rattle.node.specs.Hear.{reported, change_of, limit_met, closing}
 use Rattle.node.specs.Private.Premises.{perhaps}

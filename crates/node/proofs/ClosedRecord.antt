@@ -1,15 +1,14 @@
 -- The record that closes is within the rules.
 use mathlib.Core.Path.{◌≡◌, refl, sym, ◌∙◌}
 use mathlib.Core.Bool.{Bool, true, false, not, cond, ◌&&◌, ◌||◌}
-use mathlib.Core.Option.{Option, none, some}
-use mathlib.Core.List.{List, [], ◌∷◌, ◌++◌}
+use mathlib.Core.Option.{some}
+use mathlib.Core.List.{[], ◌∷◌}
 use Prim.Native.Nat.{ℕ, ◌+◌, ◌%◌, ◌/◌, ◌^◌, ◌≤◌, ◌<◌}
 use native.Mathlib.Omega.{arith}
 use lib.Dec.{leb, eqb}
 use lib.ListN.{length, length-append}
 use borrow.Author.Tests.{le-leb, eqb-true, eqb-false, ne_eqb}
 use Rattle.format.proofs.Tests.{by}
-use Rattle.calendar.specs.declared.Stamp.{Stamp}
 use Rattle.container.specs.declared.OpenRecord.{OpenRecord}
 use Rattle.container.specs.Container.{container_ok}
 use Rattle.container.specs.Open as O
@@ -18,7 +17,6 @@ use Rattle.container.proofs.Padded.{padded_rest}
 use Rattle.container.proofs.OpenRules.{closed_list, opening_ok, running_ok, used_length}
 use Rattle.container.proofs.Padded.{take_padded}
 use Rattle.event.specs.Fields.{release as releases}
-use Rattle.scdr.specs.declared.Record.{Record}
 use Rattle.scdr.specs.Rules.{release, cause_ok, number_ok, change_ok, list_rule, within}
 use Rattle.limits.proofs.Ranges.{limits_hold}
 use Rattle.profile.specs.declared.Profile.{Profile}

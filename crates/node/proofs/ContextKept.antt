@@ -1,16 +1,14 @@
 -- A context that hears an event stays as it must be, and so is the record that it closes.
-use mathlib.Core.Path.{◌≡◌, refl, sym, ap, ◌∙◌}
-use mathlib.Core.Bool.{Bool, true, false, not, cond, ◌&&◌}
+use mathlib.Core.Path.{◌≡◌, refl, sym, ◌∙◌}
+use mathlib.Core.Bool.{Bool, true, false, cond, ◌&&◌}
 use mathlib.Core.Option.{Option, none, some}
 use mathlib.Core.List.{[], ◌∷◌}
-use Prim.Native.Nat.{ℕ, ◌+◌, ◌^◌, ◌≤◌, ◌<◌}
+use Prim.Native.Nat.{ℕ, ◌+◌, ◌≤◌, ◌<◌}
 use native.Mathlib.Omega.{arith}
-use lib.Dec.{leb}
 use lib.ListN.{length, length-append}
 use borrow.Author.Tests.{leb-false}
 use Rattle.format.proofs.Tests.{by, true_T, and_i}
 use Rattle.calendar.specs.declared.Stamp.{Stamp}
-use Rattle.container.specs.declared.Qos.{Qos}
 use Rattle.container.specs.declared.OpenRecord.{OpenRecord}
 use Rattle.container.specs.Qos.{qos_ok, same_qos}
 use Rattle.container.specs.Container.{container_ok}
@@ -37,25 +35,10 @@ use Rattle.history.specs.Table.{Step}
 use Rattle.history.proofs.Lists.{none≢some}
 use Rattle.node.specs.declared.Message.{Message}
 use Rattle.node.specs.declared.Settings.{Settings}
-use Rattle.node.specs.Hear.{
-  reported,
-  qos_after,
-  change_of,
-  limit_met,
-  closing,
-  time_at,
-  going,
-  number_for,
-  record_of,
-  goes_on,
-  closed_by,
-  after_closing,
-  hear_with,
-  hear,
-}
+use Rattle.node.specs.Hear.{reported, qos_after, change_of, limit_met, closing, time_at, going, record_of, goes_on, closed_by, after_closing, hear_with, hear}
 use Rattle.node.specs.Private.Premises.{InRange, ReportFits, SoundContext}
 use Rattle.node.specs.Held.{Shaped, HeldContext, HeldProfile}
-use Rattle.node.proofs.Fits.{apt_good, apt_limits, apt_grows, apt_few}
+use Rattle.node.proofs.Fits.{apt_good, apt_limits, apt_few}
 use Rattle.node.proofs.ClosedRecord.{closed_within}
 use Rattle.node.proofs.Perhaps.{test_none, neither_none}
 use Rattle.node.proofs.Causes.{closing_once, closing_limit}

@@ -88,7 +88,7 @@ in_table (row k false ∷ rs) = one_more (eqb (first_fit rs) 0) (eqb (first_fit 
 
 -- and no other
 pub not_given : (k : ℕ) (rs : List Row) → among k (0 ∷ map number_of rs) ≡ false → first_fit rs ≡ k → ⊥
-not_given k rs h e = false≢true (sym h ∙ rw e at (in_table rs))
+not_given k rs h e = let t : among k (0 ∷ map number_of rs) ≡ true = ap (λ (j : ℕ). among j (0 ∷ map number_of rs)) (sym e) ∙ in_table rs in false≢true (sym h ∙ t)
 
 module _ (n : Node) (s b : List ℕ) where
   -- ---- demand 1

@@ -1,26 +1,24 @@
 -- What a call answers whose event is for a subscriber: contexts are as they were.
-use mathlib.Core.Path.{◌≡◌, refl, sym, ap, ◌∙◌}
-use mathlib.Core.Bool.{Bool, true, false, cond}
-use mathlib.Core.List.{List, [], ◌∷◌, ◌++◌, map}
-use Prim.Native.Nat.{ℕ, suc, ◌+◌, ◌≤◌, ◌<◌}
+use mathlib.Core.Path.{◌≡◌, refl, sym, ◌∙◌}
+use mathlib.Core.Bool.{true, false, cond}
+use mathlib.Core.List.{List, ◌++◌, map}
+use Prim.Native.Nat.{ℕ, ◌+◌, ◌<◌}
 use native.Mathlib.Numerals.{add-one}
 use native.Mathlib.Omega.{arith}
 use lib.Dec.{leb, eqb}
 use lib.ListN.{length, get_or, drop, set}
-use borrow.Author.Tests.{le-leb, lt-leb, eqb-true}
+use borrow.Author.Tests.{le-leb, lt-leb}
 use Rattle.format.proofs.Tests.{both, either}
 use Rattle.event.specs.Rows.{first_fit}
 use Rattle.history.specs.Lists.{each, All}
 use Rattle.history.specs.Slots.{slot_next, slot_out}
 use Rattle.history.specs.Log.{activates, tells}
-use Rattle.history.specs.Table.{Handling, slots_after, writes, not_active, is_active, all_taken}
+use Rattle.history.specs.Table.{slots_after, writes, not_active, is_active, all_taken}
 use Rattle.history.proofs.Scans.{First, first_below, first_passes, asks_at}
 use Rattle.history.proofs.Lists.{all_at}
 use Rattle.history.proofs.Ranges.{across_one, along_one}
 use Rattle.history.proofs.Slots.{stand_all, found_free, none_free, filled}
 use Rattle.history.proofs.Hearing.{found_active, none_active, tells_after, tells_outs}
-use Rattle.mcdr.specs.declared.Place.{Place}
-use Rattle.mcdr.specs.declared.MmRecord.{MmRecord}
 use Rattle.profile.specs.declared.Profile.{Profile}
 use Rattle.context.specs.Context.{no_context}
 use Rattle.subscriber.specs.declared.Subscriber.{Subscriber}
@@ -28,18 +26,18 @@ use Rattle.subscriber.specs.declared.Notice.{Notice}
 use Rattle.subscriber.specs.Subscriber.{name_of, taken as isAttached, no_subscriber}
 use Rattle.subscriber.specs.Hear.{attached, notice_ok, hear as notices}
 use Rattle.subscriber.specs.Held.{HeldSubscriber}
-use Rattle.subscriber.specs.Tell.{stood as stayed, marked_octets as mmMarked, octets_of as mmOctetsOf, told_of}
+use Rattle.subscriber.specs.Tell.{stood as stayed, marked_octets as mmMarked, octets_of as mmOctetsOf}
 use Rattle.subscriber.proofs.Scans.{slots_ask}
 use Rattle.subscriber.proofs.Kept.{told_is}
 use Rattle.node.specs.declared.Node.{Node}
-use Rattle.node.specs.Step.{Attached, ToSubscribers, Words, to_subscribers, settled_by, handling, subscribing, taken, stood, slots, places, octets_of}
+use Rattle.node.specs.Step.{Attached, ToSubscribers, Words, to_subscribers, settled_by, subscribing, taken, places, octets_of}
 use Rattle.node.specs.Step.{node_after, records_of, mm_records_of, output, unknown_set, other_edition}
 use Rattle.node.specs.Held.{Held}
-use Rattle.node.specs.Private.Range.{enrolled, told, notified_of}
+use Rattle.node.specs.Private.Range.{enrolled, notified_of}
 use Rattle.node.proofs.RefusalRows.{table_rows}
 use Rattle.node.proofs.Rules.{rules}
-use Rattle.node.proofs.Attached.{subscribers, bearing, vacant, exactly}
-use Rattle.node.proofs.Served.{Sounding, settleds, stays, lone, Outs, Admitted, outs_refused, outs_done, outs_by}
+use Rattle.node.proofs.Attached.{bearing, vacant, exactly}
+use Rattle.node.proofs.Served.{Sounding, settleds, stays, lone, Outs, outs_refused, outs_done, outs_by}
 
 module _ (n : Node) (t : ℕ) (v : ToSubscribers) where
   abbrev w : Words

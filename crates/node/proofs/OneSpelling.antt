@@ -2,7 +2,7 @@
 -- activate and the same one in another spelling get the same answer, the same node after, the same octets.
 use mathlib.Core.Option.{some}
 use Rattle.limits.specs.Sets.{limits_of}
-use mathlib.Core.Path.{◌≡◌, refl, sym, ap, ◌∙◌}
+use mathlib.Core.Path.{◌≡◌, sym, ap, ◌∙◌}
 use mathlib.Core.List.{List}
 use Prim.Native.Nat.{ℕ}
 use Rattle.event.specs.declared.Event.{Event}

@@ -1,12 +1,12 @@
 -- A report does to the node what it does to the slot of its name: so all reports of a list do.
 use mathlib.Core.Path.{◌≡◌, refl, sym, ap, ◌∙◌}
-use mathlib.Core.Bool.{Bool, true, false, cond}
+use mathlib.Core.Bool.{true, cond}
 use mathlib.Core.List.{List, map}
 use mathlib.Core.Option.{Option, none, some}
 use Prim.Native.Nat.{ℕ, ◌+◌, ◌^◌, ◌≤◌, ◌<◌}
 use native.Mathlib.Omega.{arith}
 use lib.Dec.{leb, eqb}
-use lib.ListN.{length, get_or, set, length-set}
+use lib.ListN.{length, get_or, length-set}
 use lib.Seq.{get_or-set_same, map-set_same, set-set}
 use borrow.Author.Tests.{le-leb, lt-leb, le-ltb, eqb-true, eqb-false}
 use Rattle.format.proofs.Tests.{by, either}
@@ -18,7 +18,6 @@ use Rattle.event.specs.Traffic.{traffic_event}
 use Rattle.event.proofs.Traffics.{traffic_said}
 use Rattle.profile.specs.declared.Profile.{Profile}
 use Rattle.context.specs.declared.Context.{Context}
-use Rattle.context.specs.declared.slots.Slot.{Slot}
 use Rattle.context.specs.declared.slots.Found.TheVariants.{At}
 use Rattle.context.specs.Slots.{slot_of, bears, first_from}
 use Rattle.node.specs.declared.Node.{Node}
@@ -27,14 +26,13 @@ use Rattle.node.specs.declared.Settings.{Settings}
 use Rattle.node.specs.declared.task.Task.TheVariants as K
 use Rattle.node.specs.Meaning.{report}
 use Rattle.node.specs.Hear.{closing, after_closing, hear_with, hear}
-use Rattle.node.specs.Sound.{sound, latest, most_accepted}
+use Rattle.node.specs.Sound.{latest, most_accepted}
 use Rattle.node.specs.Step.{stood, step_of}
 use Rattle.node.specs.Held.{Whole}
-use Rattle.node.specs.Private.Range.{slot_next, slot_out, advanced, tried_of, Tries, served_of}
+use Rattle.node.specs.Private.Range.{slot_next, slot_out, tried_of, Tries, served_of}
 use Rattle.node.specs.Private.Task.{named_task, task_of, timely_task, task_for, done_by}
 use Rattle.node.specs.Private.Pairs.{Seat, seated, seat_then, seat_step}
 use Rattle.node.proofs.Emits.{slot_active, slot_free}
-use Rattle.node.proofs.TableKept.{shapes}
 use Rattle.node.proofs.Tasks.{served_one, Tasked, tasked}
 use Rattle.node.proofs.StepKept.{step_kept}
 use Rattle.node.proofs.BatchKept.{report_octets}

@@ -1,9 +1,9 @@
 -- The table of subscribers after an event: each slot as it must be, the names still apart, and what was written.
 use mathlib.Core.Path.{◌≡◌, refl, sym, ap, ◌∙◌}
-use mathlib.Core.Bool.{Bool, true, false}
+use mathlib.Core.Bool.{true, false}
 use mathlib.Core.Option.{Option, none, some}
 use mathlib.Core.List.{List, map}
-use Prim.Native.Nat.{ℕ, ◌+◌, ◌≤◌}
+use Prim.Native.Nat.{ℕ, ◌+◌}
 use native.Mathlib.Omega.{arith}
 use lib.Dec.{T, eqb}
 use lib.ListN.{length}
@@ -29,11 +29,11 @@ use Rattle.subscriber.proofs.Helds.{blank_held, attached_held, hear_held, hear_r
 use Rattle.subscriber.proofs.Named.{hear_named}
 use Rattle.history.specs.Lists.{All}
 use Rattle.history.specs.Log.{activates, tells, tells_all, nothing}
-use Rattle.history.specs.Table.{Handling, Step, hears, listen, slot, slots_after, writes, is_active}
+use Rattle.history.specs.Table.{Handling, slot, slots_after, writes, is_active}
 use Rattle.history.specs.Slots.{distinct, seen}
 use Rattle.history.proofs.Lists.{all_map, all_both}
 use Rattle.history.proofs.Scans.{asks_all, all_ask}
-use Rattle.history.proofs.Slots.{Keeps, same, freed, Pairs, pairs_all, pairs_distinct, pairs_length}
+use Rattle.history.proofs.Slots.{Keeps, same, freed, pairs_all, pairs_distinct, pairs_length}
 use Rattle.history.proofs.Slots.{stand_all, fill_is, filled_all, filled_length, filled_distinct}
 use Rattle.history.proofs.Hearing.{none_bears_lem, hear_pairs, hear_all}
 use Rattle.node.specs.declared.Settings.{Settings}
@@ -41,7 +41,7 @@ use Rattle.node.specs.Step.{Attached, ToSubscribers, subscribing}
 use Rattle.node.specs.Held.{HeldProfile}
 use Rattle.node.specs.Private.Premises.{Due}
 use Rattle.node.proofs.Attached.{subscribers, exactly, all_vacant}
-use Rattle.node.proofs.Brings.{Comes, NoticesInRange}
+use Rattle.node.proofs.Brings.{NoticesInRange}
 
 -- what each record that is written must be
 abbrev pub MmFine : MmRecord → Type 0

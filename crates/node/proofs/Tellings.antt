@@ -10,7 +10,7 @@ use lib.ListN.{length, take, drop, get_or, length-append, length-drop, take-appe
 use lib.Seq.{drop-cons}
 use borrow.Author.Tests.{le-leb, lt-leb, ne_eqb}
 use borrow.Rule.Slice.PartMut.{mid_of, put_mid, same_len_mid}
-use Rattle.format.proofs.Tests.{by, either}
+use Rattle.format.proofs.Tests.{either}
 use Rattle.container.specs.Open.{volume_of, used, volume_left}
 use Rattle.container.specs.Open as O
 use Rattle.profile.specs.declared.Profile.{Profile}

@@ -1,5 +1,5 @@
 -- The node and the calls of 01's "One session, whole".
-use Rattle.std.specs.Prelude.{List, [], ◌∷◌, ◌++◌, ℕ, length, take, replicate}
+use Rattle.std.specs.Prelude.{List, [], ◌∷◌, ℕ, take, replicate}
 use Rattle.octets.specs.Filled.{fill_to}
 use Rattle.limits.specs.Limits.{no_limits}
 use Rattle.profile.specs.declared.Profile.{Profile}

@@ -1,5 +1,5 @@
 -- Demand 3, activation by activation, over the octets: the theorem.
-use mathlib.Core.Path.{◌≡◌, refl, sym, ap, ◌∙◌}
+use mathlib.Core.Path.{◌≡◌, refl, sym, ◌∙◌}
 use mathlib.Core.Bool.{true, cond}
 use mathlib.Core.List.{List, [], ◌∷◌, map}
 use Prim.Native.Nat.{ℕ, ◌+◌, ◌-◌, ◌≤◌}
@@ -23,7 +23,7 @@ use Rattle.node.specs.Sound.{fresh_node}
 use Rattle.node.specs.Run.{Call, Given}
 use Rattle.node.specs.Held.{HeldProfile}
 use Rattle.once.specs.Charging.{Force, Heard, up, down, rules, container, record_from, context_from, forms}
-use Rattle.once.specs.Once.{machine, sight, contexts, activations}
+use Rattle.once.specs.Once.{machine, contexts, activations}
 use Rattle.once.specs.Activations.{containers_of, Activation, containers_read, ChargedOnce, PerActivation}
 use Rattle.once.proofs.EachCall.{run_same, log_same}
 use Rattle.once.proofs.Billed.{entry, carried, carries, Lasts, durations}

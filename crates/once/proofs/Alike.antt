@@ -1,7 +1,7 @@
 -- A kind of subject that the node handles in its own words, and the same in the words of the histories: the table does the same, where a
 -- subject hears the same and an activation stores the same. And the slots that are taken stay so.
 use mathlib.Core.Path.{◌≡◌, refl, sym, ap, ◌∙◌}
-use mathlib.Core.Bool.{Bool, true, false, not, cond}
+use mathlib.Core.Bool.{Bool, true, false, cond}
 use mathlib.Core.Option.{Option, none, some}
 use mathlib.Core.List.{List, [], ◌∷◌, map}
 use Prim.Native.Nat.{ℕ}

@@ -1,16 +1,14 @@
 -- Demand 3, attachment by attachment, over the octets: the theorem.
 use mathlib.Core.Path.{◌≡◌, refl, sym, ap, ◌∙◌}
-use mathlib.Core.Bool.{Bool, true, false, cond, ◌&&◌}
-use mathlib.Core.Option.{Option, none, some}
+use mathlib.Core.Bool.{Bool, true, false, cond}
+use mathlib.Core.Option.{none, some}
 use mathlib.Core.List.{List, [], ◌∷◌, ◌++◌, map, append-nil}
-use Prim.Native.Nat.{ℕ, suc, ◌+◌, ◌-◌, ◌≤◌}
+use Prim.Native.Nat.{ℕ, suc}
 use native.Mathlib.Omega.{arith}
-use lib.Dec.{leb, eqb}
+use lib.Dec.{leb}
 use Rattle.format.proofs.Tests.{by}
 use Rattle.ber.specs.Field.{or_zero}
 use Rattle.mcdr.specs.declared.Place.{Place}
-use Rattle.mcdr.specs.declared.Change.{Change}
-use Rattle.mcdr.specs.declared.MmRecord.{MmRecord}
 use Rattle.mcdr.specs.Change.{same_place}
 use Rattle.mcdr.specs.Changes.{place_now}
 use Rattle.mcdr.specs.Rules.{used}
@@ -21,10 +19,10 @@ use Rattle.profile.specs.Profile.{profile_ok}
 use Rattle.subscriber.specs.Subscriber as subscriber
 use Rattle.history.specs.Lists.{each, All, NotFalling}
 use Rattle.history.specs.History.{History, start, ◌▸◌∶◌, began, began_with}
-use Rattle.history.specs.Records.{Rules, Stretch, Record, Open, entire, in_force, cause_for, cuts, stretches_at, since_opening}
-use Rattle.history.specs.Records.{running, stretches, closes, closings, records, ended, leaves}
+use Rattle.history.specs.Records.{Rules, Record, Open, entire, in_force, stretches_at, since_opening}
+use Rattle.history.specs.Records.{running, stretches, closes, records, ended, leaves}
 use Rattle.history.specs.Run.{all_written}
-use Rattle.history.specs.Demand.{OnceEach, InTime, numbers}
+use Rattle.history.specs.Demand.{OnceEach, InTime}
 use Rattle.history.proofs.Lists.{each_append, map_map, map_id, each_of_map, all_of_map, all_both, not_falling_whole, none≢some}
 use Rattle.history.proofs.Records.{in_force_open, stretches_at_open}
 use Rattle.history.proofs.Whole.{all_records}
@@ -33,7 +31,7 @@ use Rattle.node.specs.Sound.{fresh_node}
 use Rattle.node.specs.Run.{Call, Given}
 use Rattle.node.specs.Held.{HeldProfile}
 use Rattle.once.specs.Charging.{time_in}
-use Rattle.once.specs.Attaching.{Noted, moved, managed, detached, after, change, changes_of, rules, location, locations, record_from, subscriber_from, forms}
+use Rattle.once.specs.Attaching.{Noted, moved, managed, detached, after, changes_of, rules, location, locations, record_from, subscriber_from, forms}
 use Rattle.once.specs.Once.{machine, subscribers, activations}
 use Rattle.once.specs.Attachments.{change_at, moves, Attachment, changes_read, closed_at, closed_in, AttachedOnce, PerAttachment}
 use Rattle.once.proofs.EachCall.{run_same, log_same}

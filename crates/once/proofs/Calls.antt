@@ -5,7 +5,7 @@ use mathlib.Core.List.{List, [], ◌∷◌, ◌++◌, map, append-nil}
 use Prim.Native.Nat.{ℕ, zero, suc, ◌+◌, ◌≤◌}
 use native.Mathlib.Omega.{arith}
 use lib.ListN.{length, take, drop, length-append}
-use Rattle.cdrs.specs.Cdr.{Cdr}
+use Rattle.cdrs.specs.Cdr.{Cdr, cdr_enc}
 use Rattle.event.specs.Fields.{time_of}
 use Rattle.history.specs.Log.{Accepted}
 use Rattle.history.specs.Run.{Machine, if_zero, applied, run, all_written, log}
@@ -39,7 +39,7 @@ log_single (c ∷ cs) n z = rw (z.0, log_single cs (got n c).1.0 z.1)
 octets_single : (cs : List One) (n : Node) → octets_by n cs ≡ marked (all_written single n cs)
 octets_single [] n = refl
 octets_single (c ∷ cs) n =
-    rw (octets_one_lem n c, octets_single cs (got n c).1.0) (sym (each_append _ (wrote_one n c) (all_written single (got n c).1.0 cs)))
+    rw (octets_one_lem n c, octets_single cs (got n c).1.0) (sym (each_append (λ r. 0xC3 ∷ 0x5A ∷ cdr_enc r) (wrote_one n c) (all_written single (got n c).1.0 cs)))
 
 -- ---- any call
 

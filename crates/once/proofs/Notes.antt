@@ -1,18 +1,17 @@
 -- A stored subscriber hears an event as its history says: of every history, and every event.
 use mathlib.Core.Path.{◌≡◌, refl, sym, ap, ◌∙◌}
-use mathlib.Core.Bool.{Bool, true, false, cond, ◌&&◌}
+use mathlib.Core.Bool.{Bool, true, false, cond}
 use mathlib.Core.Option.{Option, none, some}
 use mathlib.Core.List.{List, [], ◌∷◌, ◌++◌, append-nil}
-use Prim.Native.Nat.{ℕ, zero, suc, ◌+◌, ◌-◌, ◌≤◌, ◌<◌}
+use Prim.Native.Nat.{ℕ, suc, ◌+◌, ◌≤◌, ◌<◌}
 use native.Mathlib.Numerals.{add-one}
 use native.Mathlib.Omega.{arith}
-use lib.Dec.{leb, eqb}
-use lib.ListN.{length, take, drop, set, length-append}
+use lib.Dec.{leb}
+use lib.ListN.{length, set, length-append}
 use borrow.Author.Tests.{le-leb, lt-leb, leb-true, leb-false}
 use Rattle.format.proofs.Tests.{by}
 use Rattle.mcdr.specs.declared.Place.{Place}
 use Rattle.mcdr.specs.declared.Change.{Change}
-use Rattle.mcdr.specs.declared.MmRecord.{MmRecord}
 use Rattle.mcdr.specs.Change.{same_place}
 use Rattle.mcdr.specs.Changes.{padded, place_now, no_changes}
 use Rattle.mcdr.proofs.Order.{place_more}
@@ -23,14 +22,14 @@ use Rattle.subscriber.specs.declared.Notice.{Notice}
 use Rattle.subscriber.specs.declared.Notice.TheVariants as N
 use Rattle.subscriber.specs.Subscriber.{place_of}
 use Rattle.subscriber.specs.Hear as node
-use Rattle.history.specs.Lists.{each, is_some, or_else, test}
-use Rattle.history.specs.History.{History, start, ◌▸◌∶◌, began, began_with}
-use Rattle.history.specs.Records.{Rules, Stretch, in_force, cause_for, since_opening, closes, running, stretches, stretches_at, closings, leaves}
+use Rattle.history.specs.Lists.{is_some}
+use Rattle.history.specs.History.{History, start, ◌▸◌∶◌, began_with}
+use Rattle.history.specs.Records.{Rules, in_force, cause_for, since_opening, closes, running, stretches, stretches_at, closings, leaves}
 use Rattle.history.proofs.Lists.{each_append, none≢some}
-use Rattle.history.proofs.Records.{in_force_open, in_force_running, open_open, stretches_at_open}
+use Rattle.history.proofs.Records.{in_force_open, open_open}
 use Rattle.history.proofs.Tables.{told, told_closing, told_change, told_plain}
 use Rattle.once.specs.Charging.{time_in}
-use Rattle.once.specs.Attaching.{Noted, moved, managed, detached, after, change, releases, changes_of, closing, rules, imsi_of, location, locations, forms}
+use Rattle.once.specs.Attaching.{Noted, moved, managed, detached, after, change, releases, changes_of, rules, imsi_of, locations, forms}
 use Rattle.once.proofs.Hears.{numbers}
 
 -- ---- what the node calls what is heard

@@ -5,7 +5,7 @@ use mathlib.Core.Option.{some}
 use mathlib.Core.List.{List, [], ◌∷◌}
 use Prim.Native.Nat.{ℕ}
 use native.Mathlib.Omega.{arith}
-use Rattle.cdrs.specs.Cdr.{Cdr}
+use Rattle.cdrs.specs.Cdr.{Cdr, cdr_enc}
 use Rattle.profile.specs.declared.Profile.{Profile}
 use Rattle.profile.specs.Profile.{profile_ok}
 use Rattle.event.specs.declared.Name.{Name}
@@ -44,7 +44,7 @@ use Rattle.once.proofs.Serving.{State, state, node, calls, view, mm_view, served
 -- the octets of all calls are the records of all calls
 outputs_are : (cs : List Call) (n : Node) → outputs n cs ≡ marked (all_written (machine wrote) n cs)
 outputs_are [] n = refl
-outputs_are (c ∷ cs) n = rw (octets_are n c, outputs_are cs (node_now n c)) (sym (each_append _ (wrote n c) (all_written (machine wrote) (node_now n c) cs)))
+outputs_are (c ∷ cs) n = rw (octets_are n c, outputs_are cs (node_now n c)) (sym (each_append (λ r. 0xC3 ∷ 0x5A ∷ cdr_enc r) (wrote n c) (all_written (machine wrote) (node_now n c) cs)))
 
 -- what holds of the node without its profile holds of the node
 module _ {G N S E C B : Type 0} (K : Kind G N S E C B) (p : Profile) (cs : List Call) (n : N) where

@@ -27,7 +27,7 @@ use Rattle.scdr.specs.Layout as layout
 use Rattle.profile.specs.Sample.{session}
 use Rattle.limits.specs.declared.LimitSet.{LimitSet}
 use Rattle.limits.specs.Limits.{limits_ok, blank_limits}
-use Rattle.limits.specs.Sets.{has_set, first_editions, set_ok, blank_set, used_ok, sets_ok, set_at, limits_of, is_next, replaced}
+use Rattle.limits.specs.Sets.{has_set, first_editions, set_ok, blank_set, used_ok, sets_ok, set_at, limits_of, replaced}
 use Rattle.profile.specs.Profile.{profile_ok}
 use Rattle.event.specs.declared.Name.{Name}
 use Rattle.event.specs.Sample.{activate, traffic, released}

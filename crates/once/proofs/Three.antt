@@ -1,20 +1,19 @@
 -- The rules of subscribers work out the three closing conditions, and no event meets two of them.
 use mathlib.Core.Path.{◌≡◌, refl, sym, ◌∙◌}
 use mathlib.Core.Logic.{◌↔◌}
-use mathlib.Core.Bool.{Bool, true, false, ◌&&◌}
-use mathlib.Core.Option.{Option, none, some}
-use Prim.Native.Nat.{ℕ, ◌≤◌}
+use mathlib.Core.Bool.{Bool, true, false}
+use mathlib.Core.Option.{some}
+use Prim.Native.Nat.{ℕ}
 use lib.Dec.{leb}
 use borrow.Author.Tests.{leb-true, le-leb}
 use Rattle.mcdr.specs.declared.Place.{Place}
 use Rattle.mcdr.specs.Change.{same_place}
-use Rattle.history.specs.Lists.{is_some, test}
 use Rattle.history.specs.History.{History, ◌▸◌∶◌, standing}
 use Rattle.history.specs.Records.{cause_for, since_opening}
 use Rattle.history.specs.Demand.{ClosesNow}
 use Rattle.history.proofs.Lists.{none≢some}
 use Rattle.history.proofs.Records.{exactly_when}
-use Rattle.once.specs.Attaching.{Noted, moved, managed, detached, after, change, changes_of, Closes, by_fifteenth, by_management, by_detach, which, rules}
+use Rattle.once.specs.Attaching.{Noted, moved, managed, detached, after, changes_of, Closes, by_fifteenth, by_management, by_detach, which, rules}
 
 module _ (r : History Place Noted) (t : ℕ) where
   reached : (q : Place) (b : Bool) → same_place (standing after r) q ≡ b → (k : Bool) → leb 15 (changes_of (r ▸ t ∶ moved q)) ≡ k → (c : ℕ)

@@ -1,9 +1,9 @@
 -- What is charged of a subscriber, as 02's W4 says it, in its order: what an event's octets mean, what an event does to a subscriber's
 -- history, and the M-CDR and the stored subscriber that a history makes. Histories, stretches and records are those of the crate `history`: a
 -- stretch is the time at one place. Nothing here says how the node works.
-use Rattle.std.specs.Prelude.{◌≡◌, Bool, false, cond, ◌&&◌, List, [], ◌∷◌, ℕ, ◌-◌, ◌^◌, ◌≤◌, leb, ltb, eqb, length}
+use Rattle.std.specs.Prelude.{◌≡◌, false, cond, ◌&&◌, List, [], ◌∷◌, ℕ, ◌-◌, ◌^◌, ◌≤◌, leb, ltb, eqb, length}
 use Rattle.std.proofs.Math.Option.{Option, none, some}
-use Rattle.ber.specs.Int.{spelt, lowest}
+use Rattle.ber.specs.Int.{lowest}
 use Rattle.ber.specs.Field.{or_zero}
 use Rattle.mcdr.specs.declared.Place.{Place}
 use Rattle.mcdr.specs.declared.Change.{Change}

@@ -1,7 +1,7 @@
 -- Demand 3 read over the octets, attachment by attachment (02, W4): "location changes in place of containers". Its location changes, read
 -- through its closed records and then its open one, are the changes of its history. Nothing is lost, and nothing is there twice.
-use Rattle.std.specs.Prelude.{◌≡◌, Bool, cond, List, [], ◌∷◌, ◌++◌, map, ℕ, ◌+◌, eqb}
-use Rattle.std.proofs.Math.Option.{Option, some}
+use Rattle.std.specs.Prelude.{◌≡◌, cond, List, [], ◌∷◌, ◌++◌, map, ℕ, ◌+◌, eqb}
+use Rattle.std.proofs.Math.Option.{some}
 use Rattle.ber.specs.Field.{or_zero}
 use Rattle.mcdr.specs.declared.Place.{Place}
 use Rattle.mcdr.specs.declared.Change.{Change}

@@ -13,7 +13,7 @@ use Rattle.node.specs.declared.Message.{Message}
 use Rattle.node.specs.declared.Settings.{Settings}
 use Rattle.node.specs.declared.closing.Perhaps.{Perhaps}
 use Rattle.node.specs.declared.closing.Perhaps.TheVariants.{Is, Nothing}
-use Rattle.node.specs.Sound.{sound, latest, most_accepted}
+use Rattle.node.specs.Sound.{latest, most_accepted}
 
 -- a condition or a cause, if there is one
 abbrev pub perhaps : Option ℕ → Perhaps

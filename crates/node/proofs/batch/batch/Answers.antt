@@ -1,23 +1,15 @@
 -- `node::batch::batch` meets its contract.
 use mathlib.Core.Path.{◌≡◌, sym, ◌∙◌}
-use Prim.Native.Nat.{◌-◌}
 use native.Mathlib.Omega.{arith}
-use lib.ListN.{length}
-use Rattle.format.proofs.Arrays.{length_of_map}
 use Rattle.history.specs.Lists.{All}
-use Rattle.history.proofs.Scans.{Looking, looking_none, looking_more, looking_end}
-use Rattle.context.specs.Slots.{slot_of}
-use Rattle.context.specs.Sound.{slots_ok}
+use Rattle.history.proofs.Scans.{looking_none, looking_more, looking_end}
 use Rattle.context.proofs.Scans.{slots_ask}
-use Rattle.subscriber.specs.Subscriber.{slot_of as imsiSlot}
-use Rattle.subscriber.specs.Sound.{slots_ok as subscribersOk}
 use Rattle.subscriber.proofs.Scans.{slots_ask as subscribers-ask}
 use Rattle.node.specs.declared.batch.Reports.{Reports}
 use Rattle.node.specs.Batch.{name_with}
 use Rattle.node.specs.Held.{Held}
 use Rattle.node.proofs.Holds.{held_is}
 use Rattle.node.proofs.Batches.{Word, words, Means, means_by, below, listens, batches_told, batches_still}
-use borrow.Author.Rules.{rules}
 use Rattle.node.proofs.batch.batch.Goals as goal
 
 pub loop-i-init : goal.loop-i-init

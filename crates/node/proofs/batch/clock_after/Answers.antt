@@ -1,6 +1,5 @@
 -- `node::batch::clock_after` meets its contract.
 use borrow.Author.Tests.{eq-eqb, ne_eqb}
-use borrow.Author.Rules.{rules}
 use Rattle.node.proofs.batch.clock_after.Goals as goal
 
 pub returns-then-applied-eq0 : goal.returns-then-applied-eq0

@@ -3,7 +3,6 @@ use mathlib.Core.Path.{sym, ◌∙◌}
 use borrow.Author.Tests.{le-leb, lt-leb, le-ltb, lt-ltb}
 use Rattle.node.specs.Sound.{latest, most_accepted}
 use Rattle.node.specs.Private.Pairs.{first_pair}
-use borrow.Author.Rules.{rules}
 use Rattle.node.proofs.batch.first_pair.Goals as goal
 
 pub returns-then-t-gt3155759999 : goal.returns-then-t-gt3155759999

@@ -1,6 +1,5 @@
 -- `node::batch::moved` meets its contract.
 use mathlib.Core.Path.{refl}
-use borrow.Author.Rules.{rules}
 use Rattle.node.proofs.batch.moved.Goals as goal
 
 pub returns : goal.returns

@@ -2,7 +2,6 @@
 use Prim.Native.Nat.{◌%◌}
 use borrow.Author.Tests.{not-true, not-false, eq-eqb, ne_eqb}
 use Rattle.node.specs.Private.Pairs.{reports_for}
-use borrow.Author.Rules.{rules}
 use Rattle.node.proofs.batch.reports_for.Goals as goal
 
 pub returns-then-not-sound : goal.returns-then-not-sound

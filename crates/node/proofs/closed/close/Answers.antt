@@ -3,7 +3,6 @@ use native.Mathlib.Omega.{arith}
 use Rattle.node.specs.Meaning.{report}
 use Rattle.node.specs.Hear.{closed_by}
 use Rattle.node.proofs.FullRecords.{marks_short, marks_full, marks_done, marks_second, marks_within}
-use borrow.Author.Rules.{rules}
 use Rattle.node.proofs.closed.close.Goals as goal
 
 pub returns-then-out-lt2 : goal.returns-then-out-lt2

@@ -1,6 +1,5 @@
 -- `node::closing::cause_of` meets its contract: a law for each answer.
 use Rattle.node.proofs.Causes.{at_once, by_volume, by_time, by_changes, by_none}
-use borrow.Author.Rules.{rules}
 use Rattle.node.proofs.closing.cause_of.Goals as goal
 
 pub returns-then-m : goal.returns-then-m

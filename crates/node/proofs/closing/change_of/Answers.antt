@@ -1,7 +1,6 @@
 -- `node::closing::change_of` meets its contract.
 use mathlib.Core.Path.{sym, ◌∙◌}
 use Rattle.node.specs.Hear.{change_of}
-use borrow.Author.Rules.{rules}
 use Rattle.node.proofs.closing.change_of.Goals as goal
 
 pub returns-then-same : goal.returns-then-same

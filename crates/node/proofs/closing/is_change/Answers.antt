@@ -1,7 +1,6 @@
 -- `node::closing::is_change` meets its contract.
 use Rattle.node.specs.Hear.{change_of}
 use Rattle.node.proofs.Perhaps.{perhaps_is, perhaps_nothing}
-use borrow.Author.Rules.{rules}
 use Rattle.node.proofs.closing.is_change.Goals as goal
 
 pub returns-in-Is : goal.returns-in-Is

@@ -1,6 +1,5 @@
 -- `node::closing::qos_after` meets its contract.
 use Rattle.node.specs.Hear.{qos_after}
-use borrow.Author.Rules.{rules}
 use Rattle.node.proofs.closing.qos_after.Goals as goal
 
 pub returns-then-m : goal.returns-then-m

@@ -1,7 +1,6 @@
 -- `node::closing::reported` meets its contract.
 use mathlib.Core.Path.{◌∙◌}
 use Rattle.node.specs.Hear.{reported}
-use borrow.Author.Rules.{rules}
 use Rattle.node.proofs.closing.reported.Goals as goal
 
 pub returns : goal.returns

@@ -1,6 +1,5 @@
 -- `node::emit::hear` meets its contract.
 use mathlib.Core.Path.{◌≡◌}
-use Prim.Native.Nat.{◌<◌, ◌^◌}
 use native.Mathlib.Omega.{arith}
 use lib.ListN.{length}
 use Rattle.format.proofs.Arrays.{length_of_map}
@@ -14,10 +13,10 @@ use borrow.Author.Rules.{rules}
 use Rattle.node.proofs.emit.hear.Goals as goal
 
 pub cause_of-k-requires : goal.cause_of-k-requires
-cause_of-k-requires c = (apt_grows c.args.p c.args.g c.args.t c.args.c c.requires.0).counters
+cause_of-k-requires c = (apt_grows c.args.p c.args.g c.args.t c.args.c c.requires.sound_context).counters
 
 pub closed_by-r-requires : goal.closed_by-r-requires
-closed_by-r-requires c = apt_grows c.args.p c.args.g c.args.t c.args.c c.requires.0
+closed_by-r-requires c = apt_grows c.args.p c.args.g c.args.t c.args.c c.requires.sound_context
 
 pub put_record-next-requires : goal.put_record-next-requires
 put_record-next-requires c =
@@ -29,17 +28,17 @@ put_record-next-requires c =
     let e =
     perhaps_is (closing a.c.current a.t a.m) c.cause_of-k.ensures
     c.in-Is.is in (
-      rw c.closed_by-r.ensures (closed_within a.p a.g a.t a.c c.requires.0 placed a.m c.requires.1.0 small _ e),
-      room_closes a.p a.g a.c a.t a.m a.at e c.closed_by-r.ensures c.requires.1.1,
+      rw c.closed_by-r.ensures (closed_within a.p a.g a.t a.c c.requires.sound_context placed a.m c.requires.in_range small _ e),
+      room_closes a.p a.g a.c a.t a.m a.at e c.closed_by-r.ensures c.requires.m_in_bounds,
     )
 
 pub after_closing-context-requires : goal.after_closing-context-requires
 after_closing-context-requires c =
     apt_grows c.args.p c.args.g c.args.t
-    c.args.c c.requires.0
+    c.args.c c.requires.sound_context
 
 pub goes_on-context-requires : goal.goes_on-context-requires
-goes_on-context-requires c = apt_grows c.args.p c.args.g c.args.t c.args.c c.requires.0
+goes_on-context-requires c = apt_grows c.args.p c.args.g c.args.t c.args.c c.requires.sound_context
 
 pub returns-in-Is : goal.returns-in-Is
 returns-in-Is c =
@@ -57,4 +56,4 @@ returns-in-Nothing c =
     let e =
     perhaps_nothing (closing a.c.current a.t a.m) c.cause_of-k.ensures
     c.in-Nothing.is in
-    turns_on a.p a.g a.c a.t a.m e c.goes_on-context.ensures (omega (arith, c.requires.1.1))
+    turns_on a.p a.g a.c a.t a.m e c.goes_on-context.ensures (omega (arith, c.requires.m_in_bounds))

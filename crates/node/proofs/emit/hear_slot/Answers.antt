@@ -1,17 +1,17 @@
 -- `node::emit::hear_slot` meets its contract.
 use Rattle.node.proofs.Emits.{slot_apt, slot_active, slot_turns, free_turns}
-use borrow.Author.Rules.{rules}
 use Rattle.node.proofs.emit.hear_slot.Goals as goal
 
 pub hear-requires : goal.hear-requires
 hear-requires c =
-    (
-      slot_apt c.args.p c.args.g c.args.t c.args.m c.args.c c.if-c-eq1.true c.requires.0,
-      (c.requires.1.0, rw (← (slot_active c.args.p c.args.g c.args.t c.args.m c.args.c c.if-c-eq1.true).1) c.requires.1.1),
-    )
+    record {
+      sound_context = slot_apt c.args.p c.args.g c.args.t c.args.m c.args.c c.if-c-eq1.true c.requires.sound_slot;
+      in_range = c.requires.in_range;
+      m_in_bounds = rw (← (slot_active c.args.p c.args.g c.args.t c.args.m c.args.c c.if-c-eq1.true).1) c.requires.c_in_bounds;
+    }
 
 pub returns-then-c-eq1 : goal.returns-then-c-eq1
 returns-then-c-eq1 c = slot_turns c.args.p c.args.g c.args.t c.args.m c.args.c c.if-c-eq1.true c.hear.ensures
 
 pub returns : goal.returns
-returns c = free_turns c.args.p c.args.g c.args.t c.args.m c.args.c c.if-c-eq1.false c.requires.1.1
+returns c = free_turns c.args.p c.args.g c.args.t c.args.m c.args.c c.if-c-eq1.false c.requires.c_in_bounds

@@ -1,7 +1,6 @@
 -- `node::emit::put_record` meets its contract.
 use native.Mathlib.Omega.{arith}
 use Rattle.node.proofs.Emits.{part_starts, marked_record, end_fits}
-use borrow.Author.Rules.{rules}
 use Rattle.node.proofs.emit.put_record.Goals as goal
 
 pub slice_bounds-write_record-count : goal.slice_bounds-write_record-count

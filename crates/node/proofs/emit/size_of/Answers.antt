@@ -1,7 +1,5 @@
 -- `node::emit::size_of` meets its contract.
 use mathlib.Core.Path.{◌≡◌}
-use Prim.Native.Nat.{◌<◌, ◌^◌}
-use native.Mathlib.Omega.{arith}
 use lib.ListN.{length}
 use Rattle.format.proofs.Arrays.{length_of_map}
 use Rattle.node.specs.Hear.{closing}
@@ -14,10 +12,10 @@ use borrow.Author.Rules.{rules}
 use Rattle.node.proofs.emit.size_of.Goals as goal
 
 pub cause_of-k-requires : goal.cause_of-k-requires
-cause_of-k-requires c = (apt_grows c.args.p c.args.g c.args.t c.args.c c.requires.0).counters
+cause_of-k-requires c = (apt_grows c.args.p c.args.g c.args.t c.args.c c.requires.sound_context).counters
 
 pub closed_by-requires : goal.closed_by-requires
-closed_by-requires c = apt_grows c.args.p c.args.g c.args.t c.args.c c.requires.0
+closed_by-requires c = apt_grows c.args.p c.args.g c.args.t c.args.c c.requires.sound_context
 
 pub returns-in-Is : goal.returns-in-Is
 returns-in-Is c =
@@ -30,7 +28,7 @@ returns-in-Is c =
     perhaps_is (closing a.c.current a.t a.m) c.cause_of-k.ensures
     c.in-Is.is in
     counts_closes a.p a.g a.c a.t a.m e c.closed_by.ensures
-    (closed_within a.p a.g a.t a.c c.requires.0 placed a.m c.requires.1 small _ e) c.record_size.ensures
+    (closed_within a.p a.g a.t a.c c.requires.sound_context placed a.m c.requires.in_range small _ e) c.record_size.ensures
 
 pub returns-in-Nothing : goal.returns-in-Nothing
 returns-in-Nothing c =

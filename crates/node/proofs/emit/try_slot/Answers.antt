@@ -11,14 +11,11 @@ pub returns-then-out-n : goal.returns-then-out-n
 returns-then-out-n c = let a = c.args in tries_full a.p a.g a.t a.m a.c a.out.now c.slot_size-n.ensures.is c.if-out-n.true
 
 pub hear_slot-e-requires : goal.hear_slot-e-requires
-hear_slot-e-requires c = (
-  c.requires.0,
-  (
-    c.requires.1,
-    omega
-        (arith, c.slot_size-n.ensures.is, c.if-out-n.false),
-  ),
-)
+hear_slot-e-requires c = record {
+  sound_slot = c.requires.sound_slot;
+  in_range = c.requires.in_range;
+  c_in_bounds = omega (arith, c.slot_size-n.ensures.is, c.if-out-n.false);
+}
 
 pub returns : goal.returns
 returns c =

@@ -1,5 +1,4 @@
 -- `node::meaning::close_with` meets its contract.
-use borrow.Author.Rules.{rules}
 use Rattle.node.proofs.meaning.close_with.Goals as goal
 
 pub returns : goal.returns

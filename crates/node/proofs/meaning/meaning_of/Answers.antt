@@ -1,5 +1,4 @@
 -- `node::meaning::meaning_of` meets its contract: a line a kind.
-use borrow.Author.Rules.{rules}
 use Rattle.node.proofs.meaning.meaning_of.Goals as goal
 
 pub returns-in-Activate : goal.returns-in-Activate

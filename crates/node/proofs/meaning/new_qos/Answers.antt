@@ -1,5 +1,4 @@
 -- `node::meaning::new_qos` meets its contract.
-use borrow.Author.Rules.{rules}
 use Rattle.node.proofs.meaning.new_qos.Goals as goal
 
 pub returns : goal.returns

@@ -1,5 +1,4 @@
 -- `node::meaning::quiet` meets its contract.
-use borrow.Author.Rules.{rules}
 use Rattle.node.proofs.meaning.quiet.Goals as goal
 
 pub returns : goal.returns

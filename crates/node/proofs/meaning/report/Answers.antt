@@ -1,5 +1,4 @@
 -- `node::meaning::report` meets its contract.
-use borrow.Author.Rules.{rules}
 use Rattle.node.proofs.meaning.report.Goals as goal
 
 pub returns : goal.returns

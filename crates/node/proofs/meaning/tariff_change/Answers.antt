@@ -1,5 +1,4 @@
 -- `node::meaning::tariff_change` meets its contract.
-use borrow.Author.Rules.{rules}
 use Rattle.node.proofs.meaning.tariff_change.Goals as goal
 
 pub returns : goal.returns

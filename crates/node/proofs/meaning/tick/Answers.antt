@@ -1,5 +1,4 @@
 -- `node::meaning::tick` meets its contract.
-use borrow.Author.Rules.{rules}
 use Rattle.node.proofs.meaning.tick.Goals as goal
 
 pub returns : goal.returns

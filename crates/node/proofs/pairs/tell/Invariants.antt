@@ -1,13 +1,9 @@
 -- `node::pairs::tell` meets its contract: come to a pair, what is done of all pairs is what was done of those before it, and then what is done of
 -- the others.
-use mathlib.Core.Path.{◌≡◌, refl, ◌∙◌}
-use Prim.Native.Nat.{◌-◌, ◌*◌, ◌/◌, ◌+◌}
-use native.Mathlib.Omega.{arith}
+use mathlib.Core.Path.{◌≡◌}
+use Prim.Native.Nat.{◌-◌, ◌/◌}
 use lib.ListN.{length}
-use Rattle.node.specs.Private.Pairs.{Listens}
-use Rattle.node.proofs.Tellings.{Telling, Due, telling_none, counters_fit, sums_fit, full_ready, tells_so}
-use Rattle.node.proofs.Tellings.{telling_end, telling_7, telling_on, telling_11, telling_closed, telling_same}
-use borrow.Author.Rules.{rules}
+use Rattle.node.proofs.Tellings.{Telling}
 use Rattle.node.proofs.pairs.tell.Given as goal
 
 abbrev pub invariant-loop-k : goal.invariant-loop-k

@@ -1,7 +1,6 @@
 -- `node::sound::fresh` meets its contract.
 use mathlib.Core.Path.{sym, ◌∙◌}
 use Rattle.node.specs.Sound.{fresh_of}
-use borrow.Author.Rules.{rules}
 use Rattle.node.proofs.sound.fresh.Goals as goal
 
 pub returns-then-profile_ok : goal.returns-then-profile_ok

@@ -1,6 +1,5 @@
 -- `node::sound::is_sound` meets its contract.
 use Rattle.node.specs.Sound.{sound}
-use borrow.Author.Rules.{rules}
 use Rattle.node.proofs.sound.is_sound.Goals as goal
 
 pub returns : goal.returns

@@ -1,5 +1,4 @@
 -- `node::sound::keeps_rules` meets its contract.
-use borrow.Author.Rules.{rules}
 use Rattle.node.proofs.sound.keeps_rules.Goals as goal
 
 pub returns : goal.returns

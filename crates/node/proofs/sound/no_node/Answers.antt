@@ -1,6 +1,5 @@
 -- `node::sound::no_node` meets its contract: nothing is given to a node that is set up with nothing.
 use mathlib.Core.Path.{ap, ◌∙◌}
-use borrow.Author.Rules.{rules}
 use Rattle.profile.specs.declared.Profile.{Profile}
 use Rattle.node.specs.Sound.{fresh_node}
 use Rattle.node.proofs.sound.no_node.Goals as goal

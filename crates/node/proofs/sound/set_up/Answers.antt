@@ -1,5 +1,4 @@
 -- `node::sound::set_up` meets its contract.
-use borrow.Author.Rules.{rules}
 use Rattle.node.proofs.sound.set_up.Goals as goal
 
 pub returns : goal.returns

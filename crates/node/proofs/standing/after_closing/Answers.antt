@@ -2,7 +2,6 @@
 use Rattle.node.proofs.Growing.{after_release, after_other}
 use mathlib.Core.Path.{sym, ◌∙◌}
 use native.Mathlib.Omega.{arith}
-use borrow.Author.Rules.{rules}
 use Rattle.node.proofs.standing.after_closing.Goals as goal
 
 pub returns-then-m : goal.returns-then-m

@@ -1,10 +1,6 @@
 -- `node::standing::closed_by` meets its contract.
-use mathlib.Core.Bool.{true}
-use mathlib.Core.Path.{◌≡◌}
-use Rattle.container.specs.Open.{roomy}
-use Rattle.node.specs.Hear.{reported, closed_by}
+use Rattle.node.specs.Hear.{closed_by}
 use Rattle.node.proofs.Growing.{roomy_reported}
-use borrow.Author.Rules.{rules}
 use Rattle.node.proofs.standing.closed_by.Goals as goal
 
 pub reported-requires : goal.reported-requires

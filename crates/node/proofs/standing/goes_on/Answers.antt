@@ -2,7 +2,6 @@
 use Rattle.node.specs.Hear.{change_of, goes_on}
 use Rattle.node.proofs.Perhaps.{perhaps_is, perhaps_nothing}
 use Rattle.node.proofs.Growing.{roomy_reported, fewer_reported}
-use borrow.Author.Rules.{rules}
 use Rattle.node.proofs.standing.goes_on.Goals as goal
 
 pub reported-n-requires : goal.reported-n-requires

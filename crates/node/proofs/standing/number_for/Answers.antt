@@ -1,6 +1,5 @@
 -- `node::standing::number_for` meets its contract.
 use Rattle.node.specs.Hear.{number_for}
-use borrow.Author.Rules.{rules}
 use Rattle.node.proofs.standing.number_for.Goals as goal
 
 pub returns-then-released-closed : goal.returns-then-released-closed

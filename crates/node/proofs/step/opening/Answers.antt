@@ -1,6 +1,5 @@
 -- `node::step::opening` meets its contract.
 use mathlib.Core.Path.{sym}
-use borrow.Author.Rules.{rules}
 use Rattle.node.specs.Step.{activated}
 use Rattle.node.proofs.Copied.{checked_name}
 use Rattle.node.proofs.step.opening.Goals as goal

@@ -1,6 +1,5 @@
 -- `node::step::resettled` meets its contract.
 use mathlib.Core.Path.{refl}
-use borrow.Author.Rules.{rules}
 use Rattle.node.specs.Step.{settled_by}
 use Rattle.node.proofs.step.resettled.Goals as goal
 

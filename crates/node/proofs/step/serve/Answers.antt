@@ -13,7 +13,11 @@ returns-then-out-n c =
     c.refused.ensures.0 c.refused.ensures.1.0 c.refused.ensures.1.1
 
 pub hear_all-e-requires : goal.hear_all-e-requires
-hear_all-e-requires c = (c.requires.0, (c.requires.1.0, omega (arith, c.size_all-n.ensures, c.if-out-n.false)))
+hear_all-e-requires c = record {
+  sound_table = c.requires.sound_table;
+  in_range = c.requires.in_range;
+  cs_in_bounds = omega (arith, c.size_all-n.ensures, c.if-out-n.false);
+}
 
 pub returns : goal.returns
 returns c =

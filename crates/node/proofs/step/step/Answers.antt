@@ -1,13 +1,8 @@
 -- `node::step::step` meets its contract.
 use mathlib.Core.Path.{◌≡◌, sym, ◌∙◌}
-use Prim.Native.Nat.{◌-◌}
 use native.Mathlib.Omega.{arith}
-use Rattle.history.proofs.Scans.{Looking, looking_none, looking_more, looking_end}
-use Rattle.context.specs.Slots.{slot_of}
-use Rattle.context.specs.Sound.{slots_ok}
+use Rattle.history.proofs.Scans.{looking_none, looking_more, looking_end}
 use Rattle.context.proofs.Scans.{slots_ask}
-use Rattle.subscriber.specs.Subscriber.{slot_of as imsiSlot}
-use Rattle.subscriber.specs.Sound.{slots_ok as subscribersOk}
 use Rattle.subscriber.proofs.Scans.{slots_ask as subscribers-ask}
 use Rattle.node.specs.declared.task.Task.{Task}
 use Rattle.node.specs.Held.{Held}
@@ -15,7 +10,6 @@ use Rattle.node.proofs.Holds.{held_is}
 use Rattle.node.proofs.Ranges.{slotted}
 use Rattle.node.proofs.Served.{ready}
 use Rattle.node.proofs.Tasks.{Tasked, tasked_by, steps_refused, steps_one, steps_all, steps_open, steps_notify, steps_attach, steps_replace}
-use borrow.Author.Rules.{rules}
 use Rattle.node.proofs.step.step.Goals as goal
 
 pub loop-i-init : goal.loop-i-init
@@ -79,10 +73,10 @@ try_slot-requires c =
     (looking_end (slots_ask _ _ _ _) v.0 (omega (arith, c.loop-i-test.false, h.size)))
     (looking_end (subscribers-ask _ _ _) v.1 (omega (arith, c.loop-i-test.false, h.places)))
     c.keeps_rules-sound.ensures (sym e ∙ c.task_for-k.ensures.0) in
-    let t = the_task _ c.in-One.is in (
-      slotted c.args.node.profile c.args.node.settings _ c.args.node.contexts _ (omega (arith, held.size, t.fit.0)) (ready c.args.node _ t.fit.1),
-      rw c.in-One.is at c.task_for-k.ensures.1,
-    )
+    let t = the_task _ c.in-One.is in record {
+      sound_slot = slotted c.args.node.profile c.args.node.settings _ c.args.node.contexts _ (omega (arith, held.size, t.fit.0)) (ready c.args.node _ t.fit.1);
+      in_range = rw c.in-One.is at c.task_for-k.ensures.1;
+    }
 
 pub placed-requires : goal.placed-requires
 placed-requires c =
@@ -113,7 +107,11 @@ serve-requires c =
     (looking_end (subscribers-ask _ _ _) v.1 (omega (arith, c.loop-i-test.false, h.places)))
     c.keeps_rules-sound.ensures (sym e ∙ c.task_for-k.ensures.0) in
     let t = the_task _ c.in-All.is in
-    (ready c.args.node _ t.fit, (rw c.in-All.is at c.task_for-k.ensures.1, t.fit.few))
+    record {
+      sound_table = ready c.args.node _ t.fit;
+      in_range = rw c.in-All.is at c.task_for-k.ensures.1;
+      accepted_lt_most_accepted = t.fit.few;
+    }
 
 -- a context is opened
 pub opened-requires : goal.opened-requires

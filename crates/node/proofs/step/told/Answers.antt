@@ -1,7 +1,6 @@
 -- `node::step::told` meets its contract.
 use mathlib.Core.Path.{refl, sym}
 use borrow.Author.Tests.{ne_eqb}
-use borrow.Author.Rules.{rules}
 use Rattle.node.proofs.step.told.Goals as goal
 
 pub returns-then-k-ne0 : goal.returns-then-k-ne0

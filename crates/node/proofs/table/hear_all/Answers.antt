@@ -1,11 +1,10 @@
 -- `node::table::hear_all` meets its contract.
 use Prim.Native.Nat.{◌≤◌}
 use mathlib.Core.Path.{◌≡◌}
-use Prim.Native.Nat.{◌-◌}
 use native.Mathlib.Omega.{arith}
 use lib.ListN.{length}
 use Rattle.format.proofs.Arrays.{length_of_map}
-use Rattle.history.proofs.Ranges.{still, Hearing, hearing_none, hearing_more, hearing_end, room}
+use Rattle.history.proofs.Ranges.{still, hearing_none, hearing_more, hearing_end, room}
 use Rattle.node.specs.Private.Range.{slot_next, slot_out}
 use Rattle.node.proofs.Ranges.{slotted, puts}
 use borrow.Author.Rules.{rules}
@@ -22,10 +21,11 @@ hear_slot-e-requires c =
     let l = c.loop-i in
     let q = c.loop-i-test.true in
     let n : 16 ≤ length a.cs = omega (arith, whole) in
-    let e = still (slot_next a.p a.g a.t a.m) 0 16 a.cs l.invariant.standing in (
-      rw e (slotted a.p a.g a.t a.cs _ (omega arith) c.requires.0),
-      (c.requires.1.0, rw e (room puts (slot_next a.p a.g a.t a.m) (slot_out a.p a.g a.t a.m) 0 16 a.cs l.invariant _ q n c.requires.1.1)),
-    )
+    let e = still (slot_next a.p a.g a.t a.m) 0 16 a.cs l.invariant.standing in record {
+      sound_slot = rw e (slotted a.p a.g a.t a.cs _ (omega arith) c.requires.sound_table);
+      in_range = c.requires.in_range;
+      c_in_bounds = rw e (room puts (slot_next a.p a.g a.t a.m) (slot_out a.p a.g a.t a.m) 0 16 a.cs l.invariant _ q n c.requires.cs_in_bounds);
+    }
 
 pub loop-i-preserved : goal.loop-i-preserved
 loop-i-preserved c =

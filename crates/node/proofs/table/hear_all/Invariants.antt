@@ -1,14 +1,8 @@
 -- `node::table::hear_all` meets its contract.
-use Prim.Native.Nat.{◌≤◌}
-use mathlib.Core.Path.{◌≡◌}
 use Prim.Native.Nat.{◌-◌}
-use native.Mathlib.Omega.{arith}
-use lib.ListN.{length}
-use Rattle.format.proofs.Arrays.{length_of_map}
-use Rattle.history.proofs.Ranges.{still, Hearing, hearing_none, hearing_more, hearing_end, room}
+use Rattle.history.proofs.Ranges.{Hearing}
 use Rattle.node.specs.Private.Range.{slot_next, slot_out}
-use Rattle.node.proofs.Ranges.{slotted, puts}
-use borrow.Author.Rules.{rules}
+use Rattle.node.proofs.Ranges.{puts}
 use Rattle.node.proofs.table.hear_all.Given as goal
 
 abbrev pub invariant-loop-i : goal.invariant-loop-i

@@ -1,10 +1,9 @@
 -- `node::table::size_all` meets its contract.
 use mathlib.Core.Path.{◌≡◌}
-use Prim.Native.Nat.{◌-◌}
 use native.Mathlib.Omega.{arith}
 use lib.ListN.{length}
 use Rattle.format.proofs.Arrays.{length_of_map}
-use Rattle.history.proofs.Ranges.{Sizing, sizing_none, sizing_more, sizing_end}
+use Rattle.history.proofs.Ranges.{sizing_none, sizing_more, sizing_end}
 use Rattle.node.specs.Private.Range.{slot_out}
 use Rattle.node.proofs.Ranges.{slotted}
 use borrow.Author.Rules.{rules}
@@ -18,7 +17,7 @@ slot_size-n-requires c =
     let whole : length c.args.cs ≡ 16 =
     search (rules, length_of_map) in
     let a = c.args in
-    (slotted a.p a.g a.t a.cs _ (omega (arith, whole, c.loop-i-test.true)) c.requires.0, c.requires.1)
+    record { sound_slot = slotted a.p a.g a.t a.cs _ (omega (arith, whole, c.loop-i-test.true)) c.requires.sound_table; in_range = c.requires.in_range }
 
 pub overflow_add-n : goal.overflow_add-n
 overflow_add-n c = omega (arith, c.loop-i.invariant.few, c.slot_size-n.ensures.most)

@@ -1,13 +1,7 @@
 -- `node::table::size_all` meets its contract.
-use mathlib.Core.Path.{◌≡◌}
 use Prim.Native.Nat.{◌-◌}
-use native.Mathlib.Omega.{arith}
-use lib.ListN.{length}
-use Rattle.format.proofs.Arrays.{length_of_map}
-use Rattle.history.proofs.Ranges.{Sizing, sizing_none, sizing_more, sizing_end}
+use Rattle.history.proofs.Ranges.{Sizing}
 use Rattle.node.specs.Private.Range.{slot_out}
-use Rattle.node.proofs.Ranges.{slotted}
-use borrow.Author.Rules.{rules}
 use Rattle.node.proofs.table.size_all.Given as goal
 
 abbrev pub invariant-loop-i : goal.invariant-loop-i

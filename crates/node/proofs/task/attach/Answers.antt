@@ -1,7 +1,6 @@
 -- `node::task::attach` meets its contract.
 use mathlib.Core.Path.{sym, ◌∙◌}
 use Rattle.node.specs.Private.Task.{attach_task}
-use borrow.Author.Rules.{rules}
 use Rattle.node.proofs.task.attach.Goals as goal
 
 pub returns-in-At : goal.returns-in-At

@@ -1,7 +1,6 @@
 -- `node::task::named` meets its contract.
 use mathlib.Core.Path.{sym, ◌∙◌}
 use Rattle.node.specs.Private.Task.{named_task}
-use borrow.Author.Rules.{rules}
 use Rattle.node.proofs.task.named.Goals as goal
 
 pub returns-in-At : goal.returns-in-At

@@ -1,7 +1,6 @@
 -- `node::task::notify` meets its contract.
 use mathlib.Core.Path.{sym, ◌∙◌}
 use Rattle.node.specs.Private.Task.{notify_task}
-use borrow.Author.Rules.{rules}
 use Rattle.node.proofs.task.notify.Goals as goal
 
 pub returns-in-At : goal.returns-in-At

@@ -1,7 +1,5 @@
 -- `node::task::open` meets its contract.
 use mathlib.Core.Path.{sym, ◌∙◌}
-use borrow.Author.Rules.{rules}
-use borrow.Author.Tests.{not-true, not-false}
 use Rattle.node.specs.Private.Task.{open_task}
 use Rattle.node.proofs.task.open.Goals as goal
 
@@ -15,24 +13,22 @@ returns-in-At c = (rw (sym c.has.ensures ∙ c.if-not-has.false, sym c.find.ensu
 
 pub returns-in-At-free : goal.returns-in-At-free
 unfolding open_task
-returns-in-At-free c =
-    (
-      rw (
-        sym c.has.ensures ∙ c.if-not-has.false,
-        sym c.find.ensures ∙ c.in_default.is,
-        sym c.lowest_free-free.ensures ∙ c.in-At-free.is,
-      ),
-      tt,
-    )
+returns-in-At-free c = (
+  rw (
+    sym c.has.ensures ∙ c.if-not-has.false,
+    sym c.find.ensures ∙ c.in_default.is,
+    sym c.lowest_free-free.ensures ∙ c.in-At-free.is,
+  ),
+  tt,
+)
 
 pub returns-in-Nothing : goal.returns-in-Nothing
 unfolding open_task
-returns-in-Nothing c =
-    (
-      rw (
-        sym c.has.ensures ∙ c.if-not-has.false,
-        sym c.find.ensures ∙ c.in_default.is,
-        sym c.lowest_free-free.ensures ∙ c.in-Nothing.is,
-      ),
-      tt,
-    )
+returns-in-Nothing c = (
+  rw (
+    sym c.has.ensures ∙ c.if-not-has.false,
+    sym c.find.ensures ∙ c.in_default.is,
+    sym c.lowest_free-free.ensures ∙ c.in-Nothing.is,
+  ),
+  tt,
+)

@@ -1,7 +1,5 @@
 -- `node::task::replace` meets its contract.
 use mathlib.Core.Path.{sym, ◌∙◌}
-use borrow.Author.Rules.{rules}
-use borrow.Author.Tests.{not-true, not-false}
 use Rattle.node.specs.Private.Task.{replace_task}
 use Rattle.node.proofs.task.replace.Goals as goal
 

@@ -3,7 +3,6 @@ use mathlib.Core.Path.{sym, ◌∙◌}
 use borrow.Author.Tests.{not-true, not-false}
 use Rattle.node.specs.Private.Task.{task_for}
 use Rattle.node.proofs.Brings.{fair_meaning}
-use borrow.Author.Rules.{rules}
 use Rattle.node.proofs.task.task_for.Goals as goal
 
 pub returns-then-not-sound : goal.returns-then-not-sound

@@ -1,6 +1,5 @@
 -- `node::task::task_of` meets its contract.
 use Rattle.node.specs.Private.Task.{task_of}
-use borrow.Author.Rules.{rules}
 use Rattle.node.proofs.task.task_of.Goals as goal
 
 pub named-requires : goal.named-requires

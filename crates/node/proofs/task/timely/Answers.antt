@@ -2,7 +2,6 @@
 use borrow.Author.Tests.{le-leb, lt-leb, le-ltb, lt-ltb}
 use Rattle.node.specs.Sound.{latest, most_accepted}
 use Rattle.node.specs.Private.Task.{timely_task}
-use borrow.Author.Rules.{rules}
 use Rattle.node.proofs.task.timely.Goals as goal
 
 pub returns-then-t-gt3155759999 : goal.returns-then-t-gt3155759999
