@@ -1,4 +1,4 @@
-/* The charging node for a host in C: the static library libhost_c.a (rt lib in crates/host_c), built for x86-64.
+/* The charging node for a host in C: the static library libhost.a (bin/library), built for x86-64.
  *
  * The node is one value that the host holds: it may lie anywhere, and nothing of it is kept elsewhere. Its fields may be read; whatever
  * they hold, every call answers (13 for a node that breaks a rule). Padding is unspecified, so nodes are compared field by field.

@@ -3,7 +3,8 @@
 //     commands charge PROFILE EVENTS                charges a file of events (charge.rt)
 //     commands show [--json] RECORDS                shows a record list (show.rt)
 //     commands count RECORDS ID GGSN                counts the records of a context in a record list (count.rt)
-//     commands all PROFILE EVENTS RECORDS ID GGSN   does the one after the other, as `rt check` has it
+//     commands both PROFILE EVENTS RECORDS          charges and shows, as `rt ci` has it
+//     commands all PROFILE EVENTS RECORDS ID GGSN   does all three, one after the other
 //
 // No contract can say what is read or written: each function is proved safe and ending.
 #![tactic(auto)]
@@ -26,6 +27,11 @@ fn main(rt: HostRuntime) {
     }
     if setup::is_word(&rt, 1, b"count") {
         count::main(&rt, output, error);
+        return;
+    }
+    if setup::is_word(&rt, 1, b"both") {
+        charge::charge_file(&rt, output, error);
+        show::show_file(&rt, output, error, 4, out::TEXT);
         return;
     }
     if setup::is_word(&rt, 1, b"all") {

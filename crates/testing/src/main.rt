@@ -6,8 +6,9 @@
 //     testing counts                             the records of a name counted in lists, a line a list (counts.rt)
 //     testing pace PROFILE EVENTS RECORDS        how long the step, the writer, the reader and the count take (pace.rt)
 //     testing tick PROFILE EVENTS                how long the last event takes (tick.rt)
-//     testing all PROFILE BLOCKS CASES CALLS..   files of calls, then what `records both` makes of standard input and `records both-mm` of
-//                                                the file BLOCKS, then 01's bench table (table.rt), then what `counts` makes of the file CASES
+//     testing all PROFILE BLOCKS CALLS..         files of calls, then what `records both` makes of standard input and `records both-mm` of
+//                                                the file BLOCKS, then 01's bench table (table.rt)
+//     testing all-counted PROFILE BLOCKS CASES CALLS..   the same, and then what `counts` makes of the file CASES
 //
 // No contract can say what is read or written: each function is proved safe and ending.
 #![tactic(auto)]
@@ -25,10 +26,16 @@ use std::env::Env;
 use std::io::{Read, Stderr};
 use std::rt::Files;
 
-// Each file of calls from a fresh node.
-fn all<R: Env + Files, F: Read>(rt: &R, to: &mut Stream, error: Stderr, input: &mut F) {
+// Each file of calls, from an argument on, from a fresh node.
+fn all<R: Env + Files, F: Read>(
+    rt: &R,
+    to: &mut Stream,
+    error: Stderr,
+    input: &mut F,
+    calls: usize,
+) {
     let count = setup::arg_count(rt);
-    let mut i: usize = 5;
+    let mut i = calls;
     while i < count {
         calls::run_file(rt, to, error, i);
         i += 1;
@@ -36,7 +43,6 @@ fn all<R: Env + Files, F: Read>(rt: &R, to: &mut Stream, error: Stderr, input: &
     records::all(to, error, input, false, records::BOTH);
     records::both_mm(rt, to, error, 3);
     table::write_rows(to);
-    counts::count_file(rt, to, error, 4);
 }
 
 // The first n octets of a buffer; all where there are fewer.
@@ -76,7 +82,12 @@ fn main(rt: HostRuntime) {
         return;
     }
     if setup::is_word(&rt, 1, b"all") {
-        all(&rt, &mut to, error, &mut input);
+        all(&rt, &mut to, error, &mut input, 4);
+        return;
+    }
+    if setup::is_word(&rt, 1, b"all-counted") {
+        all(&rt, &mut to, error, &mut input, 5);
+        counts::count_file(&rt, &mut to, error, 4);
         return;
     }
     setup::say_line(
