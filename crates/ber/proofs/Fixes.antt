@@ -1,6 +1,6 @@
 -- Any two answers that meet a promise are equal: a theorem for each form of promise.
 use mathlib.Core.Path.{◌≡◌, sym, ◌∙◌}
-use mathlib.Core.Option.{Option}
+use Rattle.std.specs.Prelude.{Option}
 use mathlib.Core.List.{List}
 use Prim.Native.Nat.{ℕ}
 use Rattle.ber.specs.Read.{Reads, Lies}

@@ -2,7 +2,7 @@
 use mathlib.Core.Path.{◌≡◌, refl, sym, ap, ◌∙◌}
 use mathlib.Core.Logic.{◌↔◌}
 use mathlib.Core.Bool.{Bool, true, false, cond, ◌&&◌}
-use mathlib.Core.Option.{Option, none, some}
+use Rattle.std.specs.Prelude.{Option, None, Some}
 use mathlib.Core.List.{List, [], ◌∷◌, ◌++◌}
 use Prim.Native.Nat.{ℕ, suc, ◌+◌, ◌-◌, ◌≤◌, ◌<◌}
 use native.Mathlib.Omega.{arith}
@@ -24,22 +24,22 @@ use Rattle.ber.proofs.Places.{PartIs, by_part}
 module _ (t : ℕ) {A : Type 0} (x : Fmt A) where
   -- what was read before z counts where z is nothing
   abbrev closed : Option A → List ℕ → Option A
-  closed o z = bind {A = A × Unit {0}} (bind {A = A × List ℕ} (bind o (λ r. some (r, z))) (λ q. bind (end.dec q.1) (λ b. some (q.0, b))))
-      (λ v. some v.0)
+  closed o z = bind {A = A × Unit {0}} (bind {A = A × List ℕ} (bind o (λ r. Some (r, z))) (λ q. bind (end.dec q.1) (λ b. Some (q.0, b))))
+      (λ v. Some v.0)
 
   closed_end : (o : Option A) → closed o [] ≡ o
-  closed_end none = refl
-  closed_end (some r) = refl
+  closed_end None = refl
+  closed_end (Some r) = refl
 
-  closed_more : (o : Option A) (y : ℕ) (z : List ℕ) → closed o (y ∷ z) ≡ none
-  closed_more none y z = refl
-  closed_more (some r) y z = refl
+  closed_more : (o : Option A) (y : ℕ) (z : List ℕ) → closed o (y ∷ z) ≡ None
+  closed_more None y z = refl
+  closed_more (Some r) y z = refl
 
   below : (i j : ℕ) → i ≤ j → (i ≡ j → ⊥) → i < j
   below i j h n = either j i (λ k. absurd (n (omega arith))) (λ k. k)
 
   module _ (s : List ℕ) where
-    pub alone_absent : tlv_dec t (drop 0 s) ≡ none → (alone t x).dec s ≡ none
+    pub alone_absent : tlv_dec t (drop 0 s) ≡ None → (alone t x).dec s ≡ None
     unfolding first
     alone_absent n = rw n
 
@@ -51,17 +51,17 @@ module _ (t : ℕ) {A : Type 0} (x : Fmt A) where
       whole : e ≡ length s → (alone t x).dec s ≡ x.dec (take (e - a) (drop a s))
       whole k = split ∙ rw (drop_of_length-le s {i = e} (omega arith)) (closed_end (x.dec (take (e - a) (drop a s))))
 
-      after : (e ≡ length s → ⊥) → (alone t x).dec s ≡ none
+      after : (e ≡ length s → ⊥) → (alone t x).dec s ≡ None
       after k = split ∙ rw (drop-cons s e 0 (below e (length s) p.inside k)) (closed_more (x.dec (take (e - a) (drop a s))) (get_or s e 0) (drop (suc e) s))
 
   -- what was answered of the value under the tag
   module _ {s : List ℕ} {from to : ℕ} (l : Lies s 0 t from to) where
     -- it is not there, or does not end where s does
-    pub alone_not_all : (to ≡ length s → ⊥) → (alone t x).dec s ≡ none
+    pub alone_not_all : (to ≡ length s → ⊥) → (alone t x).dec s ≡ None
     alone_not_all n = by_part l (λ d _. alone_absent s d) (λ p. after s p n)
 
     -- it ends there: its contents decide, which are no form where they are empty
-    pub alone_all : x.dec [] ≡ none → to ≡ length s → (alone t x).dec s ≡ x.dec (cut (from, to) s)
+    pub alone_all : x.dec [] ≡ None → to ≡ length s → (alone t x).dec s ≡ x.dec (cut (from, to) s)
     alone_all z w = by_part l (λ d q. alone_absent s d ∙ sym (ap x.dec q ∙ z)) (λ p. whole s p w)
 
 -- ---- the answers of a writer
@@ -76,7 +76,7 @@ pub record Answers (ok : Bool) (x b b' : List ℕ) (answer n : ℕ) : Type 0 whe
 pub answer_outside : {ok : Bool} {x b : List ℕ} → ok ≡ false → Answers ok x b b 24 0
 answer_outside e = record { is = rw e }
 
-module _ {ok : Bool} (w : ok ≡ true) {x b b' : List ℕ} {n : ℕ} (p : Puts (some x) b b' 0 n) where
+module _ {ok : Bool} (w : ok ≡ true) {x b b' : List ℕ} {n : ℕ} (p : Puts (Some x) b b' 0 n) where
   pub answer_full : length x < nowhere → n ≡ nowhere → Answers ok x b b' 11 0
   unfolding put
   answer_full short e =
@@ -121,16 +121,16 @@ module _ {ok : Bool} {x b b' : List ℕ} {w n : ℕ} (p : Answers ok x b b' w n)
 
 -- the reader's answer: 0 and the record, or 20 and a blank one
 abbrev pub read_as : {A : Type 0} → A → Option A → ℕ × A
-read_as blank none = (20, blank)
-read_as blank (some r) = (0, r)
+read_as blank None = (20, blank)
+read_as blank (Some r) = (0, r)
 
 module _ {A : Type 0} (f : Fmt A) (shaped within : A → Bool) (blank : A)
-    (exact : (s : List ℕ) (r : A) → (f.dec s ≡ some r) ↔ (T (shaped r && within r) × (f.enc r ≡ s))) where
-  read_zero : (o : Option A) {a : ℕ} {x : A} → ◌≡◌ {A = ℕ × A} (a, x) (read_as blank o) → a ≡ 0 → o ≡ some x
-  read_zero none {a} e z = absurd (let q : a ≡ 20 = ap (λ (y : ℕ × A). y.0) e in omega arith)
-  read_zero (some y) e z = ap {B = Option A} some (sym (ap (λ (w : ℕ × A). w.1) e))
+    (exact : (s : List ℕ) (r : A) → (f.dec s ≡ Some r) ↔ (T (shaped r && within r) × (f.enc r ≡ s))) where
+  read_zero : (o : Option A) {a : ℕ} {x : A} → ◌≡◌ {A = ℕ × A} (a, x) (read_as blank o) → a ≡ 0 → o ≡ Some x
+  read_zero None {a} e z = absurd (let q : a ≡ 20 = ap (λ (y : ℕ × A). y.0) e in omega arith)
+  read_zero (Some y) e z = ap {B = Option A} Some (sym (ap (λ (w : ℕ × A). w.1) e))
 
-  read_some : {s : List ℕ} {a : ℕ} {x r : A} → ◌≡◌ {A = ℕ × A} (a, x) (read_as blank (f.dec s)) → f.dec s ≡ some r → (a ≡ 0) × (x ≡ r)
+  read_some : {s : List ℕ} {a : ℕ} {x r : A} → ◌≡◌ {A = ℕ × A} (a, x) (read_as blank (f.dec s)) → f.dec s ≡ Some r → (a ≡ 0) × (x ≡ r)
   read_some p d = let q = rw d at p in (ap (λ (y : ℕ × A). y.0) q, ap (λ (y : ℕ × A). y.1) q)
 
   -- Octets s, a record r that the code can hold, any answer of the reader to s, any answer of the writer to r in a buffer with room for s: the reader
@@ -142,7 +142,7 @@ module _ {A : Type 0} (f : Fmt A) (shaped within : A → Bool) (blank : A)
     where
       taken : (a ≡ 0) × (x ≡ r) → T (within r) × Leaves s b b' w n
       taken (z, e) =
-          let (g, o) = (exact s r).0 (read_zero (f.dec s) p z ∙ ap {B = Option A} some e) in
+          let (g, o) = (exact s r).0 (read_zero (f.dec s) p z ∙ ap {B = Option A} Some e) in
           let i = and_r (shaped r) (within r) g in
           (i, rw o at (answer_room q (T_true (within r) i) (omega (arith, ap length o))))
 

@@ -2,7 +2,7 @@
 -- from one. Laws over any type of value, any format, any array.
 use mathlib.Core.Path.{◌≡◌, refl, sym, ap, subst, ◌∙◌}
 use mathlib.Core.Bool.{Bool, true, false, ◌&&◌}
-use mathlib.Core.Option.{Option, none, some}
+use Rattle.std.specs.Prelude.{Option, None, Some}
 use mathlib.Core.List.{List, [], ◌∷◌, ◌++◌, append_assoc, append-nil}
 use Prim.Native.Nat.{ℕ, zero, suc, ◌+◌, ◌-◌, ◌*◌, ◌≤◌, ◌<◌}
 use native.Mathlib.Numerals.{add-one}
@@ -53,11 +53,11 @@ module _ {A : Type 0} (k : Run A) (s : List ℕ) where
     pub size : length v ≡ k.places
     pub blank : drop n v ≡ k.blank.many (k.places - n)
     pub rest : (o : Option (List A)) → Rest (rest k z (k.places - n)) s at o
-        → Rest (rest k k.blank.value k.places) s 0 (bind o (λ vs. some (take n v ++ vs)))
+        → Rest (rest k k.blank.value k.places) s 0 (bind o (λ vs. Some (take n v ++ vs)))
 
-  bind_id : (o : Option (List A)) → bind o (λ vs. some vs) ≡ o
-  bind_id none = refl
-  bind_id (some vs) = refl
+  bind_id : (o : Option (List A)) → bind o (λ vs. Some vs) ≡ o
+  bind_id None = refl
+  bind_id (Some vs) = refl
 
   pub sofar_none : (v : List A) (z : A) → length v ≡ k.places → v ≡ k.blank.many k.places → z ≡ k.blank.value → SoFar v 0 0 z
   sofar_none v z l e w =
@@ -82,22 +82,22 @@ module _ {A : Type 0} (k : Run A) (s : List ℕ) where
         blank = drop-set-lt (n + 1) v n c (omega arith) ∙ sym (drop-drop 1 n v) ∙ ap (drop 1) (f.blank ∙ ap k.blank.many (sym e))
             ∙ one_less (k.places - (n + 1));
         rest = λ o r.
-            let q = subst (λ (j : ℕ). Rest (rest k z j) s at (bind o (λ vs. some (c ∷ vs)))) e
+            let q = subst (λ (j : ℕ). Rest (rest k z j) s at (bind o (λ vs. Some (c ∷ vs)))) e
             (run_more k.tag k.form s z (k.places - (n + 1)) at h g r) in
             let w : take (n + 1) (set v n c) ≡ take n v ++ (c ∷ []) = rw (add-one, take-suc-set v n c (omega (arith, f.size))) in
             subst (λ (y : Option (List A)). Rest (rest k k.blank.value k.places) s 0 y)
-            (bind_bind o (λ vs. some (c ∷ vs)) (λ vs. some (take n v ++ vs))
-            ∙ bind_same o _ (λ vs. some (take (n + 1) (set v n c) ++ vs))
-            (λ vs. ap {B = Option (List A)} some (sym (append_assoc (take n v) (c ∷ []) vs) ∙ ap (λ (z : List A). z ++ vs) (sym w))))
-            (f.rest (bind o (λ vs. some (c ∷ vs))) q);
+            (bind_bind o (λ vs. Some (c ∷ vs)) (λ vs. Some (take n v ++ vs))
+            ∙ bind_same o _ (λ vs. Some (take (n + 1) (set v n c) ++ vs))
+            (λ vs. ap {B = Option (List A)} Some (sym (append_assoc (take n v) (c ∷ []) vs) ∙ ap (λ (z : List A). z ++ vs) (sym w))))
+            (f.rest (bind o (λ vs. Some (c ∷ vs))) q);
       }
 
   module _ (lo : ℕ) {v : List A} {n at : ℕ} {z : A} (f : SoFar v n at z) where
     -- all of s was read
-    whole : at ≡ length s → rest k k.blank.value k.places s ≡ some (take n v)
+    whole : at ≡ length s → rest k k.blank.value k.places s ≡ Some (take n v)
     whole e =
-        rest_whole (subst (λ (y : List A). Rest (rest k k.blank.value k.places) s 0 (some y)) (append-nil (take n v))
-        (f.rest (some []) (run_end k.tag k.form s z (k.places - n) at e)))
+        rest_whole (subst (λ (y : List A). Rest (rest k k.blank.value k.places) s 0 (Some y)) (append-nil (take n v))
+        (f.rest (Some []) (run_end k.tag k.form s z (k.places - n) at e)))
 
     pub sofar_count : length (take n v) ≡ n
     sofar_count = length-take-le n v (omega (arith, f.most, f.size))
@@ -107,20 +107,20 @@ module _ {A : Type 0} (k : Run A) (s : List ℕ) where
     sofar_rest = rw sofar_count (sym (take-append-drop n v) ∙ ap (λ (z : List A). take n v ++ z) f.blank)
 
     -- a value was not there
-    pub list_cut : length s < at → list_dec k lo s ≡ none
-    list_cut h = rw (rest_whole (f.rest none (run_past k.tag k.form s z (k.places - n) at h)))
+    pub list_cut : length s < at → list_dec k lo s ≡ None
+    list_cut h = rw (rest_whole (f.rest None (run_past k.tag k.form s z (k.places - n) at h)))
 
     -- the array is full, and there are more octets
-    pub list_long : at < length s → k.places ≤ n → list_dec k lo s ≡ none
+    pub list_long : at < length s → k.places ≤ n → list_dec k lo s ≡ None
     list_long h i =
         let w : 0 ≡ k.places - n = omega (arith, f.most) in
-        rw (rest_whole (f.rest none (subst (λ (j : ℕ). Rest (rest k z j) s at none) w (run_full k.tag k.form s z at h))))
+        rw (rest_whole (f.rest None (subst (λ (j : ℕ). Rest (rest k z j) s at None) w (run_full k.tag k.form s z at h))))
 
     -- so few are too few
-    pub list_few : at ≡ length s → n < lo → list_dec k lo s ≡ none
+    pub list_few : at ≡ length s → n < lo → list_dec k lo s ≡ None
     list_few e h = rw (whole e, lt-leb lo (length (take n v)) (omega (arith, sofar_count)))
 
-    pub list_some : at ≡ length s → lo ≤ n → list_dec k lo s ≡ some (take n v)
+    pub list_some : at ≡ length s → lo ≤ n → list_dec k lo s ≡ Some (take n v)
     list_some e h = rw (whole e, le-leb lo (length (take n v)) (omega (arith, sofar_count)))
 
 -- ---- writing
@@ -145,7 +145,7 @@ module _ (t : Bool) (x b : List ℕ) (a m : ℕ) {ys : List ℕ} {k : ℕ} (e : 
   -- it answered another place than nowhere: the test passed
   pub part_yes : (k ≡ nowhere → ⊥) → t ≡ true
   unfolding put
-  part_yes n = by t (λ y. y) (λ y. absurd (n (ap (λ (z : List ℕ × ℕ). z.1) (puts_is {y = none} (rw y) p).is)))
+  part_yes n = by t (λ y. y) (λ y. absurd (n (ap (λ (z : List ℕ × ℕ). z.1) (puts_is {y = None} (rw y) p).is)))
 
   -- the test passed, and there was room: x was put
   pub part_put : t ≡ true → a + length x ≤ m → Put x b (put_mid a (m - a) b ys) a (a + k)
@@ -222,9 +222,9 @@ module _ {A : Type 0} (k : Run A) (f : Test k) where
         omega (arith, f.fits z (get_or v i d) (true_T _ o), g.short, step)
 
     -- one more
-    module _ (some : n ≡ nowhere → ⊥) where
+    module _ (Some : n ≡ nowhere → ⊥) where
       ok : f.ok z (get_or v i d) ≡ true
-      ok = part_yes (f.ok z (get_or v i d)) next b end room g.size p some
+      ok = part_yes (f.ok z (get_or v i d)) next b end room g.size p Some
 
       put_next : Put next b (put_mid end (room - end) b ys) end (end + n)
       put_next = part_put (f.ok z (get_or v i d)) next b end room g.size p ok (fits ok)

@@ -1,7 +1,8 @@
 -- The laws of a table of fields, by recursion over its rows: of its layout, of rows that are read one after another, of rows that are written so.
 use mathlib.Core.Path.{◌≡◌, refl, sym, ap, subst, ◌∙◌}
 use mathlib.Core.Bool.{Bool, true, false, not, ◌&&◌, ◌||◌}
-use mathlib.Core.Option.{Option, none, some, none-ne-some, some-injective}
+use Rattle.std.specs.Prelude.{Option, None, Some}
+use Rattle.std.proofs.lemmas.Option.{none-some, same_Some}
 use mathlib.Core.List.{List, [], ◌∷◌, ◌++◌, append_assoc}
 use Prim.Native.Nat.{ℕ, ◌+◌, ◌≤◌}
 use native.Mathlib.Omega.{arith}
@@ -49,8 +50,8 @@ layout_avoids t (r ∷ rs) h = go r (not_l (eqb (tag r) t) (among t (tags rs)) h
     go (always u x) h av = field_avoids u x (layout rs) t h
     go (if_set u c) h av = flag_avoids u c (layout rs) t h av
     go (if_any u x) h av = optional_avoids u x (layout rs) t h av
-    go (if_new u x none) h av = field_avoids u x (layout rs) t h
-    go (if_new u x (some k)) h av = λ b g. av b.1 g.1
+    go (if_new u x None) h av = field_avoids u x (layout rs) t h
+    go (if_new u x (Some k)) h av = λ b g. av b.1 g.1
 
 -- one law a kind of row. No tag stands twice, so a row that is not there is told from those that follow it.
 pub layout_law : (rs : List Row) → Laws rs → T (distinct (tags rs)) → Law (layout rs)
@@ -69,8 +70,8 @@ layout_law (r ∷ rs) l d =
 
 new_leaves : (t : ℕ) {A : Type 0} (x : Fmt A) (k : Option A) → Leaves (new t x k)
 unfolding new
-new_leaves t x none = first_leaves t x
-new_leaves t x (some k) = record { before = λ z p e. ([], ap {B = List ℕ} (λ v. v.1) (some-injective (k, z) p e)) }
+new_leaves t x None = first_leaves t x
+new_leaves t x (Some k) = record { before = λ z p e. ([], ap {B = List ℕ} (λ v. v.1) (same_Some (k, z) p e)) }
 
 pub row_leaves : (r : Row) → Leaves (row_dec r)
 row_leaves (always t x) = first_leaves t x
@@ -79,7 +80,7 @@ row_leaves (if_any t x) = maybe_leaves t x
 row_leaves (if_new t x k) = new_leaves t x k
 
 rest_row : (r : Row) {B : Type 0} (e : Fmt B) {s : List ℕ} {at m : ℕ} {v : Value r} {o : Option B}
-    → Got (row_dec r) s at v m → Rest e.dec s m o → Rest (row r e).dec s at (bind o (λ b. some (v, b)))
+    → Got (row_dec r) s at v m → Rest e.dec s m o → Rest (row r e).dec s at (bind o (λ b. Some (v, b)))
 rest_row (always t x) e g z = rest_field g z
 rest_row (if_set t c) e g z = rest_flag t c e g z
 rest_row (if_any t x) e g z = rest_field g z
@@ -92,21 +93,21 @@ Gets s (r ∷ rs) at v next = (m : ℕ) × Got (row_dec r) s at v.0 m × Gets s 
 
 module _ (s : List ℕ) where
   -- that is the end of s
-  pub rows_yes : (rs : List Row) (at : ℕ) (v : Values rs) (next : ℕ) → Gets s rs at v next → next ≡ length s → Rest (layout rs).dec s at (some v)
+  pub rows_yes : (rs : List Row) (at : ℕ) (v : Values rs) (next : ℕ) → Gets s rs at v next → next ≡ length s → Rest (layout rs).dec s at (Some v)
   rows_yes [] at v next g e = end_yes s at (g ∙ e)
   rows_yes (r ∷ rs) at v next (m, g, gs) e = rest_row r (layout rs) g (rows_yes rs m v.1 next gs e)
 
-  pub rows_no : (rs : List Row) (at : ℕ) (v : Values rs) (next : ℕ) → Gets s rs at v next → (next ≡ length s → ⊥) → Rest (layout rs).dec s at none
+  pub rows_no : (rs : List Row) (at : ℕ) (v : Values rs) (next : ℕ) → Gets s rs at v next → (next ≡ length s → ⊥) → Rest (layout rs).dec s at None
   rows_no [] at v next g n = end_no s at (λ e. n (sym g ∙ e))
   rows_no (r ∷ rs) at v next (m, g, gs) n = rest_row r (layout rs) g (rows_no rs m v.1 next gs n)
 
   -- what was got before a place of s was got from one
   pub got_found : {A : Type 0} (p : List ℕ → Option (A × List ℕ)) (at next : ℕ) (v : A) → Got p s at v next → next ≤ length s
-      → (at ≤ length s) × (p (drop at s) ≡ some (v, drop next s))
+      → (at ≤ length s) × (p (drop at s) ≡ Some (v, drop next s))
   got_found p at next v g h =
       either at (length s)
       (λ k. (k, rw (here_yes s at k, here_yes s next h) at g.is))
-      (λ k. absurd (none-ne-some (v, drop next s) (rw (here_no s at k, here_yes s next h) at g.is)))
+      (λ k. absurd (none-some (v, drop next s) (rw (here_no s at k, here_yes s next h) at g.is)))
 
   pub rows_place : (rs : List Row) (at : ℕ) (v : Values rs) (next : ℕ) → Gets s rs at v next → next ≤ length s → at ≤ length s
   rows_place [] at v next g h = omega arith
@@ -123,7 +124,7 @@ both (r ∷ rs) qs v w = (v.0, both rs qs v.1 w)
 module _ {A : Type 0} (rs : List Row) (to : Values rs → A) (back : A → Values rs) (ok : A → Bool) (s : List ℕ) (v : Values rs) (next : ℕ)
     (g : Gets s rs 0 v next) where
   whole : {o : Option (Values rs)} → Rest (layout rs).dec s 0 o
-      → (refined ok (mapped to back (layout rs))).dec s ≡ bind {A = A} (bind {B = A} o (λ a. some (to a))) (λ a. guard (ok a) a)
+      → (refined ok (mapped to back (layout rs))).dec s ≡ bind {A = A} (bind {B = A} o (λ a. Some (to a))) (λ a. guard (ok a) a)
   whole r = rest_whole (rest_refined ok (mapped to back (layout rs)) (rest_mapped to back (layout rs) r))
 
   table_is : (refined ok (mapped to back (layout rs))).dec s ≡ guard (eqb next (length s) && ok (to v)) (to v)
@@ -131,10 +132,10 @@ module _ {A : Type 0} (rs : List Row) (to : Values rs → A) (back : A → Value
       (λ y. rw y (whole (rows_yes s rs 0 v next g (eqb-true next (length s) y))))
       (λ n. rw n (whole (rows_no s rs 0 v next g (eqb-false next (length s) n))))
 
-  pub table_yes : (eqb next (length s) && ok (to v)) ≡ true → (refined ok (mapped to back (layout rs))).dec s ≡ some (to v)
+  pub table_yes : (eqb next (length s) && ok (to v)) ≡ true → (refined ok (mapped to back (layout rs))).dec s ≡ Some (to v)
   table_yes y = table_is ∙ rw y
 
-  pub table_no : (eqb next (length s) && ok (to v)) ≡ false → (refined ok (mapped to back (layout rs))).dec s ≡ none
+  pub table_no : (eqb next (length s) && ok (to v)) ≡ false → (refined ok (mapped to back (layout rs))).dec s ≡ None
   table_no n = table_is ∙ rw n
 
 pub rows_then : (s : List ℕ) (rs qs : List Row) (at m next : ℕ) (v : Values rs) (w : Values qs) → Gets s rs at v m → Gets s qs m w next
@@ -161,19 +162,19 @@ layout_parts (r ∷ rs) qs v w =
 abbrev pub RowFits : (r : Row) → Value r → Type 0
 RowFits (always t x) v = length (x.enc v) ≤ x.most
 RowFits (if_set t c) v = Unit {0}
-RowFits (if_any t x) none = Unit {0}
-RowFits (if_any t x) (some v) = length (x.enc v) ≤ x.most
-RowFits (if_new t x none) v = length (x.enc v) ≤ x.most
-RowFits (if_new t x (some k)) v = Unit {0}
+RowFits (if_any t x) None = Unit {0}
+RowFits (if_any t x) (Some v) = length (x.enc v) ≤ x.most
+RowFits (if_new t x None) v = length (x.enc v) ≤ x.most
+RowFits (if_new t x (Some k)) v = Unit {0}
 
 -- what a lawful row takes fits it
 pub good_fits : (r : Row) (v : Value r) → RowLaw r → row_good r v → RowFits r v
 good_fits (always t x) v l g = l.0.fits v g
 good_fits (if_set t c) v l g = tt
-good_fits (if_any t x) none l g = tt
-good_fits (if_any t x) (some v) l g = l.0.fits v g
-good_fits (if_new t x none) v l g = l.0.fits v g
-good_fits (if_new t x (some k)) v l g = tt
+good_fits (if_any t x) None l g = tt
+good_fits (if_any t x) (Some v) l g = l.0.fits v g
+good_fits (if_new t x None) v l g = l.0.fits v g
+good_fits (if_new t x (Some k)) v l g = tt
 
 abbrev pub RowsFit : (rs : List Row) → Values rs → Type 0
 RowsFit [] v = Unit {0}
@@ -192,7 +193,7 @@ layout_fits (r ∷ rs) v (f, fs) = go r v.0 f (layout_fits rs v.1 fs)
     go (always t x) w h l = under t (x.enc w) x.most h l
     go (if_set t c) true h l = under t c (length c) (omega arith) l
     go (if_set t c) false h l = omega arith
-    go (if_any t x) none h l = omega arith
-    go (if_any t x) (some w) h l = under t (x.enc w) x.most h l
-    go (if_new t x none) w h l = under t (x.enc w) x.most h l
-    go (if_new t x (some k)) w h l = omega arith
+    go (if_any t x) None h l = omega arith
+    go (if_any t x) (Some w) h l = under t (x.enc w) x.most h l
+    go (if_new t x None) w h l = under t (x.enc w) x.most h l
+    go (if_new t x (Some k)) w h l = omega arith

@@ -1,6 +1,6 @@
 -- Fields as a table: a row a field, with its tag, when it is there, and its values. The layout of the fields is their table read off.
 use Rattle.std.specs.Prelude.{Bool, true, false, not, cond, ◌&&◌, ◌||◌, List, [], ◌∷◌, ◌++◌, ℕ, eqb}
-use Rattle.std.proofs.Math.Option.{Option}
+use Rattle.std.specs.Prelude.{Option}
 use Rattle.format.specs.Format.{Fmt, exactly}
 use Rattle.ber.specs.Tlv.{tlv_enc}
 use Rattle.ber.specs.Field.{first, field, end, opt_good, opt_enc, maybe, optional, there, flagged, flag, new_good, new_enc, new, unless_known, ◌▸◌}

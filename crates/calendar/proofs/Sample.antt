@@ -1,7 +1,7 @@
 -- Time stamps worked out by antt: the times of document 01's bench, with their octets, and octets that are none.
 use mathlib.Core.Bool.{Bool, ◌&&◌}
 use mathlib.Core.List.{List, [], ◌∷◌}
-use mathlib.Core.Option.{none}
+use Rattle.std.specs.Prelude.{None}
 use mathlib.Core.Path.{◌≡◌, refl}
 use Prim.Native.Nat.{ℕ}
 use lib.Dec.{T}
@@ -25,30 +25,30 @@ abbrev at : ℕ → ℕ → ℕ → List ℕ
 at s h m = 0x00 ∷ 0x01 ∷ 0x01 ∷ 0x00 ∷ 0x00 ∷ 0x00 ∷ s ∷ h ∷ m ∷ []
 
 -- what the writer answers for a time out of range is no time
-pub no_blank : stamp.dec blank ≡ none
+pub no_blank : stamp.dec blank ≡ None
 unfolding month_len first_day seek month_day stamp_ok stamp_enc stamp_val
 no_blank = refl
 
 -- 2001 is no leap year
-pub no_leap_day : stamp.dec (0x01 ∷ 0x02 ∷ 0x29 ∷ 0x00 ∷ 0x00 ∷ 0x00 ∷ 0x2B ∷ 0x00 ∷ 0x00 ∷ []) ≡ none
+pub no_leap_day : stamp.dec (0x01 ∷ 0x02 ∷ 0x29 ∷ 0x00 ∷ 0x00 ∷ 0x00 ∷ 0x2B ∷ 0x00 ∷ 0x00 ∷ []) ≡ None
 unfolding month_len first_day seek month_day stamp_ok stamp_enc stamp_val
 no_leap_day = refl
 
 -- zero is 2B
-pub no_minus_zero : stamp.dec (at 0x2D 0x00 0x00) ≡ none
+pub no_minus_zero : stamp.dec (at 0x2D 0x00 0x00) ≡ None
 unfolding month_len first_day seek month_day stamp_ok stamp_enc stamp_val
 no_minus_zero = refl
 
 -- minutes end at 59
-pub no_sixty : stamp.dec (at 0x2B 0x01 0x60) ≡ none
+pub no_sixty : stamp.dec (at 0x2B 0x01 0x60) ≡ None
 unfolding month_len first_day seek month_day stamp_ok stamp_enc stamp_val
 no_sixty = refl
 
 -- offsets end at 14:00 and begin at -12:00
-pub no_east : stamp.dec (at 0x2B 0x14 0x01) ≡ none
+pub no_east : stamp.dec (at 0x2B 0x14 0x01) ≡ None
 unfolding month_len first_day seek month_day stamp_ok stamp_enc stamp_val
 no_east = refl
 
-pub no_west : stamp.dec (at 0x2D 0x12 0x01) ≡ none
+pub no_west : stamp.dec (at 0x2D 0x12 0x01) ≡ None
 unfolding month_len first_day seek month_day stamp_ok stamp_enc stamp_val
 no_west = refl

@@ -1,7 +1,7 @@
 -- TimeStamp: nine octets YY MM DD hh mm ss S hh mm, in BCD. S is 2B for an offset of zero or more, 2D below zero; the offset's
 -- size follows it.
 use Rattle.std.specs.Prelude.{Bool, cond, ◌&&◌, List, [], ◌∷◌, ◌≡◌, ℕ, ◌+◌, ◌-◌, ◌*◌, ◌/◌, ◌%◌, ltb, leb, eqb, get_or}
-use Rattle.std.proofs.Math.Option.{Option, none, some}
+use Rattle.std.specs.Prelude.{Option, None, Some}
 use Rattle.format.specs.Format.{Fmt, checked}
 use Rattle.calendar.specs.Month.{first_day, month_day}
 use Rattle.calendar.specs.declared.Stamp.{Stamp}
@@ -77,8 +77,8 @@ stamp = checked stamp_ok stamp_enc stamp_val 9
 
 -- what a reader answers
 abbrev pub stamp_read : Option Stamp → StampRead
-stamp_read none = NoTime
-stamp_read (some t) = Time t
+stamp_read None = NoTime
+stamp_read (Some t) = Time t
 
 -- nine octets that are no time stamp
 abbrev pub blank : List ℕ

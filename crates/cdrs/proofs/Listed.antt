@@ -1,7 +1,8 @@
 -- Record lists: a list of records within the rules reads back mark by mark, and what reads is such a list.
 use mathlib.Core.Path.{◌≡◌, refl, ap, ◌∙◌}
 use mathlib.Core.Bool.{Bool, true, false, and-eq-true_iff}
-use mathlib.Core.Option.{some, none-ne-some, some-injective}
+use Rattle.std.specs.Prelude.{Some}
+use Rattle.std.proofs.lemmas.Option.{none-some, same_Some}
 use mathlib.Core.List.{List, [], ◌∷◌, ◌++◌}
 use Prim.Native.Nat.{ℕ, zero, suc, ◌≤◌}
 use native.Mathlib.Nat.{le_of_suc-le-suc}
@@ -21,7 +22,7 @@ abbrev pub AllRight : List Cdr → Type 0
 AllRight [] = Unit {0}
 AllRight (r ∷ rs) = T (cdr_rules r) × AllRight rs
 
-reads : (n : ℕ) (rs : List Cdr) → AllRight rs → length rs ≤ n → list_dec n (list_enc rs) ≡ some rs
+reads : (n : ℕ) (rs : List Cdr) → AllRight rs → length rs ≤ n → list_dec n (list_enc rs) ≡ Some rs
 unfolding list_dec list_enc mark_at
 reads zero [] a h = refl
 reads zero (r ∷ rs) a h = absurd (omega arith)
@@ -35,7 +36,7 @@ list_long [] = omega arith
 list_long (r ∷ rs) = omega (arith, list_long rs, length-append (cdr_enc r) (list_enc rs))
 
 -- a list of records within the rules reads back as it is
-pub list_reads : (rs : List Cdr) → AllRight rs → record_list (list_enc rs) ≡ some rs
+pub list_reads : (rs : List Cdr) → AllRight rs → record_list (list_enc rs) ≡ Some rs
 unfolding record_list
 list_reads rs a = reads (length (list_enc rs)) rs a (list_long rs)
 
@@ -50,18 +51,18 @@ mark_front (a ∷ b ∷ s) m d =
     rw (eqb-true a 0xC3 z.0, eqb-true b 0x5A z.1) (ap (λ (l : List ℕ). 0xC3 ∷ 0x5A ∷ l) d)
 
 -- what reads as a list is its octets, and each of its records is within the rules
-pub reads_list : (n : ℕ) (s : List ℕ) (rs : List Cdr) → list_dec n s ≡ some rs → AllRight rs × (s ≡ list_enc rs)
+pub reads_list : (n : ℕ) (s : List ℕ) (rs : List Cdr) → list_dec n s ≡ Some rs → AllRight rs × (s ≡ list_enc rs)
 unfolding list_dec list_enc
-reads_list zero [] rs e = let z = some-injective [] rs e in rw (← z) (tt, refl)
-reads_list zero (x ∷ s) rs e = absurd (none-ne-some rs e)
-reads_list (suc n) [] rs e = let z = some-injective [] rs e in rw (← z) (tt, refl)
+reads_list zero [] rs e = let z = same_Some [] rs e in rw (← z) (tt, refl)
+reads_list zero (x ∷ s) rs e = absurd (none-some rs e)
+reads_list (suc n) [] rs e = let z = same_Some [] rs e in rw (← z) (tt, refl)
 reads_list (suc n) (x ∷ s) rs e =
     by (mark_at (x ∷ s))
     (λ m.
-    let (p, f, d) = bind_some (first_cdr (drop 2 (x ∷ s))) (λ p. bind (list_dec n p.1) (λ rs. some (p.0 ∷ rs))) rs (rw m at e) in
-    let (qs, g, k) = bind_some (list_dec n p.1) (λ rs. some (p.0 ∷ rs)) rs d in
-    let z = some-injective (p.0 ∷ qs) rs k in
+    let (p, f, d) = bind_some (first_cdr (drop 2 (x ∷ s))) (λ p. bind (list_dec n p.1) (λ rs. Some (p.0 ∷ rs))) rs (rw m at e) in
+    let (qs, g, k) = bind_some (list_dec n p.1) (λ rs. Some (p.0 ∷ rs)) rs d in
+    let z = same_Some (p.0 ∷ qs) rs k in
     let (a, w) = reads_list n p.1 qs g in
     let (t, v) = front_sound (drop 2 (x ∷ s)) p f in
     rw (← z) ((t, a), mark_front (x ∷ s) m (v ∙ ap (λ (l : List ℕ). cdr_enc p.0 ++ l) w)))
-    (λ m. absurd (none-ne-some rs (rw m at e)))
+    (λ m. absurd (none-some rs (rw m at e)))

@@ -1,7 +1,8 @@
 -- The value at the front of octets that a record of either kind may be, by its tag and its length alone.
 use mathlib.Core.Path.{◌≡◌, refl, sym, ap, subst, ◌∙◌}
 use mathlib.Core.Bool.{Bool, true, false}
-use mathlib.Core.Option.{Option, none, some, none-ne-some, some-injective}
+use Rattle.std.specs.Prelude.{Option, None, Some}
+use Rattle.std.proofs.lemmas.Option.{none-some, same_Some}
 use mathlib.Core.List.{List, [], ◌++◌, append-nil}
 use Prim.Native.Nat.{ℕ, ◌≤◌, ◌<◌}
 use native.Mathlib.Omega.{arith}
@@ -26,7 +27,7 @@ kind_tag false = s-table.record_tag
 
 -- the octets of the value at the front of s under the tag of a record, and what follows it
 unfoldable pub value_of : List ℕ → Option (List ℕ × List ℕ)
-value_of s = bind (tlv_dec (kind_tag (is_mm s)) s) (λ p. some (tlv_enc (kind_tag (is_mm s)) p.0, p.1))
+value_of s = bind (tlv_dec (kind_tag (is_mm s)) s) (λ p. Some (tlv_enc (kind_tag (is_mm s)) p.0, p.1))
 
 -- octets that are one value under the tag of a record
 pub record Value (v : List ℕ) : Type 0 where
@@ -52,27 +53,27 @@ value_long {v} w =
     omega (arith, ap length w.is, tlv_length (kind_tag w.mm) w.contents, head_2 (length w.contents))
 
 -- a value is found at the front of octets
-pub value_front : {v : List ℕ} → Value v → (y : List ℕ) → value_of (v ++ y) ≡ some (v, y)
+pub value_front : {v : List ℕ} → Value v → (y : List ℕ) → value_of (v ++ y) ≡ Some (v, y)
 unfolding value_of
 value_front {v} w y =
     let e = w.is in
     rw (e, kind_of_lem w.mm w.contents y, tlv_complete (kind_tag w.mm) w.contents y w.short)
 
 -- what is found at the front of octets is a value
-pub value_sound : (s : List ℕ) (q : List ℕ × List ℕ) → value_of s ≡ some q → Value q.0 × (s ≡ q.0 ++ q.1)
+pub value_sound : (s : List ℕ) (q : List ℕ × List ℕ) → value_of s ≡ Some q → Value q.0 × (s ≡ q.0 ++ q.1)
 unfolding value_of
 value_sound s q e =
-    let (p, d, f) = bind_some (tlv_dec (kind_tag (is_mm s)) s) (λ p. some (tlv_enc (kind_tag (is_mm s)) p.0, p.1)) q e in
+    let (p, d, f) = bind_some (tlv_dec (kind_tag (is_mm s)) s) (λ p. Some (tlv_enc (kind_tag (is_mm s)) p.0, p.1)) q e in
     let (h, w) = tlv_sound (kind_tag (is_mm s)) s p d in
-    subst (λ (q : List ℕ × List ℕ). Value q.0 × (s ≡ q.0 ++ q.1)) (some-injective (tlv_enc (kind_tag (is_mm s)) p.0, p.1) q f)
+    subst (λ (q : List ℕ × List ℕ). Value q.0 × (s ≡ q.0 ++ q.1)) (same_Some (tlv_enc (kind_tag (is_mm s)) p.0, p.1) q f)
     (record { mm = is_mm s; contents = p.0; is = refl; short = h }, w)
 
-found_none : {A B : Type 0} (o : Option A) (f : A → B) → bind o (λ a. some (f a)) ≡ none → o ≡ none
-found_none none f e = refl
-found_none (some a) f e = absurd (none-ne-some (f a) (sym e))
+found_none : {A B : Type 0} (o : Option A) (f : A → B) → bind o (λ a. Some (f a)) ≡ None → o ≡ None
+found_none None f e = refl
+found_none (Some a) f e = absurd (none-some (f a) (sym e))
 
 -- where none is found, none under the tag stands there
-pub value_none : (s : List ℕ) → value_of s ≡ none → tlv_dec (kind_tag (is_mm s)) s ≡ none
+pub value_none : (s : List ℕ) → value_of s ≡ None → tlv_dec (kind_tag (is_mm s)) s ≡ None
 unfolding value_of
 value_none s e = found_none (tlv_dec (kind_tag (is_mm s)) s) (λ p. (tlv_enc (kind_tag (is_mm s)) p.0, p.1)) e
 
@@ -85,11 +86,11 @@ module _ (t : ℕ) {A : Type 0} (x : Fmt A) (c : List ℕ) (h : length c < 65536
   alone_value = rw (ap (tlv_dec t) (sym (append-nil (tlv_enc t c))) ∙ tlv_complete t c [] h) (go (x.dec c))
     where
       go : (o : Option A)
-          → bind {A = A × Unit {0}} (bind {A = A × List ℕ} (bind o (λ a. some (a, []))) (λ p. bind (nothing p.1) (λ b. some (p.0, b)))) (λ v. some v.0)
+          → bind {A = A × Unit {0}} (bind {A = A × List ℕ} (bind o (λ a. Some (a, []))) (λ p. bind (nothing p.1) (λ b. Some (p.0, b)))) (λ v. Some v.0)
           ≡ o
-      go none = refl
-      go (some a) = refl
+      go None = refl
+      go (Some a) = refl
 
-  pub first_value : (y : List ℕ) → first t x (tlv_enc t c ++ y) ≡ bind ((alone t x).dec (tlv_enc t c)) (λ a. some (a, y))
+  pub first_value : (y : List ℕ) → first t x (tlv_enc t c ++ y) ≡ bind ((alone t x).dec (tlv_enc t c)) (λ a. Some (a, y))
   unfolding first
   first_value y = rw (tlv_complete t c y h) (rw alone_value)

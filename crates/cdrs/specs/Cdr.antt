@@ -1,6 +1,6 @@
 -- A record of either kind (12.15's CallEventRecord): the tag tells which.
 use Rattle.std.specs.Prelude.{Bool, cond, List, ℕ}
-use Rattle.std.proofs.Math.Option.{Option, some}
+use Rattle.std.specs.Prelude.{Option, Some}
 use Rattle.format.specs.Maybe.{bind}
 use Rattle.ber.specs.Field.{first, starts}
 use Rattle.scdr.specs.declared.Record.{Record}
@@ -28,11 +28,11 @@ cdr_rules (mm r) = m-layout.rules r
 
 -- the record that all of s is
 unfoldable pub cdr_dec : List ℕ → Option Cdr
-cdr_dec s = cond (starts m-table.record_tag s) (bind ((m-layout.mcdr).dec s) (λ r. some (mm r))) (bind ((s-layout.scdr).dec s) (λ r. some (pdp r)))
+cdr_dec s = cond (starts m-table.record_tag s) (bind ((m-layout.mcdr).dec s) (λ r. Some (mm r))) (bind ((s-layout.scdr).dec s) (λ r. Some (pdp r)))
 
 -- the record at the front of s, and what follows it
 unfoldable pub first_cdr : List ℕ → Option (Cdr × List ℕ)
 first_cdr s =
     cond (starts m-table.record_tag s)
-    (bind (first m-table.record_tag m-layout.inside s) (λ p. some (mm p.0, p.1)))
-    (bind (first s-table.record_tag s-layout.inside s) (λ p. some (pdp p.0, p.1)))
+    (bind (first m-table.record_tag m-layout.inside s) (λ p. Some (mm p.0, p.1)))
+    (bind (first s-table.record_tag s-layout.inside s) (λ p. Some (pdp p.0, p.1)))

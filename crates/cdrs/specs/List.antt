@@ -1,6 +1,6 @@
 -- A record list: records of either kind one after another, "each record follows the mark C3 5A" (01, "The record's octets").
 use Rattle.std.specs.Prelude.{Bool, cond, ◌&&◌, List, [], ◌∷◌, ◌++◌, ℕ, zero, suc, eqb, length, get_or, drop}
-use Rattle.std.proofs.Math.Option.{Option, none, some}
+use Rattle.std.specs.Prelude.{Option, None, Some}
 use Rattle.format.specs.Maybe.{bind}
 use Rattle.cdrs.specs.Cdr.{Cdr, cdr_enc, first_cdr}
 
@@ -15,11 +15,11 @@ mark_at s = eqb (get_or s 0 0) 0xC3 && eqb (get_or s 1 0) 0x5A
 
 -- read mark by mark: a mark, the record that follows it, and so on to the end, which comes after n records at most
 unfoldable pub list_dec : ℕ → List ℕ → Option (List Cdr)
-list_dec zero [] = some []
-list_dec zero (x ∷ s) = none
-list_dec (suc n) [] = some []
+list_dec zero [] = Some []
+list_dec zero (x ∷ s) = None
+list_dec (suc n) [] = Some []
 list_dec (suc n) (x ∷ s) =
-    cond (mark_at (x ∷ s)) (bind (first_cdr (drop 2 (x ∷ s))) (λ p. bind (list_dec n p.1) (λ rs. some (p.0 ∷ rs)))) none
+    cond (mark_at (x ∷ s)) (bind (first_cdr (drop 2 (x ∷ s))) (λ p. bind (list_dec n p.1) (λ rs. Some (p.0 ∷ rs)))) None
 
 -- the list whose octets s is, if it reads in full
 unfoldable pub record_list : List ℕ → Option (List Cdr)

@@ -1,7 +1,7 @@
 -- The room is enough: no event of a file is refused with 11, and a node that was sound stays so.
 use mathlib.Core.Path.{◌≡◌, refl, sym, ap, ◌∙◌}
 use mathlib.Core.Bool.{Bool, true, false, not, ◌&&◌}
-use mathlib.Core.Option.{Option, none, some}
+use Rattle.std.specs.Prelude.{Option, None, Some}
 use mathlib.Core.List.{List, [], ◌∷◌, ◌++◌}
 use Prim.Native.Nat.{ℕ, zero, suc, ◌+◌, ◌*◌, ◌≤◌}
 use native.Mathlib.Omega.{arith}
@@ -67,8 +67,8 @@ use Rattle.charging.proofs.Cuts.{drop_octets}
 
 with_few : (p : Profile) (g : Settings) (c : Context) (t : ℕ) (h : Message) (o : Option ℕ) → length (hear_with p g c t h o).out ≤ 1
 unfolding hear_with
-with_few p g c t h none = omega arith
-with_few p g c t h (some cause) = omega arith
+with_few p g c t h None = omega arith
+with_few p g c t h (Some cause) = omega arith
 
 hear_few : (p : Profile) (g : Settings) (c : Context) (t : ℕ) (h : Message) → length (hear p g c t h).out ≤ 1
 unfolding hear
@@ -84,13 +84,13 @@ notice_few p s t (Detached cause) = omega arith
 
 -- of either table
 module _ {G N S E W C B : Type 0} (K : Handling G N S E W C B) (g : G) (few : (c : C) (t : ℕ) (h : E) → length (K.hear g c t h).out ≤ 1) (t : ℕ) where
-  listen_few : (w : Said G N S E) (c : C) (o : Option E) → hears K (K.name c) w ≡ o → length (slot K g t w (some c)).out ≤ 1
-  listen_few w c none e = rw e (omega arith)
-  listen_few w c (some h) e = rw e (few c t h)
+  listen_few : (w : Said G N S E) (c : C) (o : Option E) → hears K (K.name c) w ≡ o → length (slot K g t w (Some c)).out ≤ 1
+  listen_few w c None e = rw e (omega arith)
+  listen_few w c (Some h) e = rw e (few c t h)
 
   slot_few : (w : Said G N S E) (o : Option C) → length (slot K g t w o).out ≤ 1
-  slot_few w none = omega arith
-  slot_few w (some c) = listen_few w c (hears K (K.name c) w) refl
+  slot_few w None = omega arith
+  slot_few w (Some c) = listen_few w c (hears K (K.name c) w) refl
 
   slots_few : (w : Said G N S E) (os : List (Option C)) → length (slots_write K g t w os) ≤ length os
   slots_few w [] = omega arith

@@ -1,7 +1,7 @@
 -- A profile and a container read field by field, and what is written put together.
 use mathlib.Core.Path.{◌≡◌, refl, sym, subst}
 use mathlib.Core.Bool.{true, false, ◌&&◌}
-use mathlib.Core.Option.{Option, none, some}
+use Rattle.std.specs.Prelude.{Option, None, Some}
 use mathlib.Core.List.{List, []}
 use Prim.Native.Nat.{ℕ, ◌<◌}
 use native.Mathlib.Omega.{arith}
@@ -42,13 +42,13 @@ reads_as {blank = blank} {p = p} {s = s} {at = at} {next = next} e r = subst (λ
 
 -- what a reader of times answered
 
-pub time_none : (o : Option Stamp) → S.NoTime ≡ stamp_read o → o ≡ none
-time_none none h = refl
-time_none (some t) h = cc
+pub time_none : (o : Option Stamp) → S.NoTime ≡ stamp_read o → o ≡ None
+time_none None h = refl
+time_none (Some t) h = cc
 
-pub time_some : (o : Option Stamp) (t : Stamp) → S.Time t ≡ stamp_read o → o ≡ some t
-time_some none t h = cc
-time_some (some u) t h = cc
+pub time_some : (o : Option Stamp) (t : Stamp) → S.Time t ≡ stamp_read o → o ≡ Some t
+time_some None t h = cc
+time_some (Some u) t h = cc
 
 -- ---- a profile, of octets s that are all its contents
 
@@ -73,16 +73,16 @@ module _ {s : List ℕ} {reliability delay precedence peak mean : ℕ} {b c d e 
     ),
   )
 
-  pub qos_yes : (eqb end (length s) && qos_ok profile) ≡ true → qos.dec s ≡ some profile
+  pub qos_yes : (eqb end (length s) && qos_ok profile) ≡ true → qos.dec s ≡ Some profile
   unfolding qos
   qos_yes = table_yes qos_table to_qos of_qos qos_ok s (of_qos profile) end qos_fields
 
-  pub qos_no : (eqb end (length s) && qos_ok profile) ≡ false → qos.dec s ≡ none
+  pub qos_no : (eqb end (length s) && qos_ok profile) ≡ false → qos.dec s ≡ None
   unfolding qos
   qos_no = table_no qos_table to_qos of_qos qos_ok s (of_qos profile) end qos_fields
 
 -- empty contents are no profile
-pub qos_hollow : qos.dec [] ≡ none
+pub qos_hollow : qos.dec [] ≡ None
 unfolding qos first tlv_dec
 qos_hollow = refl
 
@@ -120,16 +120,16 @@ module _ (z : Container) {s : List ℕ} {q : Qos} {uplink downlink condition : �
     ),
   )
 
-  pub container_yes : (eqb end (length s) && container_ok held) ≡ true → (container z).dec s ≡ some held
+  pub container_yes : (eqb end (length s) && container_ok held) ≡ true → (container z).dec s ≡ Some held
   unfolding container
   container_yes = table_yes (container_table z) to_container of_container container_ok s (of_container held) end container_fields
 
-  pub container_no : (eqb end (length s) && container_ok held) ≡ false → (container z).dec s ≡ none
+  pub container_no : (eqb end (length s) && container_ok held) ≡ false → (container z).dec s ≡ None
   unfolding container
   container_no = table_no (container_table z) to_container of_container container_ok s (of_container held) end container_fields
 
 -- and no container
-pub container_hollow : (z : Container) → (container z).dec [] ≡ none
+pub container_hollow : (z : Container) → (container z).dec [] ≡ None
 unfolding container new first tlv_dec
 container_hollow z = by (is_new z) (λ h. rw (told_none z h)) (λ h. rw (told_some z h))
 
@@ -137,9 +137,9 @@ container_hollow z = by (is_new z) (λ h. rw (told_none z h)) (λ h. rw (told_so
 
 -- five fields, one after another, in an array
 module _ (q : Qos) {b b₁ b₂ b₃ b₄ b₅ : List ℕ} {f g h i j : ℕ} (room : length b ≡ 15)
-    (p₁ : Puts (some (row_enc Reliability q.reliability)) b b₁ 0 f) (p₂ : Puts (some (row_enc Delay q.delay)) b₁ b₂ f g)
-    (p₃ : Puts (some (row_enc Precedence q.precedence)) b₂ b₃ g h) (p₄ : Puts (some (row_enc Peak q.peak)) b₃ b₄ h i)
-    (p₅ : Puts (some (row_enc Mean q.mean)) b₄ b₅ i j) (ok : T (qos_ok q)) where
+    (p₁ : Puts (Some (row_enc Reliability q.reliability)) b b₁ 0 f) (p₂ : Puts (Some (row_enc Delay q.delay)) b₁ b₂ f g)
+    (p₃ : Puts (Some (row_enc Precedence q.precedence)) b₂ b₃ g h) (p₄ : Puts (Some (row_enc Peak q.peak)) b₃ b₄ h i)
+    (p₅ : Puts (Some (row_enc Mean q.mean)) b₄ b₅ i j) (ok : T (qos_ok q)) where
   pub qos_filled : Filled (qos.enc q) 15 b₅ j
   unfolding qos
   qos_filled =
@@ -163,14 +163,14 @@ module _ (z : Container) (q : Qos) where
   unfolding new_form
   form_own h = rw h
 
-  pub form_none : is_new z ≡ false → some [] ≡ new_form z q
+  pub form_none : is_new z ≡ false → Some [] ≡ new_form z q
   unfolding new_form
   form_none h = rw h
 
 -- no octets at the front
-pub nothing_front : {b : List ℕ} → Puts (some []) b b 0 0
+pub nothing_front : {b : List ℕ} → Puts (Some []) b b 0 0
 unfolding stay
-nothing_front {b} = subst (λ (n : ℕ). Puts (some []) b b 0 n) (rw (le-leb 0 (length b) (omega arith))) puts_nothing
+nothing_front {b} = subst (λ (n : ℕ). Puts (Some []) b b 0 n) (rw (le-leb 0 (length b) (omega arith))) puts_nothing
 
 -- which containers have a form after z
 module _ (z c : Container) where
@@ -184,7 +184,7 @@ module _ (z c : Container) where
   formed_untold h k = rw (h, k)
 
 -- what of it stands in front: its octets after z
-pub new_form_lem : (z c : Container) → T (qos_ok c.qos) → new_form z c.qos ≡ some (row_enc (QosAfter z) c.qos)
+pub new_form_lem : (z c : Container) → T (qos_ok c.qos) → new_form z c.qos ≡ Some (row_enc (QosAfter z) c.qos)
 unfolding new_form
 new_form_lem z c t =
     by (is_new z)
@@ -192,8 +192,8 @@ new_form_lem z c t =
     (λ n. rw (n, told_some z n))
 
 module _ (z c : Container) {b b₁ b₂ b₃ b₄ b₅ : List ℕ} {f g h i j : ℕ} (room : length b ≡ 53)
-    (p₁ : Puts (new_form z c.qos) b b₁ 0 f) (p₂ : Puts (some (row_enc Uplink c.uplink)) b₁ b₂ f g)
-    (p₃ : Puts (some (row_enc Downlink c.downlink)) b₂ b₃ g h) (p₄ : Puts (some (row_enc Condition c.condition)) b₃ b₄ h i)
+    (p₁ : Puts (new_form z c.qos) b b₁ 0 f) (p₂ : Puts (Some (row_enc Uplink c.uplink)) b₁ b₂ f g)
+    (p₃ : Puts (Some (row_enc Downlink c.downlink)) b₂ b₃ g h) (p₄ : Puts (Some (row_enc Condition c.condition)) b₃ b₄ h i)
     (p₅ : Puts (guard (stamp_ok c.time) (row_enc Time c.time)) b₄ b₅ i j) (ok : T (formed z c)) where
   pub container_filled : Filled ((container z).enc c) 53 b₅ j
   unfolding container qos

@@ -1,7 +1,7 @@
 -- Any two answers that meet a promise are equal. The promises that are ber's forms (`Reads`, `Puts`) have this there.
 use mathlib.Core.Path.{◌≡◌, sym, ◌∙◌}
 use mathlib.Core.Bool.{Bool}
-use mathlib.Core.Option.{Option}
+use Rattle.std.specs.Prelude.{Option}
 use mathlib.Core.List.{List}
 use Prim.Native.Nat.{ℕ}
 use Rattle.container.specs.declared.Container.{Container}

@@ -2,7 +2,7 @@
 -- others.
 use mathlib.Core.Path.{◌≡◌, refl, sym, subst}
 use mathlib.Core.Bool.{Bool, true, false, not, ◌&&◌, beq}
-use mathlib.Core.Option.{none, some}
+use Rattle.std.specs.Prelude.{None, Some}
 use mathlib.Core.List.{List, [], ◌∷◌}
 use Prim.Native.Nat.{ℕ, ◌^◌, ◌≤◌, ◌<◌}
 use native.Mathlib.Omega.{arith}
@@ -125,11 +125,11 @@ within c t =
 
 -- after a container that tells no QoS, and after one that tells it
 
-pub told_none : (b : Container) → is_new b ≡ true → told b ≡ none
+pub told_none : (b : Container) → is_new b ≡ true → told b ≡ None
 unfolding told
 told_none b h = rw h
 
-pub told_some : (b : Container) → is_new b ≡ false → told b ≡ some b.qos
+pub told_some : (b : Container) → is_new b ≡ false → told b ≡ Some b.qos
 unfolding told
 told_some b h = rw h
 

@@ -1,7 +1,7 @@
 -- The answers of the reader of a list under a tag.
 use mathlib.Core.Path.{◌≡◌, refl, sym, ◌∙◌}
 use mathlib.Core.Bool.{Bool, true, false}
-use mathlib.Core.Option.{Option, none, some}
+use Rattle.std.specs.Prelude.{Option, None, Some}
 use mathlib.Core.List.{List, []}
 use Prim.Native.Nat.{ℕ}
 use lib.ListN.{take}
@@ -12,13 +12,13 @@ use Rattle.container.specs.declared.Container.{Container}
 use Rattle.container.specs.List.{containers, no_containers, is_there, listed, Listed, ListsAt}
 use Rattle.container.proofs.Padded.{take_padded}
 
-there_some : (o : Option (List Container)) → is_there o ≡ true → o ≡ some (listed o)
-there_some none e = cc
-there_some (some cs) e = refl
+there_some : (o : Option (List Container)) → is_there o ≡ true → o ≡ Some (listed o)
+there_some None e = cc
+there_some (Some cs) e = refl
 
-there_none : (o : Option (List Container)) → is_there o ≡ false → o ≡ none
-there_none none e = refl
-there_none (some cs) e = cc
+there_none : (o : Option (List Container)) → is_there o ≡ false → o ≡ None
+there_none None e = refl
+there_none (Some cs) e = cc
 
 module _ {s : List ℕ} {at t : ℕ} where
   -- nothing found

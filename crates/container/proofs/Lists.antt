@@ -1,7 +1,7 @@
 -- The list of containers, read and written in a loop: what ber's laws of values one after another say of it.
 use mathlib.Core.Path.{◌≡◌, refl, sym, ap, subst, ◌∙◌}
 use mathlib.Core.Bool.{Bool, true, false, ◌&&◌}
-use mathlib.Core.Option.{Option, none, some}
+use Rattle.std.specs.Prelude.{Option, None, Some}
 use mathlib.Core.List.{List, [], ◌∷◌}
 use Prim.Native.Nat.{ℕ, ◌-◌, ◌≤◌, ◌<◌}
 use native.Mathlib.Omega.{arith}
@@ -31,27 +31,27 @@ module _ (s : List ℕ) where
 
   pub list_there : {v : List Container} {n at : ℕ} {z : Container} → SoFar listing s v n at z → at ≡ length s → 1 ≤ n → Listed (containers.dec s) true n v
   list_there {v} {n} f e h =
-      let d : containers.dec s ≡ some (take n v) = list_is ∙ list_some listing s 1 f e h in
+      let d : containers.dec s ≡ Some (take n v) = list_is ∙ list_some listing s 1 f e h in
       record { found = rw d; count = rw d (sym (sofar_count listing s 1 f)); values = rw d (sofar_rest listing s 1 f) }
 
-  pub listed_none : {ok : Bool} {n : ℕ} {v : List Container} → containers.dec s ≡ none → (ok ≡ false) × (n ≡ 0) × (v ≡ no_containers 15) → Listed
+  pub listed_none : {ok : Bool} {n : ℕ} {v : List Container} → containers.dec s ≡ None → (ok ≡ false) × (n ≡ 0) × (v ≡ no_containers 15) → Listed
       (containers.dec s) ok n v
   listed_none d h = record { found = rw d h.0; count = rw d h.1; values = rw d h.2 }
 
 -- what who called the reader of lists knows
-pub listed_some : {o : Option (List Container)} {n : ℕ} {v : List Container} → Listed o true n v → o ≡ some (take n v)
+pub listed_some : {o : Option (List Container)} {n : ℕ} {v : List Container} → Listed o true n v → o ≡ Some (take n v)
 listed_some {o} {n} {v} r = go o r
   where
-    go : (o : Option (List Container)) → Listed o true n v → o ≡ some (take n v)
-    go none r = absurd (subst T r.found tt)
-    go (some cs) r = ap {B = Option (List Container)} some (sym (ap (take n) r.values ∙ take_at cs (no_containers (15 - length cs)) n (sym r.count)))
+    go : (o : Option (List Container)) → Listed o true n v → o ≡ Some (take n v)
+    go None r = absurd (subst T r.found tt)
+    go (Some cs) r = ap {B = Option (List Container)} Some (sym (ap (take n) r.values ∙ take_at cs (no_containers (15 - length cs)) n (sym r.count)))
 
-pub listed_not : {o : Option (List Container)} {n : ℕ} {v : List Container} → Listed o false n v → o ≡ none
+pub listed_not : {o : Option (List Container)} {n : ℕ} {v : List Container} → Listed o false n v → o ≡ None
 listed_not {o} {n} {v} r = go o r
   where
-    go : (o : Option (List Container)) → Listed o false n v → o ≡ none
-    go none r = refl
-    go (some cs) r = absurd (subst T (sym r.found) tt)
+    go : (o : Option (List Container)) → Listed o false n v → o ≡ None
+    go None r = refl
+    go (Some cs) r = absurd (subst T (sym r.found) tt)
 
 -- the places after the list are blank
 pub listed_rest : {o : Option (List Container)} {ok : Bool} {n : ℕ} {v : List Container} → Listed o ok n v → drop n v ≡ no_containers (15 - n)

@@ -1,7 +1,7 @@
 -- A container (12.15's ChangeOfCharCondition): values and octets. Its QoS is among the octets where it is new: in the first container of a
 -- record, and after one that a QoS change ended (02, W1; source document 003).
 use Rattle.std.specs.Prelude.{Bool, cond, ◌&&◌, ◌||◌, List, [], ◌∷◌, ℕ, ◌^◌, leb, ltb, eqb}
-use Rattle.std.proofs.Math.Option.{Option, none, some}
+use Rattle.std.specs.Prelude.{Option, None, Some}
 use Rattle.format.specs.Format.{Fmt, refined, mapped}
 use Rattle.ber.specs.Int.{int}
 use Rattle.ber.specs.Field.{any_octet, ◌⨾◌}
@@ -33,7 +33,7 @@ is_new b = eqb b.condition 0
 
 -- what b tells of the QoS after it: nothing where that is new; else it is the same still
 unfoldable pub told : Container → Option Qos
-told b = cond (is_new b) none (some b.qos)
+told b = cond (is_new b) None (Some b.qos)
 
 -- each container of a list
 abbrev pub container_tag : ℕ

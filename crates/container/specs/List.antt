@@ -1,7 +1,7 @@
 -- The list of containers that a record has: 1 to 15 of them, and the rules between them.
 use Rattle.std.specs.Prelude.{◌≡◌, Bool, true, false, not, ◌&&◌, List, [], ◌∷◌, ◌++◌, ℕ, zero, suc, ◌-◌, leb, ltb, eqb, length, take}
 use Rattle.std.specs.Bool.{beq}
-use Rattle.std.proofs.Math.Option.{Option, none, some}
+use Rattle.std.specs.Prelude.{Option, None, Some}
 use Rattle.format.specs.Maybe.{guard}
 use Rattle.format.specs.Format.{Fmt}
 use Rattle.ber.specs.Field.{first, many}
@@ -78,12 +78,12 @@ padded cs = cs ++ no_containers (15 - length cs)
 
 -- is something there; and the list, none where there is none
 abbrev pub is_there : Option (List Container) → Bool
-is_there none = false
-is_there (some cs) = true
+is_there None = false
+is_there (Some cs) = true
 
 abbrev pub listed : Option (List Container) → List Container
-listed none = []
-listed (some cs) = cs
+listed None = []
+listed (Some cs) = cs
 
 -- What the reader of lists answers, where the octets are the list o: whether there is one, how many it has, and they.
 pub record Listed (o : Option (List Container)) (ok : Bool) (n : ℕ) (v : List Container) : Type 0 where

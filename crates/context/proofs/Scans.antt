@@ -1,7 +1,7 @@
 -- What the loops over the table ask, and a place that they find: the laws of such loops are history's (proofs/Scans.antt).
 use mathlib.Core.Path.{◌≡◌, refl}
 use mathlib.Core.Bool.{not}
-use mathlib.Core.Option.{Option, none, some}
+use Rattle.std.specs.Prelude.{Option, None, Some}
 use Prim.Native.Nat.{ℕ}
 use native.Mathlib.Omega.{arith}
 use Rattle.history.proofs.Scans as S
@@ -23,10 +23,10 @@ pub slots_ask : (count zone clock accepted : ℕ) → Asks (slots_ok count zone 
 unfolding slots_ok
 slots_ask count zone clock accepted = record { step = λ c cs. refl; none = refl }
 
-pub found_at_lem : (o : Option ℕ) {i : ℕ} → found_at o ≡ At i → o ≡ some i
-found_at_lem none {i} e = let f : Nothing ≡ At i = e in absurd (let z : ◌≡◌ {A = ℕ} 0 1 = cc in omega arith)
-found_at_lem (some j) {i} e = let f : At j ≡ At i = e in cc
+pub found_at_lem : (o : Option ℕ) {i : ℕ} → found_at o ≡ At i → o ≡ Some i
+found_at_lem None {i} e = let f : Nothing ≡ At i = e in absurd (let z : ◌≡◌ {A = ℕ} 0 1 = cc in omega arith)
+found_at_lem (Some j) {i} e = let f : At j ≡ At i = e in cc
 
-pub found_none : (o : Option ℕ) → found_at o ≡ Nothing → o ≡ none
-found_none none e = refl
-found_none (some j) e = let f : At j ≡ Nothing = e in absurd (let z : ◌≡◌ {A = ℕ} 0 1 = cc in omega arith)
+pub found_none : (o : Option ℕ) → found_at o ≡ Nothing → o ≡ None
+found_none None e = refl
+found_none (Some j) e = let f : At j ≡ Nothing = e in absurd (let z : ◌≡◌ {A = ℕ} 0 1 = cc in omega arith)

@@ -1,6 +1,6 @@
 -- The loop that counts: what was counted and what is left to count make the whole.
 use mathlib.Core.Path.{◌≡◌, ap, ◌∙◌}
-use mathlib.Core.Option.{none, some}
+use Rattle.std.specs.Prelude.{None, Some}
 use mathlib.Core.List.{List}
 use Prim.Native.Nat.{ℕ, suc, ◌+◌, ◌-◌, ◌≤◌}
 use native.Mathlib.Omega.{arith}
@@ -19,7 +19,7 @@ pub counted_start : (s : List ℕ) → Counted s 0 0
 unfolding count_of places_of
 counted_start s = let z : length s - 0 ≡ length s = omega arith in record { within = omega arith; few = omega arith; is = rw z (omega arith) }
 
-pub counted_more : {s : List ℕ} {n at : ℕ} {p : ℕ × ℕ} → Counted s n at → place_of (entry_at s at) ≡ some p → Counted s (n + 1) p.1
+pub counted_more : {s : List ℕ} {n at : ℕ} {p : ℕ × ℕ} → Counted s n at → place_of (entry_at s at) ≡ Some p → Counted s (n + 1) p.1
 counted_more {s} {n} {at} {p} i e =
     let w = stands s at p e in
     let l = w.long in
@@ -30,5 +30,5 @@ counted_more {s} {n} {at} {p} i e =
     let q = i.is in
     record { within = k; few = omega arith; is = omega arith }
 
-pub counted_end : {s : List ℕ} {n at : ℕ} → Counted s n at → place_of (entry_at s at) ≡ none → n ≡ count_of s
+pub counted_end : {s : List ℕ} {n at : ℕ} → Counted s n at → place_of (entry_at s at) ≡ None → n ≡ count_of s
 counted_end {s} {n} {at} i e = let q = i.is in let m = ap length (no_more s at e (length s - n)) in omega arith

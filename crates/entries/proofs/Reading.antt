@@ -1,7 +1,7 @@
 -- The reader of entries: what it answers with an entry of each kind at the place, and with none.
 use mathlib.Core.Path.{◌≡◌, refl, sym, ap, ap₂, ◌∙◌}
 use mathlib.Core.Bool.{Bool, true, false}
-use mathlib.Core.Option.{Option, none, some}
+use Rattle.std.specs.Prelude.{Option, None, Some}
 use mathlib.Core.List.{List, []}
 use Prim.Native.Nat.{ℕ}
 use Rattle.format.specs.Maybe.{bind}
@@ -36,16 +36,16 @@ abbrev Answer : Type 0
 Answer = ℕ × (Record × MmRecord)
 
 of_pdp : (o : Option Record) {a : ℕ} {r : Record} {q : MmRecord} → ◌≡◌ {A = ℕ × Record} (a, r) (s-answers.read_of o) → q ≡ m-answers.blank_record
-    → ◌≡◌ {A = Answer} (a, (r, q)) (read_of (bind o (λ r. some (pdp r))))
+    → ◌≡◌ {A = Answer} (a, (r, q)) (read_of (bind o (λ r. Some (pdp r))))
 unfolding s-answers.read_of
-of_pdp none e k = ap₂ {C = Answer} (λ (y : ℕ × Record) z. (y.0, (y.1, z))) e k
-of_pdp (some v) e k = ap₂ {C = Answer} (λ (y : ℕ × Record) z. (y.0, (y.1, z))) e k
+of_pdp None e k = ap₂ {C = Answer} (λ (y : ℕ × Record) z. (y.0, (y.1, z))) e k
+of_pdp (Some v) e k = ap₂ {C = Answer} (λ (y : ℕ × Record) z. (y.0, (y.1, z))) e k
 
 of_mm : (o : Option MmRecord) {a : ℕ} {r : Record} {q : MmRecord} → ◌≡◌ {A = ℕ × MmRecord} (a, q) (m-answers.read_of o) → r ≡ s-answers.blank_record
-    → ◌≡◌ {A = Answer} (a, (r, q)) (read_of (bind o (λ r. some (mm r))))
+    → ◌≡◌ {A = Answer} (a, (r, q)) (read_of (bind o (λ r. Some (mm r))))
 unfolding m-answers.read_of
-of_mm none e k = ap₂ {C = Answer} (λ (y : ℕ × MmRecord) z. (y.0, (z, y.1))) e k
-of_mm (some v) e k = ap₂ {C = Answer} (λ (y : ℕ × MmRecord) z. (y.0, (z, y.1))) e k
+of_mm None e k = ap₂ {C = Answer} (λ (y : ℕ × MmRecord) z. (y.0, (z, y.1))) e k
+of_mm (Some v) e k = ap₂ {C = Answer} (λ (y : ℕ × MmRecord) z. (y.0, (z, y.1))) e k
 
 module _ {x : Entry} {s : List ℕ} {a b : ℕ} {r : Record} {q : MmRecord} where
   pub says_pdp : s-answers.ReadsRecord s a r → m-answers.ReadsRecord [] b q → Says x false (as_pdp s) x a false r q
@@ -57,11 +57,11 @@ module _ {x : Entry} {s : List ℕ} {a b : ℕ} {r : Record} {q : MmRecord} wher
 -- ---- the entry at a place
 
 module _ (s : List ℕ) (at : ℕ) {x y : Entry} {a : ℕ} {m : Bool} {r : Record} {q : MmRecord} (k : x ≡ entry_at s at) where
-  pub reads_none : place_of (entry_at s at) ≡ none → Says x false (as_pdp []) y a m r q → ReadsEntry s at y a m r q
+  pub reads_none : place_of (entry_at s at) ≡ None → Says x false (as_pdp []) y a m r q → ReadsEntry s at y a m r q
   unfolding cdr_dec
   reads_none e w = record { entry = w.entry ∙ k; kind = rw e w.kind; reads = rw e w.reads }
 
-  module _ (p : ℕ × ℕ) (e : place_of (entry_at s at) ≡ some p) where
+  module _ (p : ℕ × ℕ) (e : place_of (entry_at s at) ≡ Some p) where
     pub reads_pdp : is_mm (octets_in s p) ≡ false → Says x false (as_pdp (octets_in s p)) y a m r q → ReadsEntry s at y a m r q
     unfolding cdr_dec
     reads_pdp t w = record { entry = w.entry ∙ k; kind = rw (e, t) w.kind; reads = rw (e, t) w.reads }
@@ -72,17 +72,17 @@ module _ (s : List ℕ) (at : ℕ) {x y : Entry} {a : ℕ} {m : Bool} {r : Recor
 
 -- ---- the reader of each kind
 
-pdp_of : (o : Option Record) {a : ℕ} {r : Record} {q : MmRecord} → ◌≡◌ {A = Answer} (a, (r, q)) (read_of (bind o (λ r. some (pdp r))))
+pdp_of : (o : Option Record) {a : ℕ} {r : Record} {q : MmRecord} → ◌≡◌ {A = Answer} (a, (r, q)) (read_of (bind o (λ r. Some (pdp r))))
     → (◌≡◌ {A = ℕ × Record} (a, r) (s-answers.read_of o)) × (q ≡ m-answers.blank_record)
 unfolding s-answers.read_of
-pdp_of none e = (ap {B = ℕ × Record} (λ (y : Answer). (y.0, y.1.0)) e, ap (λ (y : Answer). y.1.1) e)
-pdp_of (some v) e = (ap {B = ℕ × Record} (λ (y : Answer). (y.0, y.1.0)) e, ap (λ (y : Answer). y.1.1) e)
+pdp_of None e = (ap {B = ℕ × Record} (λ (y : Answer). (y.0, y.1.0)) e, ap (λ (y : Answer). y.1.1) e)
+pdp_of (Some v) e = (ap {B = ℕ × Record} (λ (y : Answer). (y.0, y.1.0)) e, ap (λ (y : Answer). y.1.1) e)
 
-mm_of : (o : Option MmRecord) {a : ℕ} {r : Record} {q : MmRecord} → ◌≡◌ {A = Answer} (a, (r, q)) (read_of (bind o (λ r. some (mm r))))
+mm_of : (o : Option MmRecord) {a : ℕ} {r : Record} {q : MmRecord} → ◌≡◌ {A = Answer} (a, (r, q)) (read_of (bind o (λ r. Some (mm r))))
     → (◌≡◌ {A = ℕ × MmRecord} (a, q) (m-answers.read_of o)) × (r ≡ s-answers.blank_record)
 unfolding m-answers.read_of
-mm_of none e = (ap {B = ℕ × MmRecord} (λ (y : Answer). (y.0, y.1.1)) e, ap (λ (y : Answer). y.1.0) e)
-mm_of (some v) e = (ap {B = ℕ × MmRecord} (λ (y : Answer). (y.0, y.1.1)) e, ap (λ (y : Answer). y.1.0) e)
+mm_of None e = (ap {B = ℕ × MmRecord} (λ (y : Answer). (y.0, y.1.1)) e, ap (λ (y : Answer). y.1.0) e)
+mm_of (Some v) e = (ap {B = ℕ × MmRecord} (λ (y : Answer). (y.0, y.1.1)) e, ap (λ (y : Answer). y.1.0) e)
 
 module _ {s : List ℕ} {at : ℕ} {e : Entry} {a : ℕ} {m : Bool} {r : Record} {q : MmRecord} (w : ReadsEntry s at e a m r q) where
   abbrev found : List ℕ

@@ -1,7 +1,8 @@
 -- Where an entry stands: at a mark with a value after it that a record may be, as record lists have them.
 use mathlib.Core.Path.{◌≡◌, refl, sym, ap, ap₂, subst, ◌∙◌}
 use mathlib.Core.Bool.{Bool, true, false, cond}
-use mathlib.Core.Option.{Option, none, some, none-ne-some, some-injective}
+use Rattle.std.specs.Prelude.{Option, None, Some}
+use Rattle.std.proofs.lemmas.Option.{none-some, same_Some}
 use mathlib.Core.List.{List}
 use Prim.Native.Nat.{ℕ, suc, ◌+◌, ◌-◌, ◌≤◌, ◌<◌}
 use native.Mathlib.Omega.{arith}
@@ -28,10 +29,10 @@ use Rattle.entries.proofs.Exits.{at_end, other_first, half_mark, other_second, m
 
 -- the place of the record of an entry, by the mark at the front and the value after it
 abbrev pub place_by : List ℕ → ℕ → Bool → Option (List ℕ × List ℕ) → Option (ℕ × ℕ)
-place_by s at m o = cond m (bind o (λ p. some (at + 2, length s - length p.1))) none
+place_by s at m o = cond m (bind o (λ p. Some (at + 2, length s - length p.1))) None
 
 -- a test that picks one of two answers that are no entry
-neither : (t : Bool) (x y : Entry) → place_of x ≡ none → place_of y ≡ none → place_of (cond t x y) ≡ none
+neither : (t : Bool) (x y : Entry) → place_of x ≡ None → place_of y ≡ None → place_of (cond t x y) ≡ None
 neither true x y e d = e
 neither false x y e d = d
 
@@ -79,7 +80,7 @@ tag_false t e k =
 
 -- the place of the value with a tag, if one stands at a place
 abbrev valued : List ℕ → ℕ → ℕ → Option (ℕ × ℕ)
-valued s t at = bind (tlv_dec t (drop at s)) (λ p. some (at, length s - length p.1))
+valued s t at = bind (tlv_dec t (drop at s)) (λ p. Some (at, length s - length p.1))
 
 module _ (s : List ℕ) (from : ℕ) where
   module _ (t at : ℕ) (h : at < length s) (k : get_or s at 0 ≡ t) where
@@ -103,12 +104,12 @@ module _ (s : List ℕ) (from : ℕ) where
       ∙ sized (kind_tag (eqb (get_or s at 0) 0xA2)) at h (tag_true (get_or s at 0) t) (len_at s (at + 1)) refl)
       (λ t. rw (← other_tag s from at h t, part_other s at (kind_tag (eqb (get_or s at 0) 0xA2)) h (tag_false (get_or s at 0) t)))))
 
-  value_place : (at : ℕ) → place_of (value_at s from at) ≡ bind (value_of (drop at s)) (λ p. some (at, length s - length p.1))
+  value_place : (at : ℕ) → place_of (value_at s from at) ≡ bind (value_of (drop at s)) (λ p. Some (at, length s - length p.1))
   unfolding value_of
   value_place at =
       value_tagged at
-      ∙ sym (bind_bind (tlv_dec (kind_tag (is_mm (drop at s))) (drop at s)) (λ p. some (tlv_enc (kind_tag (is_mm (drop at s))) p.0, p.1))
-      (λ p. some (at, length s - length p.1)))
+      ∙ sym (bind_bind (tlv_dec (kind_tag (is_mm (drop at s))) (drop at s)) (λ p. Some (tlv_enc (kind_tag (is_mm (drop at s))) p.0, p.1))
+      (λ p. Some (at, length s - length p.1)))
 
 -- the place of the entry at a place is found by the mark there and the value after it
 pub place_is : (s : List ℕ) (at : ℕ) → place_of (entry_at s at) ≡ place_by s at (mark_at (drop at s)) (value_of (drop (at + 2) s))
@@ -129,12 +130,12 @@ place_is s at =
 pub record Stands (s : List ℕ) (at a e : ℕ) : Type 0 where
   pub begins : a ≡ at + 2
   pub mark : mark_at (drop at s) ≡ true
-  pub value : value_of (drop (at + 2) s) ≡ some (octets_in s (a, e), drop e s)
+  pub value : value_of (drop (at + 2) s) ≡ Some (octets_in s (a, e), drop e s)
   -- an entry has at least four octets
   pub long : at + 4 ≤ e
   pub inside : e ≤ length s
 
-stands_value : (s : List ℕ) (at : ℕ) (q : List ℕ × List ℕ) → mark_at (drop at s) ≡ true → value_of (drop (at + 2) s) ≡ some q
+stands_value : (s : List ℕ) (at : ℕ) (q : List ℕ × List ℕ) → mark_at (drop at s) ≡ true → value_of (drop (at + 2) s) ≡ Some q
     → Stands s at (at + 2) (length s - length q.1)
 stands_value s at q m d =
     let (v, w) = value_sound (drop (at + 2) s) q d in
@@ -146,20 +147,20 @@ stands_value s at q m d =
     record {
       begins = refl;
       mark = m;
-      value = d ∙ ap₂ {C = Option (List ℕ × List ℕ)} (λ x y. some (x, y)) (sym o) k.1;
+      value = d ∙ ap₂ {C = Option (List ℕ × List ℕ)} (λ x y. Some (x, y)) (sym o) k.1;
       long = omega arith;
       inside = omega arith;
     }
 
 -- what the place of a found entry says
-pub stands : (s : List ℕ) (at : ℕ) (p : ℕ × ℕ) → place_of (entry_at s at) ≡ some p → Stands s at p.0 p.1
+pub stands : (s : List ℕ) (at : ℕ) (p : ℕ × ℕ) → place_of (entry_at s at) ≡ Some p → Stands s at p.0 p.1
 stands s at p e =
     let f = sym (place_is s at) ∙ e in
     by (mark_at (drop at s))
     (λ m.
-    let (q, d, k) = bind_some (value_of (drop (at + 2) s)) (λ p. some (at + 2, length s - length p.1)) p (rw m at f) in
-    subst (λ (p : ℕ × ℕ). Stands s at p.0 p.1) (some-injective _ p k) (stands_value s at q m d))
-    (λ m. absurd (none-ne-some p (rw m at f)))
+    let (q, d, k) = bind_some (value_of (drop (at + 2) s)) (λ p. Some (at + 2, length s - length p.1)) p (rw m at f) in
+    subst (λ (p : ℕ × ℕ). Stands s at p.0 p.1) (same_Some _ p k) (stands_value s at q m d))
+    (λ m. absurd (none-some p (rw m at f)))
 
 -- the octet after the mark tells the kind
 pub kind_at : (s : List ℕ) (a e : ℕ) → a < e → e ≤ length s → is_mm (octets_in s (a, e)) ≡ eqb (get_or s a 0) 0xA2
@@ -167,7 +168,7 @@ kind_at s a e h k = let n : e - a ≡ suc (e - a - 1) = omega arith in rw (n, at
 
 -- the same of an entry that a `match` took apart
 module _ (s : List ℕ) (at : ℕ) {x : Entry} {a e : ℕ} (k : x ≡ Found a e) (q : x ≡ entry_at s at) where
-  pub found_place : place_of (entry_at s at) ≡ some (a, e)
+  pub found_place : place_of (entry_at s at) ≡ Some (a, e)
   found_place = ap place_of (sym q ∙ k)
 
   pub found_stands : Stands s at a e
@@ -177,12 +178,12 @@ module _ (s : List ℕ) (at : ℕ) {x : Entry} {a e : ℕ} (k : x ≡ Found a e)
   found_fits = let w = found_stands in (omega (arith, w.begins, w.long), w.inside)
 
 -- an answer that is no entry, as a `match` knows it where it is not `Found`
-pub other : (x : Entry) → ((a e : ℕ) → x ≡ Found a e → ⊥) → place_of x ≡ none
+pub other : (x : Entry) → ((a e : ℕ) → x ≡ Found a e → ⊥) → place_of x ≡ None
 other (Found a e) k = absurd (k a e refl)
 other End k = refl
 other (NoMark p) k = refl
 other (Cut p) k = refl
 other (NoValue p) k = refl
 
-pub other_place : (s : List ℕ) (at : ℕ) (x : Entry) → ((a e : ℕ) → x ≡ Found a e → ⊥) → x ≡ entry_at s at → place_of (entry_at s at) ≡ none
+pub other_place : (s : List ℕ) (at : ℕ) (x : Entry) → ((a e : ℕ) → x ≡ Found a e → ⊥) → x ≡ entry_at s at → place_of (entry_at s at) ≡ None
 other_place s at x k q = ap place_of (sym q) ∙ other x k

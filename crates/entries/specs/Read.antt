@@ -1,6 +1,6 @@
 -- Reading the records of entries.
 use Rattle.std.specs.Prelude.{◌≡◌, Bool, List, [], ◌∷◌, ℕ, ◌+◌, ◌-◌, length, take, drop}
-use Rattle.std.proofs.Math.Option.{Option, none, some}
+use Rattle.std.specs.Prelude.{Option, None, Some}
 use Rattle.format.specs.Maybe.{bind}
 use Rattle.ber.specs.Field.{starts}
 use Rattle.scdr.specs.declared.Record.{Record}
@@ -20,14 +20,14 @@ octets_in s p = take (p.1 - p.0) (drop p.0 s)
 
 -- the octets of the record that was found; none where none was
 abbrev pub record_octets : List ℕ → Option (ℕ × ℕ) → List ℕ
-record_octets s none = []
-record_octets s (some p) = octets_in s p
+record_octets s None = []
+record_octets s (Some p) = octets_in s p
 
 -- what is answered of a record that was read: 0 and the record, each kind in a field of its own; or 20. What is not there is all zero
 abbrev pub read_of : Option Cdr → ℕ × (Record × MmRecord)
-read_of none = (no_record, (s-answers.blank_record, m-answers.blank_record))
-read_of (some (pdp r)) = (0, (r, m-answers.blank_record))
-read_of (some (mm r)) = (0, (s-answers.blank_record, r))
+read_of None = (no_record, (s-answers.blank_record, m-answers.blank_record))
+read_of (Some (pdp r)) = (0, (r, m-answers.blank_record))
+read_of (Some (mm r)) = (0, (s-answers.blank_record, r))
 
 -- The promise of the reader of entries: what stands at the place; whether the record that was found has the tag of an M-CDR; and what its octets
 -- read as.
@@ -38,8 +38,8 @@ pub record ReadsEntry (s : List ℕ) (at : ℕ) (e : Entry) (answer : ℕ) (m : 
 
 -- the records at these places of s, if each of them reads
 unfoldable pub read_each : List ℕ → List (ℕ × ℕ) → Option (List Cdr)
-read_each s [] = some []
-read_each s (p ∷ ps) = bind (cdr_dec (octets_in s p)) (λ r. bind (read_each s ps) (λ rs. some (r ∷ rs)))
+read_each s [] = Some []
+read_each s (p ∷ ps) = bind (cdr_dec (octets_in s p)) (λ r. bind (read_each s ps) (λ rs. Some (r ∷ rs)))
 
 -- where the entries of a list of records stand, in octets that begin with `at` others
 unfoldable pub laid_from : ℕ → List Cdr → List (ℕ × ℕ)

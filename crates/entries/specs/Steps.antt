@@ -1,6 +1,6 @@
 -- Stepping from entry to entry, by marks and lengths alone, up to the first place where no entry stands. A step is fuel of one: an entry has
 -- at least four octets, so as many steps as there are octets never run out (`ends` in proofs/Theorems.antt).
-use Rattle.std.proofs.Math.Option.{Option, none, some}
+use Rattle.std.specs.Prelude.{Option, None, Some}
 use Rattle.std.specs.Prelude.{List, [], ◌∷◌, ℕ, zero, suc, length}
 use Rattle.entries.specs.declared.Entry.{Entry}
 use Rattle.entries.specs.declared.Entry.TheVariants.{Found, End, NoMark, Cut, NoValue}
@@ -8,19 +8,19 @@ use Rattle.entries.specs.Entry.{entry_at}
 
 -- where the record of an entry begins and ends, if an entry was found
 abbrev pub place_of : Entry → Option (ℕ × ℕ)
-place_of (Found a e) = some (a, e)
-place_of End = none
-place_of (NoMark p) = none
-place_of (Cut p) = none
-place_of (NoValue p) = none
+place_of (Found a e) = Some (a, e)
+place_of End = None
+place_of (NoMark p) = None
+place_of (Cut p) = None
+place_of (NoValue p) = None
 
 abbrev pub stepped : Option (ℕ × ℕ) → (ℕ → List (ℕ × ℕ)) → List (ℕ × ℕ)
-stepped none next = []
-stepped (some p) next = p ∷ next p.1
+stepped None next = []
+stepped (Some p) next = p ∷ next p.1
 
 abbrev pub stopped : Option (ℕ × ℕ) → ℕ → (ℕ → ℕ) → ℕ
-stopped none at next = at
-stopped (some p) at next = next p.1
+stopped None at next = at
+stopped (Some p) at next = next p.1
 
 -- the places of the entries from a place on, in at most n steps
 unfoldable pub places_from : ℕ → List ℕ → ℕ → List (ℕ × ℕ)

@@ -2,7 +2,7 @@
 use mathlib.Core.Path.{◌≡◌, refl, sym, ap, ◌∙◌}
 use mathlib.Core.Bool.{Bool, true, false, ◌&&◌}
 use mathlib.Core.List.{List, [], ◌∷◌, map}
-use mathlib.Core.Option.{Option, none, some}
+use Rattle.std.specs.Prelude.{Option, None, Some}
 use Prim.Native.Nat.{ℕ, zero, suc, ◌+◌, ◌≤◌, ◌<◌}
 use native.Mathlib.Omega.{arith}
 use lib.Dec.{leb, ltb, eqb}
@@ -94,14 +94,14 @@ row_number s h = number_here (kind_of s) kinds h
 -- ---- the entry that the code finds
 
 -- o is the octet of the kind, with the number of row k
-pub entry_row : (s : List ℕ) (k : Kind) {o : ℕ} {r : Entry} → o ≡ kind_of s → o ≡ k.number → kind_in k.number kinds ≡ some k
+pub entry_row : (s : List ℕ) (k : Kind) {o : ℕ} {r : Entry} → o ≡ kind_of s → o ≡ k.number → kind_in k.number kinds ≡ Some k
     → r ≡ entry_by true k s → r ≡ entry_of s
 unfolding entry_of
-entry_row s k {o} p q e x = let f : row_of s ≡ some k = ap (λ (i : ℕ). kind_in i kinds) (sym p ∙ q) ∙ e in rw f x
+entry_row s k {o} p q e x = let f : row_of s ≡ Some k = ap (λ (i : ℕ). kind_in i kinds) (sym p ∙ q) ∙ e in rw f x
 
-none_of : (o : Option Kind) → is_row o ≡ false → o ≡ none
-none_of none h = refl
-none_of (some k) h = absurd (let z : ◌≡◌ {A = ℕ} 0 1 = cc in omega arith)
+none_of : (o : Option Kind) → is_row o ≡ false → o ≡ None
+none_of None h = refl
+none_of (Some k) h = absurd (let z : ◌≡◌ {A = ℕ} 0 1 = cc in omega arith)
 
 -- o is none of 1 to n: what a `match` on them leaves
 unfoldable pub Past : ℕ → ℕ → Type 0
@@ -118,7 +118,7 @@ pub entry_none : (s : List ℕ) {o : ℕ} {r : Entry} → o ≡ kind_of s → Pa
 unfolding entry_of known
 entry_none s {o} p h x =
     let g : (leb 1 o && leb o 12) ≡ false = by (leb 1 o) (λ a. rw (a, lt-leb o 12 (past 12 o h (leb-true 1 o a)))) (λ a. rw a) in
-    let f : row_of s ≡ none = none_of (row_of s) (known_is s ∙ rw p at g) in
+    let f : row_of s ≡ None = none_of (row_of s) (known_is s ∙ rw p at g) in
     rw f x
 
 -- what the entry has is what the refusals and the answer are about

@@ -1,6 +1,6 @@
 -- The kinds of event: 01's table, a row a kind.
 use Rattle.std.specs.Prelude.{Bool, true, false, cond, ◌&&◌, List, [], ◌∷◌, ℕ, ◌+◌, eqb}
-use Rattle.std.proofs.Math.Option.{Option, none, some}
+use Rattle.std.specs.Prelude.{Option, None, Some}
 use Rattle.ber.specs.Int.{number_in}
 use Rattle.container.specs.Qos.{qos_ok}
 use Rattle.limits.specs.Limits.{limits_ok}
@@ -77,24 +77,24 @@ kinds =
 
 -- the row with a number, if there is one
 unfoldable pub kind_in : ℕ → List Kind → Option Kind
-kind_in n [] = none
-kind_in n (k ∷ ks) = cond (eqb n k.number) (some k) (kind_in n ks)
+kind_in n [] = None
+kind_in n (k ∷ ks) = cond (eqb n k.number) (Some k) (kind_in n ks)
 
 -- the row of an event's octets
 abbrev pub row_of : List ℕ → Option Kind
 row_of s = kind_in (kind_of s) kinds
 
 abbrev pub is_row : Option Kind → Bool
-is_row none = false
-is_row (some k) = true
+is_row None = false
+is_row (Some k) = true
 
 -- What stands in for the row that octets of no kind lack. They are refused as such, whatever it says.
 abbrev pub no_kind : Kind
 no_kind = record { number = 0; whole = λ s. 7; in_range = λ s. false; says = λ s. Tick }
 
 abbrev pub the_row : Option Kind → Kind
-the_row none = no_kind
-the_row (some k) = k
+the_row None = no_kind
+the_row (Some k) = k
 
 -- the whole length of an event with these octets at its front
 unfoldable pub whole_of : List ℕ → ℕ

@@ -3,7 +3,7 @@ use Prim.Native.Nat.{ℕ}
 use mathlib.Core.Path.{◌≡◌, refl, sym, ap, ◌∙◌}
 use mathlib.Core.Bool.{Bool, true, false, cond}
 use mathlib.Core.List.{List, [], ◌∷◌, ◌++◌, map, append_assoc, append-nil}
-use mathlib.Core.Option.{Option, none, some}
+use Rattle.std.specs.Prelude.{Option, None, Some}
 use Rattle.history.specs.Lists.{each, Earlier}
 use Rattle.history.specs.History.{History, start}
 use Rattle.history.specs.Records.{Rules, Record, records, ended}
@@ -21,10 +21,10 @@ module _ {G N S E W : Type 0} (R : Rules S E) (D : Meaning G N S E W) (n : N) wh
   -- ---- what a history closes by one more event, and by more of them
 
   grown_records : (b : Bool) (h : History S E) (t : ℕ) (o : Option E)
-      → records R (cond b h (grown h t o)) ≡ records R h ++ closes_in R (cond b none (some h)) t o
+      → records R (cond b h (grown h t o)) ≡ records R h ++ closes_in R (cond b None (Some h)) t o
   grown_records true h t o = sym (append-nil _)
-  grown_records false h t none = sym (append-nil _)
-  grown_records false h t (some e) = refl
+  grown_records false h t None = sym (append-nil _)
+  grown_records false h t (Some e) = refl
 
   grow_records : (c : Accepted W) (h : History S E) → records R (grow R D n c h) ≡ records R h ++ closed_at R D n c h
   grow_records c h = grown_records (ended R h) h c.time (heard R D n (D.says c.event))

@@ -3,7 +3,7 @@ use Prim.Native.Nat.{ℕ, ◌≤◌}
 use mathlib.Core.Path.{◌≡◌, refl}
 use mathlib.Core.Bool.{Bool, true, false, cond}
 use mathlib.Core.List.{List, [], ◌∷◌, ◌++◌, map}
-use mathlib.Core.Option.{Option, none, some}
+use Rattle.std.specs.Prelude.{Option, None, Some}
 use native.Mathlib.Omega.{arith}
 use Rattle.history.specs.Lists.{All, NotFalling}
 use Rattle.history.specs.History.{History, start, latest, InOrder}
@@ -37,8 +37,8 @@ module _ {G N S E W : Type 0} (R : Rules S E) (D : Meaning G N S E W) (n : N) wh
 
   grown_proper : (h : History S E) (t : ℕ) (o : Option E) (b : Bool) → ended R h ≡ b → Proper R h → Proper R (cond b h (grown h t o))
   grown_proper h t o true f p = p
-  grown_proper h t none false f p = p
-  grown_proper h t (some e) false f p = (f, p)
+  grown_proper h t None false f p = p
+  grown_proper h t (Some e) false f p = (f, p)
 
   follow_proper : (cs : List (Accepted W)) (h : History S E) → Proper R h → Proper R (follow R D n cs h)
   follow_proper [] h p = p
@@ -55,8 +55,8 @@ module _ {G N S E W : Type 0} (R : Rules S E) (D : Meaning G N S E W) (n : N) wh
   grown_ordered : (h : History S E) (k t : ℕ) (o : Option E) (b : Bool) → k ≤ t → latest h ≤ k → InOrder h
       → InOrder (cond b h (grown h t o)) × (latest (cond b h (grown h t o)) ≤ t)
   grown_ordered h k t o true f p q = (q, omega arith)
-  grown_ordered h k t none false f p q = (q, omega arith)
-  grown_ordered h k t (some e) false f p q = (((omega arith), q), omega arith)
+  grown_ordered h k t None false f p q = (q, omega arith)
+  grown_ordered h k t (Some e) false f p q = (((omega arith), q), omega arith)
 
   follow_ordered : (cs : List (Accepted W)) (k l : ℕ) (h : History S E) → Ordered k cs l → latest h ≤ k → InOrder h
       → InOrder (follow R D n cs h)

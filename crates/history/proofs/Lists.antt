@@ -3,7 +3,7 @@ use Prim.Native.Nat.{ℕ, zero, suc, ◌+◌, ◌≤◌, ◌<◌}
 use mathlib.Core.Path.{◌≡◌, refl, ap}
 use mathlib.Core.Bool.{Bool, true, false, not, cond, ◌&&◌, false≢true}
 use mathlib.Core.List.{List, [], ◌∷◌, ◌++◌, map, append_assoc, append-nil}
-use mathlib.Core.Option.{Option, none, some}
+use Rattle.std.specs.Prelude.{Option, None, Some}
 use native.Mathlib.Omega.{arith}
 use lib.ListN.{length, get_or, length-append}
 use Rattle.history.specs.Lists.{each, sum_of, All, if_any, count, NotFalling}
@@ -50,8 +50,8 @@ sum_of_append f [] b = omega arith
 sum_of_append f (x ∷ xs) b = omega (arith, sum_of_append f xs b)
 
 pub length_ifAny : {A : Type 0} (a : List A) (o : Option ℕ) (f : ℕ → A) → length (a ++ if_any o f) ≡ count o (length a)
-length_ifAny a none f = ap length (append-nil a)
-length_ifAny a (some k) f = omega (arith, length-append a (f k ∷ []))
+length_ifAny a None f = ap length (append-nil a)
+length_ifAny a (Some k) f = omega (arith, length-append a (f k ∷ []))
 
 pub both : (a b : Bool) → (a && b) ≡ true → (a ≡ true) × (b ≡ true)
 both true b p = (refl, p)
@@ -75,11 +75,11 @@ pub each_cond : {A B : Type 0} (f : A → List B) (b : Bool) (a : A) (rest : Lis
 each_cond f true a rest = refl
 each_cond f false a rest = refl
 
-pub none≢some : {A : Type 0} {k : A} → none ≡ some k → ⊥
+pub none≢some : {A : Type 0} {k : A} → None ≡ Some k → ⊥
 none≢some {k = k} p = let z : ◌≡◌ {A = ℕ} 0 1 = cc in omega arith
 
 -- what holds of x holds of what a test let pass
-pub kept : {A : Type 0} (P : A → Type 0) (b : Bool) (x e : A) → cond b (some x) none ≡ some e → P x → P e
+pub kept : {A : Type 0} (P : A → Type 0) (b : Bool) (x e : A) → cond b (Some x) None ≡ Some e → P x → P e
 kept P true x e p q = let i : x ≡ e = cc in rw i at q
 kept P false x e p q = absurd (none≢some p)
 

@@ -4,7 +4,7 @@ use mathlib.Core.Path.{◌≡◌, refl, sym, ap, ◌∙◌}
 use mathlib.Core.Logic.{◌↔◌}
 use mathlib.Core.Bool.{true, false, false≢true}
 use mathlib.Core.List.{List, [], ◌∷◌, ◌++◌, map, append_assoc, append-nil, cons≢nil}
-use mathlib.Core.Option.{Option, none, some}
+use Rattle.std.specs.Prelude.{Option, None, Some}
 use native.Mathlib.Omega.{arith}
 use lib.ListN.{length}
 use Rattle.history.specs.Lists.{each, sum_of, if_any, is_some, or_else, count}
@@ -19,8 +19,8 @@ module _ {S E : Type 0} (R : Rules S E) where
 
   in_force_or_anew : (o : Option ℕ) (r : History S E) (s : S) (t : ℕ) (e : E) → in_force R r ≡ s
       → in_force R (or_anew o r t e (R.after s e)) ≡ R.after s e
-  in_force_or_anew none r s t e p = ap (λ (x : S). R.after x e) p
-  in_force_or_anew (some k) r s t e p = refl
+  in_force_or_anew None r s t e p = ap (λ (x : S). R.after x e) p
+  in_force_or_anew (Some k) r s t e p = refl
 
   pub in_force_open : (h : History S E) → in_force R (since_opening R h) ≡ in_force R h
   in_force_open (start t s) = refl
@@ -32,8 +32,8 @@ module _ {S E : Type 0} (R : Rules S E) where
 
   open_step : (o : Option ℕ) (r : History S E) (t : ℕ) (e : E) (s : S) → since_opening R r ≡ r → cause_for R r t e ≡ o
       → since_opening R (or_anew o r t e s) ≡ or_anew o r t e s
-  open_step none r t e s i p = rw (i, p)
-  open_step (some c) r t e s i p = refl
+  open_step None r t e s i p = rw (i, p)
+  open_step (Some c) r t e s i p = refl
 
   pub open_open : (h : History S E) → since_opening R (since_opening R h) ≡ since_opening R h
   open_open (start t s) = refl
@@ -42,8 +42,8 @@ module _ {S E : Type 0} (R : Rules S E) where
   running_step : (o : Option ℕ) (h : History S E) (t : ℕ) (e : E) → closes R h t e ≡ o → running R (since_opening R h) ≡ running R h
       → running R (or_anew o (since_opening R h) t e (in_force R (h ▸ t ∶ e))) ≡ or_anew (condition R o (R.change (in_force R h) e)) (running R h) t e
       (in_force R (h ▸ t ∶ e))
-  running_step none h t e p i = rw (open_open h, p, in_force_open h, i)
-  running_step (some c) h t e p i = refl
+  running_step None h t e p i = rw (open_open h, p, in_force_open h, i)
+  running_step (Some c) h t e p i = refl
 
   pub running_open : (h : History S E) → running R (since_opening R h) ≡ running R h
   running_open (start t s) = refl
@@ -59,8 +59,8 @@ module _ {S E : Type 0} (R : Rules S E) where
       → each (λ (x : Record S E). x.stretches) (if_any o
       (λ c. record { number = k; cause = c; past = r; time = t; event = e; stretches = stretches R (r ▸ t ∶ e) }))
       ++ stretches R (or_anew o r t e s) ≡ stretches R (r ▸ t ∶ e)
-  read_at none k r t e s = refl
-  read_at (some c) k r t e s = simp append-nil
+  read_at None k r t e s = refl
+  read_at (Some c) k r t e s = simp append-nil
 
   pub read : (h : History S E) → each (λ r. r.stretches) (records R h) ++ stretches R (since_opening R h) ≡ stretches R h
   read (start t s) = refl
@@ -78,8 +78,8 @@ module _ {S E : Type 0} (R : Rules S E) where
   all_at : (o : Option ℕ) (p : History S E) (t : ℕ) (e : E) (s : S)
       → each (λ x. events (whole x)) (if_any o (λ k. record { ran = p; time = t; event = e; condition = k })) ++ events (or_anew o p t e s) ≡ events p ++
       ((t, e) ∷ [])
-  all_at none p t e s = refl
-  all_at (some k) p t e s = simp append-nil
+  all_at None p t e s = refl
+  all_at (Some k) p t e s = simp append-nil
 
   pub all : (h : History S E) → each (λ x. events (whole x)) (stretches R h) ++ events (running R h) ≡ events h
   all (start t s) = refl
@@ -89,8 +89,8 @@ module _ {S E : Type 0} (R : Rules S E) where
     every_at : (o : Option ℕ) (p : History S E) (t : ℕ) (e : E) (s : S)
         → sum_of (λ x. total counts (whole x)) (if_any o (λ k. record { ran = p; time = t; event = e; condition = k })) + total counts (or_anew o p t e s) ≡
         total counts p + counts e
-    every_at none p t e s = omega arith
-    every_at (some k) p t e s = omega arith
+    every_at None p t e s = omega arith
+    every_at (Some k) p t e s = omega arith
 
     pub every : (h : History S E) → sum_of (λ x. total counts (whole x)) (stretches R h) + total counts (running R h) ≡ total counts h
     every (start t s) = refl
@@ -115,15 +115,15 @@ module _ {S E : Type 0} (R : Rules S E) where
 
   numbered_at : (o p : Option ℕ) (k : ℕ)
       → up_to k ++ if_any (or_else o p) (λ c. number k (is_some o)) ≡ numbers (is_some o) (count (or_else o p) k)
-  numbered_at none none k = append-nil (up_to k)
-  numbered_at none (some c) k = refl
-  numbered_at (some c) p zero = refl
-  numbered_at (some c) p (suc k) = refl
+  numbered_at None None k = append-nil (up_to k)
+  numbered_at None (Some c) k = refl
+  numbered_at (Some c) p zero = refl
+  numbered_at (Some c) p (suc k) = refl
 
   number_at : (o k : Option ℕ) (r : History S E) (t : ℕ) (e : E) (x : List (Stretch S E))
       → map (λ (x : Record S E). x.number) (if_any o (λ c. record { number = k; cause = c; past = r; time = t; event = e; stretches = x })) ≡ if_any o (λ c. k)
-  number_at none k r t e x = refl
-  number_at (some c) k r t e x = refl
+  number_at None k r t e x = refl
+  number_at (Some c) k r t e x = refl
 
   pub numbered : (h : History S E) → Proper h → map (λ r. r.number) (records R h) ≡ numbers (ended R h) (closings R h)
   numbered (start t s) p = refl
@@ -143,8 +143,8 @@ module _ {S E : Type 0} (R : Rules S E) where
     chained : (o k : Option ℕ) (rs : List (Record S E)) (r : History S E) (x : List (Stretch S E)) (s : S) → first (r ▸ t ∶ e) ≡ first r
         → ((c : ℕ) → first (start t s) ≡ next (record { number = k; cause = c; past = r; time = t; event = e; stretches = x })) → Chained rs r
         → Chained (rs ++ if_any o (λ c. record { number = k; cause = c; past = r; time = t; event = e; stretches = x })) (or_anew o r t e s)
-    chained none k rs r x s p q i = rw (append-nil, p) i
-    chained (some c) k rs r x s p q i = rw (map_append, map_append, i, q c)
+    chained None k rs r x s p q i = rw (append-nil, p) i
+    chained (Some c) k rs r x s p q i = rw (map_append, map_append, i, q c)
 
   pub opened : (h : History S E)
       → map (λ r. began r.past) (records R h) ++ (began (since_opening R h) ∷ []) ≡ began h ∷ map (λ r. r.time) (records R h)
@@ -164,12 +164,12 @@ module _ {S E : Type 0} (R : Rules S E) where
   changed_step : (o : Option ℕ) (h : History S E) (t : ℕ) (e : E) (s : S) → closes R h t e ≡ o
       → changes R (since_opening R h) ≡ length (stretches R (since_opening R h))
       → changes R (or_anew o (since_opening R h) t e s) ≡ length (stretches R (or_anew o (since_opening R h) t e s))
-  changed_step none h t e s p i =
+  changed_step None h t e s p i =
       let r : History S E = since_opening R h in
       let c : cuts R r t e ≡ R.change (in_force R r) e = rw (open_open h, p) in
       let j : count (cuts R r t e) (length (stretches R r)) ≡ count (R.change (in_force R r) e) (changes R r) = rw (c, i) in
       sym (length_ifAny (stretches R r) (cuts R r t e) (λ k. record { ran = running R r; time = t; event = e; condition = k }) ∙ j)
-  changed_step (some c) h t e s p i = refl
+  changed_step (Some c) h t e s p i = refl
 
   pub changed : (h : History S E) → changes R (since_opening R h) ≡ length (stretches R (since_opening R h))
   changed (start t s) = refl
@@ -178,13 +178,13 @@ module _ {S E : Type 0} (R : Rules S E) where
   -- ---- closings, exactly
 
   exactly_at : (o k : Option ℕ) (r : History S E) (t : ℕ) (e : E) (x : List (Stretch S E)) (c : ℕ) (d : Record S E)
-      → if_any o (λ c. record { number = k; cause = c; past = r; time = t; event = e; stretches = x }) ≡ d ∷ [] → d.cause ≡ c → o ≡ some c
-  exactly_at none k r t e x c d p q = absurd (cons≢nil (sym p))
-  exactly_at (some a) k r t e x c d p q =
+      → if_any o (λ c. record { number = k; cause = c; past = r; time = t; event = e; stretches = x }) ≡ d ∷ [] → d.cause ≡ c → o ≡ Some c
+  exactly_at None k r t e x c d p q = absurd (cons≢nil (sym p))
+  exactly_at (Some a) k r t e x c d p q =
       let i : record { number = k; cause = a; past = r; time = t; event = e; stretches = x } ≡ d = cc in
-      ap (λ (n : ℕ). some n) (ap (λ (y : Record S E). y.cause) i ∙ q)
+      ap (λ (n : ℕ). Some n) (ap (λ (y : Record S E). y.cause) i ∙ q)
 
-  pub exactly : (h : History S E) (t : ℕ) (e : E) (cause : ℕ) → ClosesNow R h t e cause ↔ (closes R h t e ≡ some cause)
+  pub exactly : (h : History S E) (t : ℕ) (e : E) (cause : ℕ) → ClosesNow R h t e cause ↔ (closes R h t e ≡ Some cause)
   exactly h t e cause = (
     (λ c. exactly_at (closes R h t e) (number (closings R h) (is_some (R.release e))) (since_opening R h) t e (stretches R (since_opening R h ▸ t ∶ e)) cause
         c.closed
@@ -198,7 +198,7 @@ module _ {S E : Type 0} (R : Rules S E) where
 
   -- the same, where a kind says its closing conditions one by one, as a relation
   pub exactly_when : (P : History S E → ℕ → E → ℕ → Type 0)
-      → ((r : History S E) (t : ℕ) (e : E) (c : ℕ) → (cause_for R r t e ≡ some c) ↔ P r t e c)
+      → ((r : History S E) (t : ℕ) (e : E) (c : ℕ) → (cause_for R r t e ≡ Some c) ↔ P r t e c)
       → (h : History S E) (t : ℕ) (e : E) (cause : ℕ) → ClosesNow R h t e cause ↔ P (since_opening R h) t e cause
   exactly_when P f h t e cause = (
     (λ c. (f (since_opening R h) t e cause).0 ((exactly h t e cause).0 c)),
@@ -211,16 +211,16 @@ module _ {S E : Type 0} (R : Rules S E) where
   ended_open (h ▸ t ∶ e) p = go (R.release e) refl p
     where
       go : (o : Option ℕ) → R.release e ≡ o → is_some o ≡ true → stretches R (since_opening R (h ▸ t ∶ e)) ≡ []
-      go none q i = absurd (false≢true i)
-      go (some c) q i = rw q
+      go None q i = absurd (false≢true i)
+      go (Some c) q i = rw q
 
   pub ended_running : (counts : E → ℕ) (h : History S E) → ended R h ≡ true → total counts (running R h) ≡ 0
   ended_running counts (start t s) p = refl
   ended_running counts (h ▸ t ∶ e) p = go (R.release e) refl p
     where
       go : (o : Option ℕ) → R.release e ≡ o → is_some o ≡ true → total counts (running R (h ▸ t ∶ e)) ≡ 0
-      go none q i = absurd (false≢true i)
-      go (some c) q i = rw q
+      go None q i = absurd (false≢true i)
+      go (Some c) q i = rw q
 
   -- ---- what one more event does, by cases: for the proof that a stored subject hears as its history says
 
@@ -232,11 +232,11 @@ module _ {S E : Type 0} (R : Rules S E) where
     cut k = record { ran = running R h; time = t; event = e; condition = k }
 
     -- it closes
-    pub leaves_closing : (c : ℕ) → closes R h t e ≡ some c
+    pub leaves_closing : (c : ℕ) → closes R h t e ≡ Some c
         → leaves R (h ▸ t ∶ e) ≡ record { closed = suc (closings R h); past = start t next; stretches = []; running = start t next }
     leaves_closing c p = rw p
 
-    pub records_closing : (c : ℕ) → closes R h t e ≡ some c → records_at R h t e ≡ record {
+    pub records_closing : (c : ℕ) → closes R h t e ≡ Some c → records_at R h t e ≡ record {
       number = number (closings R h) (is_some (R.release e));
       cause = c;
       past = since_opening R h;
@@ -247,15 +247,15 @@ module _ {S E : Type 0} (R : Rules S E) where
     records_closing c p = rw (p, stretches_at_open h, p)
 
     -- it does not close
-    pub records_none : closes R h t e ≡ none → records_at R h t e ≡ []
+    pub records_none : closes R h t e ≡ None → records_at R h t e ≡ []
     records_none p = rw p
 
     -- it is a change, and does not close
-    pub leaves_change : (k : ℕ) → closes R h t e ≡ none → R.change (in_force R h) e ≡ some k → leaves R (h ▸ t ∶ e)
+    pub leaves_change : (k : ℕ) → closes R h t e ≡ None → R.change (in_force R h) e ≡ Some k → leaves R (h ▸ t ∶ e)
         ≡ record { closed = closings R h; past = since_opening R h ▸ t ∶ e; stretches = stretches R (since_opening R h) ++ (cut k ∷ []); running = start t next }
     leaves_change k p q = rw (p, stretches_at_open h, p, q)
 
     -- it does neither
-    pub leaves_plain : closes R h t e ≡ none → R.change (in_force R h) e ≡ none → leaves R (h ▸ t ∶ e)
+    pub leaves_plain : closes R h t e ≡ None → R.change (in_force R h) e ≡ None → leaves R (h ▸ t ∶ e)
         ≡ record { closed = closings R h; past = since_opening R h ▸ t ∶ e; stretches = stretches R (since_opening R h); running = running R h ▸ t ∶ e }
     leaves_plain p q = rw (p, stretches_at_open h, p, q, append-nil)

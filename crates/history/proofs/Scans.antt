@@ -2,7 +2,7 @@
 use mathlib.Core.Path.{◌≡◌, refl, sym, ap, ◌∙◌}
 use mathlib.Core.Bool.{Bool, true, false, not, ◌&&◌, ◌||◌}
 use mathlib.Core.List.{List, [], ◌∷◌, ◌++◌, map}
-use mathlib.Core.Option.{none, some}
+use Rattle.std.specs.Prelude.{None, Some}
 use Prim.Native.Nat.{ℕ, zero, suc, ◌+◌, ◌≤◌, ◌<◌}
 use native.Mathlib.Numerals.{add-one}
 use native.Mathlib.Omega.{arith}
@@ -93,7 +93,7 @@ scan_all = record { same = refl }
 
 module _ {A : Type 0} {p : A → Bool} {l : List A} {i : ℕ} (s : Scan p l i) where
   module _ (d : A) (h : i < length l) {r : Bool} (e : r ≡ p (get_or l i d)) where
-    pub scan_here : r ≡ true → some i ≡ first_from p 0 l
+    pub scan_here : r ≡ true → Some i ≡ first_from p 0 l
     unfolding first_from
     scan_here t = sym (s.same ∙ rw (drop-cons l i d h) (rw (sym e ∙ t)))
 
@@ -101,7 +101,7 @@ module _ {A : Type 0} {p : A → Bool} {l : List A} {i : ℕ} (s : Scan p l i) w
     unfolding first_from
     scan_next t = record { same = s.same ∙ rw (drop-cons l i d h, add-one) (rw (sym e ∙ t)) }
 
-  pub scan_end : length l ≤ i → none ≡ first_from p 0 l
+  pub scan_end : length l ≤ i → None ≡ first_from p 0 l
   unfolding first_from
   scan_end h = sym (s.same ∙ rw (drop_of_length-le l h))
 
@@ -124,32 +124,32 @@ module _ {A : Type 0} (p : A → Bool) where
     place : j ≡ k + i
     first : First p l i
 
-  first_at : (k : ℕ) (l : List A) {j : ℕ} → first_from p k l ≡ some j → FirstAt k j l
+  first_at : (k : ℕ) (l : List A) {j : ℕ} → first_from p k l ≡ Some j → FirstAt k j l
   unfolding first_from
   first_at k [] {j} e = absurd (none≢some e)
   first_at k (a ∷ rest) {j} e =
       by (p a)
       (λ y.
-      let f : some k ≡ some j = rw y at e in
+      let f : Some k ≡ Some j = rw y at e in
       let z : k ≡ j = cc in
       record { i = 0; place = omega arith; first = here y })
       (λ n.
       let r = first_at (suc k) rest (rw n at e) in
       record { i = suc r.i; place = omega (arith, r.place); first = there n r.first })
 
-  none_from : (k : ℕ) (l : List A) → first_from p k l ≡ none → All (λ a. p a ≡ false) l
+  none_from : (k : ℕ) (l : List A) → first_from p k l ≡ None → All (λ a. p a ≡ false) l
   unfolding first_from
   none_from k [] e = tt
   none_from k (a ∷ rest) e =
       by (p a)
-      (λ y. let f : some k ≡ none = rw y at e in absurd (none≢some (sym f)))
+      (λ y. let f : Some k ≡ None = rw y at e in absurd (none≢some (sym f)))
       (λ n. (n, none_from (suc k) rest (rw n at e)))
 
   -- looked for from the start of the table: the first place, or none passes
-  pub first_is : (l : List A) {j : ℕ} → first_from p 0 l ≡ some j → First p l j
+  pub first_is : (l : List A) {j : ℕ} → first_from p 0 l ≡ Some j → First p l j
   first_is l {j} e = let f = first_at 0 l e in let z : f.i ≡ j = omega (arith, f.place) in rw z at f.first
 
-  pub none_is : (l : List A) → first_from p 0 l ≡ none → All (λ a. p a ≡ false) l
+  pub none_is : (l : List A) → first_from p 0 l ≡ None → All (λ a. p a ≡ false) l
   none_is l e = none_from 0 l e
 
 -- ---- what f reads off the slots, looked at in their place

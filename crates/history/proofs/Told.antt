@@ -4,7 +4,7 @@ use Prim.Native.Nat.{ℕ, ◌+◌}
 use mathlib.Core.Path.{◌≡◌, refl, sym, ◌∙◌}
 use mathlib.Core.Bool.{Bool, true, false, not, cond, false≢true}
 use mathlib.Core.List.{List, [], ◌∷◌, ◌++◌, map, append_assoc, append-nil, cons≢nil}
-use mathlib.Core.Option.{Option, none, some}
+use Rattle.std.specs.Prelude.{Option, None, Some}
 use native.Mathlib.Nat.{zero-add}
 use native.Mathlib.Omega.{arith}
 use Rattle.history.specs.Lists.{each, sum_of, All, Earlier}
@@ -101,24 +101,24 @@ module _ {G N S E W C B : Type 0} (R : Rules S E) (D : Meaning G N S E W) (F : F
   -- ---- the last history
 
   abbrev opt : Option H → List H
-  opt none = []
-  opt (some h) = h ∷ []
+  opt None = []
+  opt (Some h) = h ∷ []
 
   abbrev grew : Accepted W → Option H → Option H
-  grew c none = none
-  grew c (some h) = some (grow' c h)
+  grew c None = None
+  grew c (Some h) = Some (grow' c h)
 
   map_opt : (c : Accepted W) (o : Option H) → map (grow' c) (opt o) ≡ opt (grew c o)
-  map_opt c none = refl
-  map_opt c (some h) = refl
+  map_opt c None = refl
+  map_opt c (Some h) = refl
 
   abbrev left_of : Option H → List C
   left_of o = each left (opt o)
 
   -- it knows the settings
   abbrev Knows : G → Option H → Type 0
-  Knows g none = Unit {0}
-  Knows g (some h) = ended R h ≡ false → known (in_force R h) ≡ g
+  Knows g None = Unit {0}
+  Knows g (Some h) = ended R h ≡ false → known (in_force R h) ≡ g
 
   record Grows (g : G) (c : Accepted W) (w : Said G N S E) (o : Option H) (os : List (Option C)) : Type 0 where
     now : named' (slots_hear K g c.time w os) ≡ left_of (grew c o)
@@ -133,19 +133,19 @@ module _ {G N S E W C B : Type 0} (R : Rules S E) (D : Meaning G N S E W) (F : F
     hear_out = of_name_hear K name_of X.bears g c.time w n os
 
     grows_hearing : (h : H) (o : Option E) → ended R h ≡ false → heard R D n w ≡ o → known (in_force R h) ≡ g
-        → named' os ≡ F.as_stored n (leaves R h) ∷ [] → Grows g c w (some h) os
-    grows_hearing h none f i s p = record {
+        → named' os ≡ F.as_stored n (leaves R h) ∷ [] → Grows g c w (Some h) os
+    grows_hearing h None f i s p = record {
       now = hear_slots ∙ rw (p, X.stored_name n (leaves R h), hears_heard w, f, meant, i, f);
       wrote = rw (hear_out, p, X.stored_name n (leaves R h), hears_heard w, f, meant, i) (simp append-nil);
       knows = rw (f, meant, i) (λ k. s ∙ sym (X.settles_meant g c.event ∙ X.settings_unheard n g c.event (rw (meant, i))));
     }
-    grows_hearing h (some e) f i s p = record {
+    grows_hearing h (Some e) f i s p = record {
       now = hear_slots ∙ rw (p, X.stored_name n (leaves R h), hears_heard w, f, meant, i, ← s, X.hears_told n h c.time e, content_cond);
       wrote = rw (hear_out, p, X.stored_name n (leaves R h), hears_heard w, f, meant, i, ← s, X.hears_told n h c.time e, map_append) (simp append-nil);
       knows = rw (f, meant, i) (λ k. X.settings_heard n (in_force R h) c.event e (rw (meant, i)) ∙ rw (s, X.settles_meant g c.event));
     }
 
-    grows_last : (h : H) (b : Bool) → ended R h ≡ b → Knows g (some h) → named' os ≡ left_of (some h) → Grows g c w (some h) os
+    grows_last : (h : H) (b : Bool) → ended R h ≡ b → Knows g (Some h) → named' os ≡ left_of (Some h) → Grows g c w (Some h) os
     grows_last h true f s p =
         let e : named' os ≡ [] = p ∙ rw f in
         record {
@@ -156,8 +156,8 @@ module _ {G N S E W C B : Type 0} (R : Rules S E) (D : Meaning G N S E W) (F : F
     grows_last h false f s p = grows_hearing h (heard R D n w) f refl (s f) (p ∙ rw f)
 
     grows : (o : Option H) → Knows g o → named' os ≡ left_of o → Grows g c w o os
-    grows none s p = record { now = hear_slots ∙ rw p; wrote = rw (hear_out, p); knows = tt }
-    grows (some h) s p = grows_last h (ended R h) refl s p
+    grows None s p = record { now = hear_slots ∙ rw p; wrote = rw (hear_out, p); knows = tt }
+    grows (Some h) s p = grows_last h (ended R h) refl s p
 
   -- ---- one accepted event
 
@@ -188,24 +188,24 @@ module _ {G N S E W C B : Type 0} (R : Rules S E) (D : Meaning G N S E W) (F : F
       }
 
   -- an activation is heard by none
-  unheard : (c : Accepted W) → heard R D n (D.says c.event) ≡ none → (hs : List H) → map (grow' c) hs ≡ hs
+  unheard : (c : Accepted W) → heard R D n (D.says c.event) ≡ None → (hs : List H) → map (grow' c) hs ≡ hs
   unheard c i [] = refl
   unheard c i (h ∷ hs) = rw (i, cond_same, unheard c i hs)
 
-  last_ended : (b : Bool) (h : H) → ended R h ≡ b → left_of (some h) ≡ [] → ended R h ≡ true
+  last_ended : (b : Bool) (h : H) → ended R h ≡ b → left_of (Some h) ≡ [] → ended R h ≡ true
   last_ended true h f p = f
   last_ended false h f p = absurd (cons≢nil (rw f at p))
 
   cur_ended : (o : Option H) → left_of o ≡ [] → All Ended (opt o)
-  cur_ended none p = tt
-  cur_ended (some h) p = (last_ended (ended R h) h refl p, tt)
+  cur_ended None p = tt
+  cur_ended (Some h) p = (last_ended (ended R h) h refl p, tt)
 
   next_activation : (g : G) (c : Accepted W) (m : N) (s : G → S) (os : List (Option C)) (hs : List H) (x : Bool) → D.same n m ≡ x
       → D.says c.event ≡ activates m s
       → admits K (activates m s) os ≡ true → Tracks g os hs
       → Next g (K.settles g c.event) os (fill (K.opening c.time m (s g)) os) hs (map (grow' c) hs ++ cond x (start c.time (s g) ∷ []) []) []
   next_activation g c m s os hs false i z a k =
-      let u : heard R D n (D.says c.event) ≡ none = rw z in
+      let u : heard R D n (D.says c.event) ≡ None = rw z in
       let e : map (grow' c) hs ++ [] ≡ hs = rw (unheard c u hs, append-nil) in
       record {
         tracks = record {
@@ -227,7 +227,7 @@ module _ {G N S E W C B : Type 0} (R : Rules S E) (D : Meaning G N S E W) (F : F
       record {
         tracks = record {
           olds = hs;
-          cur = some (start c.time (s g));
+          cur = Some (start c.time (s g));
           split = e;
           done = all;
           knows = λ f. X.settings_activated g c.event m s z ∙ sym (X.settles_meant g c.event);
@@ -252,7 +252,7 @@ module _ {G N S E W C B : Type 0} (R : Rules S E) (D : Meaning G N S E W) (F : F
     sum hs = sum_of (λ h. total counts h) hs
 
     -- an event that nobody of the name hears
-    sum_unheard : (c : Accepted W) (hs : List H) → heard R D n (D.says c.event) ≡ none → sum (map (grow' c) hs) ≡ sum hs
+    sum_unheard : (c : Accepted W) (hs : List H) → heard R D n (D.says c.event) ≡ None → sum (map (grow' c) hs) ≡ sum hs
     sum_unheard c hs u = rw (unheard c u hs)
 
     -- an event that all hear
@@ -267,18 +267,18 @@ module _ {G N S E W C B : Type 0} (R : Rules S E) (D : Meaning G N S E W) (F : F
         omega (arith, a, sum_all c e hs z)
 
     -- an event that names n: the last history is there to hear it
-    sum_last : (c : Accepted W) (e : E) (h : H) (b : Bool) → ended R h ≡ b → heard R D n (D.says c.event) ≡ some e
-        → (left_of (some h) ≡ [] → ⊥)
+    sum_last : (c : Accepted W) (e : E) (h : H) (b : Bool) → ended R h ≡ b → heard R D n (D.says c.event) ≡ Some e
+        → (left_of (Some h) ≡ [] → ⊥)
         → total counts (grow' c h) ≡ total counts h + counts e
     sum_last c e h true f u p = absurd (p (rw f))
     sum_last c e h false f u p = rw (f, u)
 
-    sum_cur : (c : Accepted W) (e : E) (o : Option H) → heard R D n (D.says c.event) ≡ some e → (left_of o ≡ [] → ⊥)
+    sum_cur : (c : Accepted W) (e : E) (o : Option H) → heard R D n (D.says c.event) ≡ Some e → (left_of o ≡ [] → ⊥)
         → sum (opt (grew c o)) ≡ sum (opt o) + counts e
-    sum_cur c e none u p = absurd (p refl)
-    sum_cur c e (some h) u p = omega (arith, sum_last c e h (ended R h) refl u p)
+    sum_cur c e None u p = absurd (p refl)
+    sum_cur c e (Some h) u p = omega (arith, sum_last c e h (ended R h) refl u p)
 
-    sum_named : (g : G) (c : Accepted W) (e : E) (os : List (Option C)) (hs : List H) → heard R D n (D.says c.event) ≡ some e
+    sum_named : (g : G) (c : Accepted W) (e : E) (os : List (Option C)) (hs : List H) → heard R D n (D.says c.event) ≡ Some e
         → active K n os ≡ true → Tracks g os hs
         → sum (map (grow' c) hs) ≡ sum hs + counts e
     sum_named g c e os hs u a k =
@@ -297,7 +297,7 @@ module _ {G N S E W C B : Type 0} (R : Rules S E) (D : Meaning G N S E W) (F : F
     sum_tells g c m e os hs true s z a k = sum_named g c e os hs (rw (z, s)) (rw ((X.same_exactly n m).0 s) a) k
     sum_tells g c m e os hs false s z a k = omega (arith, sum_unheard c hs (rw (z, s)))
 
-    sum_activation : (c : Accepted W) (t : ℕ) (s : S) (hs : List H) (b : Bool) → heard R D n (D.says c.event) ≡ none
+    sum_activation : (c : Accepted W) (t : ℕ) (s : S) (hs : List H) (b : Bool) → heard R D n (D.says c.event) ≡ None
         → sum (map (grow' c) hs ++ cond b (start t s ∷ []) []) ≡ sum hs + 0
     sum_activation c t s hs true u = omega (arith, sum_unheard c hs u, sum_of_append (λ h. total counts h) (map (grow' c) hs) (start t s ∷ []))
     sum_activation c t s hs false u = omega (arith, sum_unheard c hs u, sum_of_append (λ h. total counts h) (map (grow' c) hs) [])
@@ -344,8 +344,8 @@ module _ {G N S E W C B : Type 0} (R : Rules S E) (D : Meaning G N S E W) (F : F
   earlier_cons h (x ∷ xs) p q = (p, q)
 
   earlier : (olds : List H) (o : Option H) → All Ended olds → Earlier Ended (olds ++ opt o)
-  earlier [] none p = tt
-  earlier [] (some h) p = tt
+  earlier [] None p = tt
+  earlier [] (Some h) p = tt
   earlier (h ∷ hs) o p = earlier_cons h (hs ++ opt o) p.0 (earlier hs o p.1)
 
   -- From a table with no n in it: what was written under n, what is stored under n, and that each history but the last has ended.
@@ -359,7 +359,7 @@ module _ {G N S E W C B : Type 0} (R : Rules S E) (D : Meaning G N S E W) (F : F
   pub charged : (g : G) (os : List (Option C)) (cs : List (Accepted W)) → named K name_of n os ≡ [] → Admitted K g os cs
       → Charged g os cs
   charged g os cs e a =
-      let none_yet : Tracks g os [] = record { olds = []; cur = none; split = refl; done = tt; knows = tt; now = e } in
+      let none_yet : Tracks g os [] = record { olds = []; cur = None; split = refl; done = tt; knows = tt; now = e } in
       let i = agrees cs g os [] a none_yet in
       let f = gathered_all cs g [] in
       let k = i.tracks in

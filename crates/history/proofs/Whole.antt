@@ -4,7 +4,7 @@
 use Prim.Native.Nat.{ℕ, ◌≤◌}
 use mathlib.Core.Path.{◌≡◌, refl, sym, ap, ◌∙◌}
 use mathlib.Core.List.{List, [], ◌∷◌, ◌++◌, map, append_assoc, append-nil}
-use mathlib.Core.Option.{Option, none, some}
+use Rattle.std.specs.Prelude.{Option, None, Some}
 use native.Mathlib.Omega.{arith}
 use Rattle.history.specs.Lists.{each, All, if_any, is_some, NotFalling}
 use Rattle.history.specs.History.{History, start, ◌▸◌∶◌, collect, events, began, began_with, latest, InOrder}
@@ -17,9 +17,9 @@ use Rattle.history.proofs.Records.{in_force_open, in_force_running, open_open, r
 module _ {S E : Type 0} (R : Rules S E) where
   -- ---- what holds of each stretch, and of each record
 
-  all_ifAny : {A : Type 0} (P : A → Type 0) (o : Option ℕ) (f : ℕ → A) → ((k : ℕ) → o ≡ some k → P (f k)) → All P (if_any o f)
-  all_ifAny P none f holds = tt
-  all_ifAny P (some k) f holds = (holds k refl, tt)
+  all_ifAny : {A : Type 0} (P : A → Type 0) (o : Option ℕ) (f : ℕ → A) → ((k : ℕ) → o ≡ Some k → P (f k)) → All P (if_any o f)
+  all_ifAny P None f holds = tt
+  all_ifAny P (Some k) f holds = (holds k refl, tt)
 
   -- Q is what the history has all along.
   module _ (Q : History S E → Type 0) (earlier : (h : History S E) (t : ℕ) (e : E) → Q (h ▸ t ∶ e) → Q h) where
@@ -36,11 +36,11 @@ module _ {S E : Type 0} (R : Rules S E) where
         (λ h t e q. all_ifAny P (cuts R h t e) (λ k. record { ran = running R h; time = t; event = e; condition = k }) (λ k p. holds h t e k q))
 
     pub all_records_while : (P : Record S E → Type 0)
-        → ((h : History S E) (t : ℕ) (e : E) (c : ℕ) → Q (h ▸ t ∶ e) → closes R h t e ≡ some c → P (record_at R h t e c))
+        → ((h : History S E) (t : ℕ) (e : E) (c : ℕ) → Q (h ▸ t ∶ e) → closes R h t e ≡ Some c → P (record_at R h t e c))
         → (h : History S E) → Q h → All P (records R h)
     all_records_while P holds = all_collect P (records_at R) (λ h t e q. all_ifAny P (closes R h t e) (record_at R h t e) (λ c p. holds h t e c q p))
 
-  pub all_records : (P : Record S E → Type 0) → ((h : History S E) (t : ℕ) (e : E) (c : ℕ) → closes R h t e ≡ some c → P (record_at R h t e c))
+  pub all_records : (P : Record S E → Type 0) → ((h : History S E) (t : ℕ) (e : E) (c : ℕ) → closes R h t e ≡ Some c → P (record_at R h t e c))
       → (h : History S E) → All P (records R h)
   all_records P holds h = all_records_while (λ h. Unit {0}) (λ h t e q. tt) P (λ h t e c q p. holds h t e c p) h tt
 
@@ -49,8 +49,8 @@ module _ {S E : Type 0} (R : Rules S E) where
   whole_at : (o k : Option ℕ) (r : History S E) (t : ℕ) (e : E) (x : List (Stretch S E)) (s : S)
       → each (λ (y : Record S E). events (entire y)) (if_any o (λ c. record { number = k; cause = c; past = r; time = t; event = e; stretches = x }))
       ++ events (or_anew o r t e s) ≡ events r ++ ((t, e) ∷ [])
-  whole_at none k r t e x s = refl
-  whole_at (some c) k r t e x s = simp append-nil
+  whole_at None k r t e x s = refl
+  whole_at (Some c) k r t e x s = simp append-nil
 
   pub partition : (h : History S E) → each (λ r. events (entire r)) (records R h) ++ events (since_opening R h) ≡ events h
   partition (start t s) = refl
@@ -66,7 +66,7 @@ module _ {S E : Type 0} (R : Rules S E) where
   -- ---- a record's stretches make up the record
 
   -- where it closes, nothing runs on
-  stops : (h : History S E) (t : ℕ) (e : E) (c : ℕ) → closes R h t e ≡ some c
+  stops : (h : History S E) (t : ℕ) (e : E) (c : ℕ) → closes R h t e ≡ Some c
       → running R (since_opening R h ▸ t ∶ e) ≡ start t (R.after (in_force R (since_opening R h)) e)
   stops h t e c p = rw (open_open R h, p)
 
@@ -78,8 +78,8 @@ module _ {S E : Type 0} (R : Rules S E) where
 
   cut_time : (o : Option ℕ) (p : History S E) (k t : ℕ) (e : E) → k ≤ t
       → NotFalling k (map (λ (x : Stretch S E). x.time) (if_any o (λ c. record { ran = p; time = t; event = e; condition = c }))) t
-  cut_time none p k t e q = q
-  cut_time (some c) p k t e q = (q, omega arith)
+  cut_time None p k t e q = q
+  cut_time (Some c) p k t e q = (q, omega arith)
 
   times : (h : History S E) → InOrder h → NotFalling (began h) (map (λ x. x.time) (stretches R h)) (latest h)
   times (start t s) p = omega arith
@@ -93,8 +93,8 @@ module _ {S E : Type 0} (R : Rules S E) where
     until : latest r ≡ t
 
   anew_order : (o : Option ℕ) (r : History S E) (k t : ℕ) (e : E) (s : S) → OpenInOrder r k → k ≤ t → OpenInOrder (or_anew o r t e s) t
-  anew_order none r k t e s p q = record { order = ((omega (arith, p.until)), p.order); until = refl }
-  anew_order (some c) r k t e s p q = record { order = tt; until = refl }
+  anew_order None r k t e s p q = record { order = ((omega (arith, p.until)), p.order); until = refl }
+  anew_order (Some c) r k t e s p q = record { order = tt; until = refl }
 
   open_order : (h : History S E) → InOrder h → OpenInOrder (since_opening R h) (latest h)
   open_order (start t s) p = record { order = tt; until = refl }

@@ -1,7 +1,7 @@
 -- Demand 3 of one call: what a call writes under a name, after any calls, is exactly what the events that it applied close in the
 -- histories of that name. A call may apply any number of events.
 use Rattle.std.specs.Prelude.{ℕ, ◌≡◌, cond, List, [], ◌∷◌, ◌++◌, map}
-use Rattle.std.proofs.Math.Option.{Option, none, some}
+use Rattle.std.specs.Prelude.{Option, None, Some}
 use Rattle.history.specs.Lists.{each}
 use Rattle.history.specs.History.{History}
 use Rattle.history.specs.Records.{Rules, Record, records_at, records, ended}
@@ -12,15 +12,15 @@ use Rattle.history.specs.Demand.{Forms, Sight, under, histories_of}
 module _ {S E : Type 0} (R : Rules S E) where
   -- The open one of a name's histories, if there is one: the last, unless a release has ended it.
   abbrev pub open_one : List (History S E) → Option (History S E)
-  open_one [] = none
-  open_one (h ∷ []) = cond (ended R h) none (some h)
+  open_one [] = None
+  open_one (h ∷ []) = cond (ended R h) None (Some h)
   open_one (h ∷ (x ∷ hs)) = open_one (x ∷ hs)
 
   -- The records that close by what is heard at t: none where no history is open, and none where nothing is heard.
   abbrev pub closes_in : Option (History S E) → ℕ → Option E → List (Record S E)
-  closes_in none t o = []
-  closes_in (some h) t none = []
-  closes_in (some h) t (some e) = records_at R h t e
+  closes_in None t o = []
+  closes_in (Some h) t None = []
+  closes_in (Some h) t (Some e) = records_at R h t e
 
 module _ {G N S E W : Type 0} (R : Rules S E) (D : Meaning G N S E W) (n : N) where
   -- the records that one more accepted event closes in h, and those that accepted events close in it one after another

@@ -1,6 +1,6 @@
 -- Demand 3: every octet once.
 use Rattle.std.specs.Prelude.{ℕ, zero, suc, ◌+◌, ◌≡◌, ◌↔◌, Bool, true, false, cond, List, [], ◌∷◌, ◌++◌, map, length}
-use Rattle.std.proofs.Math.Option.{Option, none, some}
+use Rattle.std.specs.Prelude.{Option, None, Some}
 use Rattle.history.specs.Lists.{each, sum_of, All, Earlier, NotFalling}
 use Rattle.history.specs.History.{History, ◌▸◌∶◌, events, began, began_with, latest, total, InOrder}
 use Rattle.history.specs.Records.{
@@ -28,13 +28,13 @@ use Rattle.history.specs.Run.{Machine, run, all_written, log}
 -- 1, 2, 3 .. k
 abbrev pub up_to : ℕ → List (Option ℕ)
 up_to zero = []
-up_to (suc k) = up_to k ++ (some (suc k) ∷ [])
+up_to (suc k) = up_to k ++ (Some (suc k) ∷ [])
 
 -- The numbers of k closed records, by whether a release has ended the history: a sole record has none.
 abbrev pub numbers : Bool → ℕ → List (Option ℕ)
 numbers false k = up_to k
 numbers true zero = []
-numbers true (suc zero) = none ∷ []
+numbers true (suc zero) = None ∷ []
 numbers true (suc (suc k)) = up_to (suc (suc k))
 
 -- Hearing e at t right after h closes a record, with this cause.
@@ -63,7 +63,7 @@ pub record OnceEach {S E : Type 0} (R : Rules S E) (h : History S E) : Type 0 wh
   -- The open record has a finished stretch for each of its changes.
   pub changed : changes R (since_opening R h) ≡ length (stretches R (since_opening R h))
   -- Whatever is heard next closes a record exactly when a closing condition holds, read since the last opening.
-  pub exactly : (t : ℕ) (e : E) (cause : ℕ) → ClosesNow R h t e cause ↔ (closes R h t e ≡ some cause)
+  pub exactly : (t : ℕ) (e : E) (cause : ℕ) → ClosesNow R h t e cause ↔ (closes R h t e ≡ Some cause)
 
 -- Times in a history that is in order: those of its stretches, and so of its containers, do not fall.
 pub record InTime {S E : Type 0} (R : Rules S E) (h : History S E) : Type 0 where
@@ -103,8 +103,8 @@ under same name_of n (r ∷ rs) = cond (same n (name_of r)) (r ∷ under same na
 
 abbrev pub held : {C : Type 0} → List (Option C) → List C
 held [] = []
-held (none ∷ os) = held os
-held (some c ∷ os) = c ∷ held os
+held (None ∷ os) = held os
+held (Some c ∷ os) = c ∷ held os
 
 module _ {G N S E W C B M I O : Type 0} (R : Rules S E) (D : Meaning G N S E W) (F : Forms N S E C B) (L : Sight N C B M O)
     (X : Machine M I W O) (fresh : M) (settings : G) where

@@ -2,7 +2,7 @@
 -- 5 with s in force, heard a at 7 and then b at 9. The history of an activation is one; the past of its open record, from the
 -- opening on, is one again, and so is a stretch. S is what is in force for the subject, E what it hears.
 use Rattle.std.specs.Prelude.{ℕ, ◌+◌, ◌≤◌, List, [], ◌∷◌, ◌++◌}
-use Rattle.std.proofs.Math.Option.{Option}
+use Rattle.std.specs.Prelude.{Option}
 use Rattle.history.specs.Lists.{count}
 
 infixl 60 ◌▸◌∶◌

@@ -1,6 +1,6 @@
 -- Short words for lists and for what may be missing.
 use Rattle.std.specs.Prelude.{ℕ, suc, ◌+◌, ◌≤◌, Bool, true, false, List, [], ◌∷◌, ◌++◌}
-use Rattle.std.proofs.Math.Option.{Option, none, some}
+use Rattle.std.specs.Prelude.{Option, None, Some}
 
 -- What the elements of a list yield, in order.
 abbrev pub each : {A B : Type 0} → (A → List B) → List A → List B
@@ -24,26 +24,26 @@ Earlier P (a ∷ (b ∷ rest)) = P a × Earlier P (b ∷ rest)
 
 -- One thing, if there is a number for it.
 abbrev pub if_any : {A : Type 0} → Option ℕ → (ℕ → A) → List A
-if_any none f = []
-if_any (some k) f = f k ∷ []
+if_any None f = []
+if_any (Some k) f = f k ∷ []
 
 abbrev pub is_some : {A : Type 0} → Option A → Bool
-is_some none = false
-is_some (some a) = true
+is_some None = false
+is_some (Some a) = true
 
 -- The first if there is one, and else the second.
 abbrev pub or_else : Option ℕ → Option ℕ → Option ℕ
-or_else none o = o
-or_else (some k) o = some k
+or_else None o = o
+or_else (Some k) o = Some k
 
 -- k, and one more if there is something.
 abbrev pub count : Option ℕ → ℕ → ℕ
-count none k = k
-count (some o) k = suc k
+count None k = k
+count (Some o) k = suc k
 
 abbrev pub test : Bool → ℕ → Option ℕ
-test true k = some k
-test false k = none
+test true k = Some k
+test false k = None
 
 -- Numbers that do not fall, none of them below k or above l: times, from an opening to a closing.
 abbrev pub NotFalling : ℕ → List ℕ → ℕ → Type 0

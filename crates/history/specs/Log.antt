@@ -1,6 +1,6 @@
 -- The histories of a name in a log: the list of the accepted events.
 use Rattle.std.specs.Prelude.{ℕ, ◌+◌, Bool, cond, List, [], ◌∷◌, ◌++◌, map}
-use Rattle.std.proofs.Math.Option.{Option, none, some}
+use Rattle.std.specs.Prelude.{Option, None, Some}
 use Rattle.history.specs.History.{History, start, ◌▸◌∶◌}
 use Rattle.history.specs.Records.{Rules, ended}
 
@@ -29,16 +29,16 @@ pub record Meaning (G N S E W : Type 0) : Type 0 where
 
 -- h, grown by what was heard, if anything was.
 abbrev pub grown : {S E : Type 0} → History S E → ℕ → Option E → History S E
-grown h t none = h
-grown h t (some e) = h ▸ t ∶ e
+grown h t None = h
+grown h t (Some e) = h ▸ t ∶ e
 
 module _ {G N S E W : Type 0} (R : Rules S E) (D : Meaning G N S E W) (n : N) where
   -- What of an event is in a history of n: an event that names n, and one that every subject hears.
   abbrev pub heard : Said G N S E → Option E
-  heard (activates m s) = none
-  heard (tells m e) = cond (D.same n m) (some e) none
-  heard (tells_all e) = some e
-  heard nothing = none
+  heard (activates m s) = None
+  heard (tells m e) = cond (D.same n m) (Some e) None
+  heard (tells_all e) = Some e
+  heard nothing = None
 
   -- h after one more accepted event: nothing is heard after the release.
   abbrev pub grow : Accepted W → History S E → History S E

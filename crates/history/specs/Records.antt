@@ -1,6 +1,6 @@
 -- How a history falls into stretches by its cuts, and into records by its closings: said once, for every kind of subject.
 use Rattle.std.specs.Prelude.{ℕ, zero, suc, Bool, true, false, List}
-use Rattle.std.proofs.Math.Option.{Option, none, some}
+use Rattle.std.specs.Prelude.{Option, None, Some}
 use Rattle.history.specs.Lists.{if_any, is_some, or_else, count}
 use Rattle.history.specs.History.{History, start, ◌▸◌∶◌, collect, standing, tally}
 
@@ -49,14 +49,14 @@ entire r = r.past ▸ r.time ∶ r.event
 
 -- h goes on with e at t, unless e ends it: then a new one starts at t, with s in force.
 abbrev pub or_anew : {S E : Type 0} → Option ℕ → History S E → ℕ → E → S → History S E
-or_anew none h t e s = h ▸ t ∶ e
-or_anew (some k) h t e s = start t s
+or_anew None h t e s = h ▸ t ∶ e
+or_anew (Some k) h t e s = start t s
 
 -- The number of a record that closes after k others: 1 for the first. One that a release closes after none has no number.
 abbrev pub number : ℕ → Bool → Option ℕ
-number k false = some (suc k)
-number zero true = none
-number (suc k) true = some (suc (suc k))
+number k false = Some (suc k)
+number zero true = None
+number (suc k) true = Some (suc (suc k))
 
 module _ {S E : Type 0} (R : Rules S E) where
   abbrev pub in_force : History S E → S
@@ -81,8 +81,8 @@ module _ {S E : Type 0} (R : Rules S E) where
 
   -- The condition with which an event cuts, by the cause if it closes, and by the change if it is one: once at most.
   abbrev pub condition : Option ℕ → Option ℕ → Option ℕ
-  condition none change = change
-  condition (some cause) change = some (R.last change)
+  condition None change = change
+  condition (Some cause) change = Some (R.last change)
 
   -- The condition with which e, heard at t right after h, cuts.
   abbrev pub cuts : History S E → ℕ → E → Option ℕ

@@ -1,13 +1,13 @@
 -- A table of slots as a node stores it: an array of one kind of subject, in which each slot is active or free. Which slot bears a name,
 -- whether names are distinct, and what each slot does; said once for every kind of subject.
 use Rattle.std.specs.Prelude.{Bool, true, not, cond, ◌&&◌, ◌||◌, List, [], ◌∷◌, ◌++◌, ℕ, zero, suc}
-use Rattle.std.proofs.Math.Option.{Option, none, some}
+use Rattle.std.specs.Prelude.{Option, None, Some}
 use Rattle.history.specs.Table.{Handling}
 
 -- The first place at which a test passes, where the list begins at place i.
 unfoldable pub first_from : {A : Type 0} → (A → Bool) → ℕ → List A → Option ℕ
-first_from p i [] = none
-first_from p i (a ∷ rest) = cond (p a) (some i) (first_from p (suc i) rest)
+first_from p i [] = None
+first_from p i (a ∷ rest) = cond (p a) (Some i) (first_from p (suc i) rest)
 
 -- ---- names
 
@@ -39,11 +39,11 @@ through D f = record { active = λ c. D.active (f c); name = λ c. D.name (f c);
 -- ---- a slot of the array as a slot of the table, and back: blank is what stands in a free one
 
 abbrev pub seen : {C : Type 0} → (C → Bool) → C → Option C
-seen active c = cond (active c) (some c) none
+seen active c = cond (active c) (Some c) None
 
 abbrev pub stood : {C : Type 0} → C → Option C → C
-stood blank none = blank
-stood blank (some c) = c
+stood blank None = blank
+stood blank (Some c) = c
 
 -- ---- a slot whose subject, if it has one, hears e at t
 

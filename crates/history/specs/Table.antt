@@ -1,7 +1,7 @@
 -- A node's table of slots for one kind of subject, and what accepted events do to it: a named event is heard by the subject of
 -- that name, some events by all of them in slot order, an activation fills the lowest free slot, a release frees its slot.
 use Rattle.std.specs.Prelude.{ℕ, Bool, true, false, not, cond, ◌||◌, List, [], ◌∷◌, ◌++◌}
-use Rattle.std.proofs.Math.Option.{Option, none, some}
+use Rattle.std.specs.Prelude.{Option, None, Some}
 use Rattle.history.specs.Log.{Accepted, Said, activates, tells, tells_all, nothing}
 
 -- What hearing does to a subject: what is stored after it, if anything, and the records that it closes.
@@ -22,21 +22,21 @@ pub record Handling (G N S E W C B : Type 0) : Type 0 where
 -- The lowest free slot is filled.
 abbrev pub fill : {C : Type 0} → C → List (Option C) → List (Option C)
 fill c [] = []
-fill c (none ∷ os) = some c ∷ os
-fill c (some b ∷ os) = some b ∷ fill c os
+fill c (None ∷ os) = Some c ∷ os
+fill c (Some b ∷ os) = Some b ∷ fill c os
 
 -- whether a slot is free
 abbrev pub free : {C : Type 0} → List (Option C) → Bool
 free [] = false
-free (none ∷ os) = true
-free (some c ∷ os) = free os
+free (None ∷ os) = true
+free (Some c ∷ os) = free os
 
 module _ {G N S E W C B : Type 0} (K : Handling G N S E W C B) where
   -- whether a name is active
   abbrev pub active : N → List (Option C) → Bool
   active n [] = false
-  active n (none ∷ os) = active n os
-  active n (some c ∷ os) = K.same n (K.name c) || active n os
+  active n (None ∷ os) = active n os
+  active n (Some c ∷ os) = K.same n (K.name c) || active n os
 
   -- of what an event says: it is for a name that is not active; it activates a name that is active; it activates one, and no slot is free
   unfoldable pub not_active : Said G N S E → List (Option C) → Bool
@@ -59,18 +59,18 @@ module _ {G N S E W C B : Type 0} (K : Handling G N S E W C B) where
 
   -- what the subject in a slot hears
   abbrev pub hears : N → Said G N S E → Option E
-  hears n (activates m s) = none
-  hears n (tells m e) = cond (K.same n m) (some e) none
-  hears n (tells_all e) = some e
-  hears n nothing = none
+  hears n (activates m s) = None
+  hears n (tells m e) = cond (K.same n m) (Some e) None
+  hears n (tells_all e) = Some e
+  hears n nothing = None
 
   abbrev pub listen : G → C → ℕ → Option E → Step C B
-  listen g c t none = record { next = some c; out = [] }
-  listen g c t (some e) = K.hear g c t e
+  listen g c t None = record { next = Some c; out = [] }
+  listen g c t (Some e) = K.hear g c t e
 
   abbrev pub slot : G → ℕ → Said G N S E → Option C → Step C B
-  slot g t w none = record { next = none; out = [] }
-  slot g t w (some c) = listen g c t (hears (K.name c) w)
+  slot g t w None = record { next = None; out = [] }
+  slot g t w (Some c) = listen g c t (hears (K.name c) w)
 
   abbrev pub slots_hear : G → ℕ → Said G N S E → List (Option C) → List (Option C)
   slots_hear g t w [] = []

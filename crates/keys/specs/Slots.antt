@@ -1,6 +1,6 @@
 -- The names of a table's slots, each a number.
 use Rattle.std.specs.Prelude.{Bool, not, List, ℕ, eqb}
-use Rattle.std.proofs.Math.Option.{Option, none, some}
+use Rattle.std.specs.Prelude.{Option, None, Some}
 use Rattle.history.specs.Slots as S
 use Rattle.keys.specs.declared.Slot.{Slot}
 use Rattle.keys.specs.declared.Found.{Found}
@@ -22,8 +22,8 @@ bears k s = S.bears naming k s
 
 -- a place, if there is one
 abbrev pub found_at : Option ℕ → Found
-found_at none = Nothing
-found_at (some i) = At i
+found_at None = Nothing
+found_at (Some i) = At i
 
 -- the first place at which a test passes, where the list begins at place i
 abbrev pub first_from : (Slot → Bool) → ℕ → List Slot → Found

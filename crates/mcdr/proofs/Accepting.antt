@@ -1,7 +1,7 @@
 -- What the reader of a record finds: all of the octets under A2, the fields, the rules.
 use mathlib.Core.Path.{◌≡◌, refl, sym, ap, ◌∙◌}
 use mathlib.Core.Bool.{Bool, true, false, ◌&&◌}
-use mathlib.Core.Option.{Option, none, some}
+use Rattle.std.specs.Prelude.{Option, None, Some}
 use mathlib.Core.List.{List, [], ◌∷◌, ◌++◌}
 use Prim.Native.Nat.{ℕ, zero, suc, ◌^◌, ◌-◌, ◌≤◌, ◌<◌}
 use native.Mathlib.Omega.{arith}
@@ -36,13 +36,13 @@ use Rattle.mcdr.proofs.Views.{shape_is}
 -- ---- the value under A2
 
 -- empty contents are no record
-inside_hollow : inside.dec [] ≡ none
+inside_hollow : inside.dec [] ≡ None
 unfolding inside body first tlv_dec
 inside_hollow = refl
 
 -- what was answered of it
 module _ {s : List ℕ} {from to : ℕ} (l : Lies s 0 record_tag from to) where
-  pub record_not : (to ≡ length s → ⊥) → mcdr.dec s ≡ none
+  pub record_not : (to ≡ length s → ⊥) → mcdr.dec s ≡ None
   unfolding mcdr
   record_not n = alone_not_all record_tag inside l n
 
@@ -53,8 +53,8 @@ module _ {s : List ℕ} {from to : ℕ} (l : Lies s 0 record_tag from to) where
 -- ---- what was read has the shape of a record
 
 node_most : (o : Option (List ℕ)) → row_good NodeId o → length (or_none o) ≤ 20
-node_most none g = omega arith
-node_most (some x) g = g.0
+node_most None g = omega arith
+node_most (Some x) g = g.0
 
 none_placed : (n : ℕ) → all_places_ok (no_changes n) ≡ true
 unfolding all_places_ok no_changes place_ok
@@ -69,12 +69,12 @@ all_placed (c ∷ cs) n t =
     rw (T_true (place_ok c.place) p, all_placed cs n (and_r (change_ok c) (each_ok cs) t))
 
 list_most : (o : Option (List Change)) → row_good Changes o → length (or_none o) ≤ 15
-list_most none g = omega arith
-list_most (some cs) g = (good_each cs g).2
+list_most None g = omega arith
+list_most (Some cs) g = (good_each cs g).2
 
 list_placed : (o : Option (List Change)) → row_good Changes o → all_places_ok (padded (or_none o)) ≡ true
-list_placed none g = none_placed (15 - 0)
-list_placed (some cs) g = all_placed cs (15 - length cs) (good_each cs g).0
+list_placed None g = none_placed (15 - 0)
+list_placed (Some cs) g = all_placed cs (15 - length cs) (good_each cs g).0
 
 good_shaped : (w : Fields) → body.good w → (to_record w).place.rac < 256 → shaped (to_record w) ≡ true
 unfolding body to_record
@@ -96,7 +96,7 @@ module _ (s : List ℕ) {w : Wire} (v : Wired s w) where
   abbrev asked : Bool
   asked = w.ok && within w.cdr
 
-  wire_lost : w.ok ≡ false → inside.dec s ≡ none
+  wire_lost : w.ok ≡ false → inside.dec s ≡ None
   unfolding inside
   wire_lost e = rw (v.no e)
 
@@ -112,19 +112,19 @@ module _ (s : List ℕ) {w : Wire} (v : Wired s w) where
   wire_is : inside.dec s ≡ guard asked w.cdr
   wire_is = by w.ok (λ y. wire_read y ∙ rw y) (λ n. wire_lost n ∙ rw n)
 
-  pub wire_yes : asked ≡ true → inside.dec s ≡ some w.cdr
+  pub wire_yes : asked ≡ true → inside.dec s ≡ Some w.cdr
   wire_yes y = wire_is ∙ rw y
 
-  pub wire_no : asked ≡ false → inside.dec s ≡ none
+  pub wire_no : asked ≡ false → inside.dec s ≡ None
   wire_no n = wire_is ∙ rw n
 
 -- ---- the answers
 
 module _ (s : List ℕ) where
-  pub reads_record : {r : MmRecord} → mcdr.dec s ≡ some r → ReadsRecord s 0 r
+  pub reads_record : {r : MmRecord} → mcdr.dec s ≡ Some r → ReadsRecord s 0 r
   unfolding read_of
   reads_record e = record { is = rw e }
 
-  pub reads_nothing : {a : ℕ} {r : MmRecord} → mcdr.dec s ≡ none → (a ≡ 20) × (r ≡ blank_record) → ReadsRecord s a r
+  pub reads_nothing : {a : ℕ} {r : MmRecord} → mcdr.dec s ≡ None → (a ≡ 20) × (r ≡ blank_record) → ReadsRecord s a r
   unfolding read_of
   reads_nothing d (e, f) = record { is = rw d (λ i. (e i, f i)) }

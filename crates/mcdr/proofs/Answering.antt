@@ -1,7 +1,7 @@
 -- The answers of the test of the rules and of the writer.
 use mathlib.Core.Path.{◌≡◌, ap, ◌∙◌}
 use mathlib.Core.Bool.{Bool, true, false, ◌&&◌}
-use mathlib.Core.Option.{Option, some}
+use Rattle.std.specs.Prelude.{Option, Some}
 use mathlib.Core.List.{List}
 use Prim.Native.Nat.{ℕ}
 use native.Mathlib.Omega.{arith}
@@ -41,11 +41,11 @@ unfolding write_of
 writes_outside r b e = record { is = (answer_outside {x = mcdr.enc r} e).is }
 
 module _ (r : MmRecord) (i : Within r) (h : Held r) where
-  pub octets_form : {x : List ℕ} → x ≡ body.enc (of_record r) → tlv_form record_tag x ≡ some (mcdr.enc r)
+  pub octets_form : {x : List ℕ} → x ≡ body.enc (of_record r) → tlv_form record_tag x ≡ Some (mcdr.enc r)
   octets_form e =
-      ap (tlv_form record_tag) e ∙ tlv_yes record_tag (body.enc (of_record r)) (omega (arith, body_short r i h)) ∙ ap {B = Option (List ℕ)} some (octets_are r)
+      ap (tlv_form record_tag) e ∙ tlv_yes record_tag (body.enc (of_record r)) (omega (arith, body_short r i h)) ∙ ap {B = Option (List ℕ)} Some (octets_are r)
 
-  module _ (w : within r ≡ true) {b b' : List ℕ} {n : ℕ} (p : Puts (some (mcdr.enc r)) b b' 0 n) where
+  module _ (w : within r ≡ true) {b b' : List ℕ} {n : ℕ} (p : Puts (Some (mcdr.enc r)) b b' 0 n) where
     pub writes_full : n ≡ nowhere → Writes r b b' 11 0
     unfolding write_of
     writes_full e = record { is = (answer_full w p (omega (arith, octets_short r i h)) e).is }

@@ -1,6 +1,6 @@
 -- The parts in which the code writes a record's fields make its body.
 use mathlib.Core.Path.{◌≡◌, sym, ap, ◌∙◌}
-use mathlib.Core.Option.{some}
+use Rattle.std.specs.Prelude.{Some}
 use mathlib.Core.List.{List, [], ◌∷◌, ◌++◌, append-nil}
 use Prim.Native.Nat.{ℕ}
 use native.Mathlib.Omega.{arith}
@@ -37,7 +37,7 @@ body_parts r =
 
 -- what the writer of a list asks holds, so it has a form
 pub list_form_lem : (r : MmRecord) → T (within r) → length r.changes ≡ 15
-    → list_form (tag Changes) r.count r.changes ≡ some (row_enc Changes (unless_none (used r)))
+    → list_form (tag Changes) r.count r.changes ≡ Some (row_enc Changes (unless_none (used r)))
 list_form_lem r t l =
     let p = places_rules r (withins r t).list in
     form_row r.count r.changes (omega (arith, p.most)) p.most

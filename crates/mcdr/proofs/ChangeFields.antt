@@ -1,7 +1,7 @@
 -- A change read field by field, and what is written put together.
 use mathlib.Core.Path.{◌≡◌, refl}
 use mathlib.Core.Bool.{true, false, ◌&&◌}
-use mathlib.Core.Option.{none, some}
+use Rattle.std.specs.Prelude.{None, Some}
 use mathlib.Core.List.{List, []}
 use Prim.Native.Nat.{ℕ, ◌^◌, ◌<◌}
 use lib.Dec.{T, eqb}
@@ -44,23 +44,23 @@ module _ {s : List ℕ} {lac rac : ℕ} {time : Stamp} {b c end : ℕ} (l : leng
   fields : Gets s change_table 0 (of_change held) end
   fields = (b, got (row_leaves NewLac) l r₁, (c, got (row_leaves NewRac) l r₂, (end, got (row_leaves Time) l r₃, refl)))
 
-  pub change_yes : (eqb end (length s) && stamp_ok time) ≡ true → change.dec s ≡ some held
+  pub change_yes : (eqb end (length s) && stamp_ok time) ≡ true → change.dec s ≡ Some held
   unfolding change change_ok
   change_yes t = table_yes change_table to_change of_change change_ok s (of_change held) end fields (rw (place_ok_lem at p q) t)
 
-  pub change_no : (eqb end (length s) && stamp_ok time) ≡ false → change.dec s ≡ none
+  pub change_no : (eqb end (length s) && stamp_ok time) ≡ false → change.dec s ≡ None
   unfolding change change_ok
   change_no t = table_no change_table to_change of_change change_ok s (of_change held) end fields (rw (place_ok_lem at p q) t)
 
 -- empty contents are no change
-pub change_hollow : change.dec [] ≡ none
+pub change_hollow : change.dec [] ≡ None
 unfolding change first tlv_dec
 change_hollow = refl
 
 -- ---- written
 
 module _ (c : Change) {b b₁ b₂ b₃ : List ℕ} {f g h : ℕ} (room : length b ≡ 18)
-    (p₁ : Puts (some (row_enc NewLac c.place.lac)) b b₁ 0 f) (p₂ : Puts (some (row_enc NewRac c.place.rac)) b₁ b₂ f g)
+    (p₁ : Puts (Some (row_enc NewLac c.place.lac)) b b₁ 0 f) (p₂ : Puts (Some (row_enc NewRac c.place.rac)) b₁ b₂ f g)
     (p₃ : Puts (guard (stamp_ok c.time) (row_enc Time c.time)) b₂ b₃ g h) (ok : T (stamp_ok c.time)) where
   pub change_filled : Filled (change.enc c) 18 b₃ h
   unfolding change

@@ -2,7 +2,7 @@
 -- missing.
 use mathlib.Core.Path.{◌≡◌, refl, sym, ◌∙◌}
 use mathlib.Core.Bool.{Bool, true, false, ◌&&◌}
-use mathlib.Core.Option.{none, some}
+use Rattle.std.specs.Prelude.{None, Some}
 use mathlib.Core.List.{List, [], ◌∷◌}
 use Prim.Native.Nat.{ℕ, zero, suc, ◌≤◌, ◌<◌}
 use native.Mathlib.Omega.{arith}
@@ -41,7 +41,7 @@ module _ (s : List ℕ) where
   pub list_there : {v : List Change} {n at : ℕ} {z : Change} → SoFar listing s v n at z → at ≡ length s → 1 ≤ n → Listed (changes.dec s) true n v
   list_there f e h = record { is = list_is ∙ list_some listing s 1 f e h; rest = sofar_rest listing s 1 f; count = sofar_count listing s 1 f }
 
-  pub listed_none : {ok : Bool} {n : ℕ} {v : List Change} → changes.dec s ≡ none → (ok ≡ false) × (n ≡ 0) × (v ≡ no_changes 15)
+  pub listed_none : {ok : Bool} {n : ℕ} {v : List Change} → changes.dec s ≡ None → (ok ≡ false) × (n ≡ 0) × (v ≡ no_changes 15)
       → Listed (changes.dec s) ok n v
   listed_none {ok} {n} {v} d (e, f, g) =
       let z : take n v ≡ [] = rw f in
@@ -50,13 +50,13 @@ module _ (s : List ℕ) where
 -- ---- under a tag
 
 -- empty contents are no list
-hollow : changes.dec [] ≡ none
+hollow : changes.dec [] ≡ None
 unfolding changes
 hollow = refl
 
 module _ {s : List ℕ} {at t : ℕ} where
   -- no change, and the place after it
-  pub lists_none : {n : ℕ} {v : List Change} {next m : ℕ} → (n ≡ 0) × (v ≡ no_changes 15) × (next ≡ m) → Reads none (maybe t changes) s at none m
+  pub lists_none : {n : ℕ} {v : List Change} {next m : ℕ} → (n ≡ 0) × (v ≡ no_changes 15) × (next ≡ m) → Reads None (maybe t changes) s at None m
       → ListsAt s at t n v next
   lists_none {n} {v} {next} (e, f, g) r =
       let z : take n v ≡ [] = rw e in
@@ -67,7 +67,7 @@ module _ {s : List ℕ} {at t : ℕ} where
     -- a list
     pub lists_there : ok ≡ true → ListsAt s at t n v to
     lists_there y =
-        let d : changes.dec (cut (from, to) s) ≡ some (take n v) = l.is ∙ rw y in
+        let d : changes.dec (cut (from, to) s) ≡ Some (take n v) = l.is ∙ rw y in
         let some-there = (good_each (take n v) (changes_law.sound (cut (from, to) s) (take n v) d).0).1 in
         record {
           reads = rw (unless_some (take n v) some-there)
@@ -77,7 +77,7 @@ module _ {s : List ℕ} {at t : ℕ} where
         }
 
     -- contents that are no list
-    pub lists_bad : ok ≡ false → Reads none (maybe t changes) s at none nowhere
+    pub lists_bad : ok ≡ false → Reads None (maybe t changes) s at None nowhere
     lists_bad n = maybe_lost t changes s at g h {blank = []} (under_none changes k (l.is ∙ rw n)) refl
 
 -- ---- writing
@@ -106,25 +106,25 @@ list_short cs t h = omega (arith, run_fits listing writing no_change cs t)
 -- ---- how many there may be
 
 module _ (t n : ℕ) (v : List Change) where
-  pub form_none : n ≡ 0 → some [] ≡ list_form t n v
+  pub form_none : n ≡ 0 → Some [] ≡ list_form t n v
   unfolding list_form
   form_none e = rw e
 
-  pub form_many : (n ≡ 0 → ⊥) → 15 < n → none ≡ list_form t n v
+  pub form_many : (n ≡ 0 → ⊥) → 15 < n → None ≡ list_form t n v
   unfolding list_form
   form_many z h = rw (ne_eqb n 0 z, lt-leb n 15 h)
 
-  pub form_bad : (n ≡ 0 → ⊥) → n ≤ 15 → times_ok (take n v) ≡ false → none ≡ list_form t n v
+  pub form_bad : (n ≡ 0 → ⊥) → n ≤ 15 → times_ok (take n v) ≡ false → None ≡ list_form t n v
   unfolding list_form
   form_bad z h e = rw (ne_eqb n 0 z, le-leb n 15 h, e)
 
-  pub form_some : (n ≡ 0 → ⊥) → n ≤ 15 → times_ok (take n v) ≡ true → some (tlv_enc t (changes.enc (take n v))) ≡ list_form t n v
+  pub form_some : (n ≡ 0 → ⊥) → n ≤ 15 → times_ok (take n v) ≡ true → Some (tlv_enc t (changes.enc (take n v))) ≡ list_form t n v
   unfolding list_form
   form_some z h e = rw (ne_eqb n 0 z, le-leb n 15 h, e)
 
 -- the form of a row that may be missing
 pub form_row : (n : ℕ) (v : List Change) → n ≤ length v → n ≤ 15 → times_ok (take n v) ≡ true
-    → list_form (tag Changes) n v ≡ some (row_enc Changes (unless_none (take n v)))
+    → list_form (tag Changes) n v ≡ Some (row_enc Changes (unless_none (take n v)))
 form_row zero v l h e = sym (form_none (tag Changes) 0 v refl)
 form_row (suc n) [] l h e = absurd (omega arith)
 form_row (suc n) (c ∷ v) l h e = sym (form_some (tag Changes) (suc n) (c ∷ v) (λ z. omega arith) h e)

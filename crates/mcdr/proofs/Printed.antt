@@ -1,6 +1,6 @@
 -- Two records are within the rules, their octets are those that were written down by hand, and they are read back from them: computed by the definitions.
 use mathlib.Core.Path.{◌≡◌}
-use mathlib.Core.Option.{some}
+use Rattle.std.specs.Prelude.{Some}
 use lib.Dec.{T}
 use Rattle.format.proofs.Formats.{eqs_eq}
 use Rattle.ber.specs.Int.{int_enc, lowest}
@@ -31,7 +31,7 @@ unfolding sole sole_octets fill_to no_changes mcdr inside body of_record changes
     seek month_len
 sole_octets_lem = eqs_eq (mcdr.enc sole) sole_octets tt
 
-pub sole_read : mcdr.dec sole_octets ≡ some sole
+pub sole_read : mcdr.dec sole_octets ≡ Some sole
 sole_read = rw (← sole_octets_lem) (round_trip sole sole_within)
 
 -- ---- one with two changes
@@ -46,5 +46,5 @@ unfolding moved moved_octets near far fill_to no_changes mcdr inside body of_rec
     stamp_enc month_day seek month_len
 moved_octets_lem = eqs_eq (mcdr.enc moved) moved_octets tt
 
-pub moved_read : mcdr.dec moved_octets ≡ some moved
+pub moved_read : mcdr.dec moved_octets ≡ Some moved
 moved_read = rw (← moved_octets_lem) (round_trip moved moved_within)

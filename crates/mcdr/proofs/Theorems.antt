@@ -3,7 +3,7 @@
 use mathlib.Core.Path.{◌≡◌, refl, sym, ap, ◌∙◌}
 use mathlib.Core.Logic.{◌↔◌}
 use mathlib.Core.Bool.{true}
-use mathlib.Core.Option.{none, some}
+use Rattle.std.specs.Prelude.{None, Some}
 use mathlib.Core.List.{List, [], ◌∷◌, append-nil}
 use Prim.Native.Nat.{ℕ, zero, suc, ◌^◌, ◌≤◌, ◌<◌}
 use native.Mathlib.Omega.{arith}
@@ -168,11 +168,11 @@ at_most_400 r t =
     octets_short r (withins r (and_r (shaped r) (within r) t)) (record { changes = h.changes; node = h.node; sgsn = h.sgsn; duration = h.duration })
 
 -- the octets of a record within the rules read back as that record
-pub round_trip : (r : MmRecord) → T (rules r) → mcdr.dec (mcdr.enc r) ≡ some r
+pub round_trip : (r : MmRecord) → T (rules r) → mcdr.dec (mcdr.enc r) ≡ Some r
 round_trip r t = mcdr_law.complete r ((good_is_rules r).1 t)
 
 -- octets read as a record exactly where the record is within the rules and they are its octets
-pub exact : (s : List ℕ) (r : MmRecord) → (mcdr.dec s ≡ some r) ↔ (T (rules r) × (mcdr.enc r ≡ s))
+pub exact : (s : List ℕ) (r : MmRecord) → (mcdr.dec s ≡ Some r) ↔ (T (rules r) × (mcdr.enc r ≡ s))
 exact s r = (
   λ e. let p = mcdr_law.sound s r e in ((good_is_rules r).0 p.0, p.1),
   λ h. sym (ap mcdr.dec h.1) ∙ round_trip r h.0,
@@ -183,5 +183,5 @@ pub one_record : (a b : MmRecord) → T (rules a) → T (rules b) → mcdr.enc a
 one_record a b s t e = injective mcdr mcdr_law a b ((good_is_rules a).1 s) ((good_is_rules b).1 t) e
 
 -- what is refused is the octets of no record within the rules
-pub none_refused : (s : List ℕ) → mcdr.dec s ≡ none → (r : MmRecord) → T (rules r) → mcdr.enc r ≡ s → ⊥
+pub none_refused : (s : List ℕ) → mcdr.dec s ≡ None → (r : MmRecord) → T (rules r) → mcdr.enc r ≡ s → ⊥
 none_refused s n r t e = refuses mcdr mcdr_law s n r ((good_is_rules r).1 t) e

@@ -1,7 +1,7 @@
 -- The rules of a record one by one; between a record and its fields nothing is lost either way.
 use mathlib.Core.Path.{◌≡◌, refl, sym, ap, ◌∙◌}
 use mathlib.Core.Bool.{true, ◌&&◌}
-use mathlib.Core.Option.{Option, none, some}
+use Rattle.std.specs.Prelude.{Option, None, Some}
 use mathlib.Core.List.{List}
 use Prim.Native.Nat.{ℕ, ◌^◌, ◌≤◌, ◌<◌}
 use native.Mathlib.Omega.{arith}
@@ -136,8 +136,8 @@ number_most c n t = leb-true n (10 ^ 15) (both (leb n (10 ^ 15)) _ t).0
 
 -- a list that was read has a change
 changes_back : (o : Option (List Change)) → opt_good (tag Changes) changes o → unless_none (or_none o) ≡ o
-changes_back none g = refl
-changes_back (some cs) g = unless_some cs (good_each cs g).1
+changes_back None g = refl
+changes_back (Some cs) g = unless_some cs (good_each cs g).1
 
 pub fields_back : (w : Fields) → body.good w → T true → of_record (to_record w) ≡ w
 unfolding body of_record to_record

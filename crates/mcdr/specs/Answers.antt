@@ -1,6 +1,6 @@
 -- What the writer and the reader of an M-CDR answer, with the numbers of 01's refusal table.
 use Rattle.std.specs.Prelude.{◌≡◌, cond, List, [], ◌++◌, ℕ, leb, length, drop}
-use Rattle.std.proofs.Math.Option.{Option, none, some}
+use Rattle.std.specs.Prelude.{Option, None, Some}
 use Rattle.octets.specs.Filled.{fill_to}
 use Rattle.mcdr.specs.declared.MmRecord.{MmRecord}
 use Rattle.mcdr.specs.Change.{no_place}
@@ -38,8 +38,8 @@ blank_record = record {
 }
 
 unfoldable pub read_of : Option MmRecord → ℕ × MmRecord
-read_of none = (20, blank_record)
-read_of (some r) = (0, r)
+read_of None = (20, blank_record)
+read_of (Some r) = (0, r)
 
 pub record ReadsRecord (s : List ℕ) (answer : ℕ) (r : MmRecord) : Type 0 where
   pub is : ◌≡◌ {A = ℕ × MmRecord} (answer, r) (read_of (mcdr.dec s))

@@ -2,7 +2,7 @@
 use mathlib.Core.Path.{◌≡◌, refl, sym, ◌∙◌}
 use mathlib.Core.Bool.{true, false}
 use mathlib.Core.List.{List, [], ◌∷◌}
-use mathlib.Core.Option.{Option, none, some}
+use Rattle.std.specs.Prelude.{Option, None, Some}
 use Prim.Native.Nat.{ℕ, zero, suc, ◌+◌, ◌^◌, ◌≤◌, ◌<◌}
 use native.Mathlib.Omega.{arith}
 use lib.ListN.{length, get_or}
@@ -98,8 +98,8 @@ NoticesInRange nothing = Unit {0}
 
 -- what replaces a set has limits in range
 abbrev pub ReplacesInRange : Option Replacement → Type 0
-ReplacesInRange none = Unit {0}
-ReplacesInRange (some r) = limits_ok r.limits ≡ true
+ReplacesInRange None = Unit {0}
+ReplacesInRange (Some r) = limits_ok r.limits ≡ true
 
 pub record Fair (gs : Settings) (w : Words) : Type 0 where
   pub contexts : AllInRange gs w.contexts

@@ -1,7 +1,7 @@
 -- The cause with which a record closes, as the code finds it: by what closes at once, then by the first limit that is met.
 use mathlib.Core.Path.{◌≡◌, sym, ap, ◌∙◌}
 use mathlib.Core.Bool.{Bool, true, false, cond, ◌&&◌}
-use mathlib.Core.Option.{some}
+use Rattle.std.specs.Prelude.{Some}
 use Prim.Native.Nat.{ℕ}
 use Rattle.container.specs.declared.OpenRecord.{OpenRecord}
 use Rattle.container.specs.Open as O
@@ -12,13 +12,13 @@ use Rattle.node.specs.Hear.{reported, change_of, limit_met, closing}
 use Rattle.node.specs.Private.Premises.{perhaps}
 
 module _ (o : OpenRecord) (t : ℕ) (m : Message) where
-  pub closing_once : m.closes ≡ true → closing o t m ≡ some m.cause
+  pub closing_once : m.closes ≡ true → closing o t m ≡ Some m.cause
   unfolding closing
-  closing_once e = ap (λ (b : Bool). cond b (some m.cause) (limit_met o t m)) e
+  closing_once e = ap (λ (b : Bool). cond b (Some m.cause) (limit_met o t m)) e
 
   pub closing_limit : m.closes ≡ false → closing o t m ≡ limit_met o t m
   unfolding closing
-  closing_limit e = ap (λ (b : Bool). cond b (some m.cause) (limit_met o t m)) e
+  closing_limit e = ap (λ (b : Bool). cond b (Some m.cause) (limit_met o t m)) e
 
   pub at_once : m.closes ≡ true → Is m.cause ≡ perhaps (closing o t m)
   at_once e = rw (closing_once e)

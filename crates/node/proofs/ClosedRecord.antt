@@ -1,7 +1,7 @@
 -- The record that closes is within the rules.
 use mathlib.Core.Path.{◌≡◌, refl, sym, ◌∙◌}
 use mathlib.Core.Bool.{Bool, true, false, not, cond, ◌&&◌, ◌||◌}
-use mathlib.Core.Option.{some}
+use Rattle.std.specs.Prelude.{Some}
 use mathlib.Core.List.{[], ◌∷◌}
 use Prim.Native.Nat.{ℕ, ◌+◌, ◌%◌, ◌/◌, ◌^◌, ◌≤◌, ◌<◌}
 use native.Mathlib.Omega.{arith}
@@ -81,7 +81,7 @@ cause_of_lem : (n : ℕ) {k : ℕ} → k ≡ n → cause_ok n ≡ true → relea
 cause_of_lem n e a b = record { known = rw e a; other = rw e b }
 
 -- the first of the three limits that is met
-limit_cause : (a b d : Bool) {k : ℕ} → or_else (test a 16) (or_else (test b 17) (test d 19)) ≡ some k → Cause k
+limit_cause : (a b d : Bool) {k : ℕ} → or_else (test a 16) (or_else (test b 17) (test d 19)) ≡ Some k → Cause k
 unfolding cause_ok release
 limit_cause true b d e = cause_of_lem 16 (test_is true 16 e) refl refl
 limit_cause false true d e = cause_of_lem 17 (test_is true 17 e) refl refl
@@ -92,7 +92,7 @@ record Closes (m : Message) (closed cause : ℕ) : Type 0 where
   known : cause_ok cause ≡ true
   number : number_ok cause (number_for closed m.releases) ≡ true
 
-closes : (o : OpenRecord) (t : ℕ) (m : Message) {cause : ℕ} (closed : ℕ) → closed < most_accepted → InRange m → closing o t m ≡ some cause
+closes : (o : OpenRecord) (t : ℕ) (m : Message) {cause : ℕ} (closed : ℕ) → closed < most_accepted → InRange m → closing o t m ≡ Some cause
     → Closes m closed cause
 unfolding cause_ok release limit_met
 closes o t m {cause} closed few f e = by m.closes at_once by_limit
@@ -110,7 +110,7 @@ closes o t m {cause} closed few f e = by m.closes at_once by_limit
 
     at_once : m.closes ≡ true → Closes m closed cause
     at_once y =
-        let i : some m.cause ≡ some cause = sym (closing_once o t m y) ∙ e in
+        let i : Some m.cause ≡ Some cause = sym (closing_once o t m y) ∙ e in
         let z : m.cause ≡ cause = cc in
         by m.releases
         (λ r.
@@ -148,7 +148,7 @@ module _ (p : Profile) (gs : Settings) (t : ℕ) (c : Context) (a : SoundContext
         padded_rest cs,
       )
 
-  pub closed_within : (cause : ℕ) → closing c.current t m ≡ some cause → within (closed_by p c t m cause) ≡ true
+  pub closed_within : (cause : ℕ) → closing c.current t m ≡ Some cause → within (closed_by p c t m cause) ≡ true
   unfolding within closed_by record_of reported
   closed_within cause e =
       let g = apt_good p gs t c a in

@@ -1,7 +1,7 @@
 -- A context that hears an event stays as it must be, and so is the record that it closes.
 use mathlib.Core.Path.{◌≡◌, refl, sym, ◌∙◌}
 use mathlib.Core.Bool.{Bool, true, false, cond, ◌&&◌}
-use mathlib.Core.Option.{Option, none, some}
+use Rattle.std.specs.Prelude.{Option, None, Some}
 use mathlib.Core.List.{[], ◌∷◌}
 use Prim.Native.Nat.{ℕ, ◌+◌, ◌≤◌, ◌<◌}
 use native.Mathlib.Omega.{arith}
@@ -68,7 +68,7 @@ keeps_held k w = record {
 pub record Fine (r : Record) : Type 0 where
   pub within : within r ≡ true
   pub shaped : shaped r ≡ true
-  pub back : scdr.dec (scdr.enc r) ≡ some r
+  pub back : scdr.dec (scdr.enc r) ≡ Some r
   pub short : length (scdr.enc r) ≤ 1024
 
 pub fine : (r : Record) → within r ≡ true → shaped r ≡ true → Fine r
@@ -77,8 +77,8 @@ fine r w s =
     record { within = w; shaped = s; back = round_trip r t; short = at_most_1024 r t }
 
 abbrev pub NextKeeps : Profile → ℕ → ℕ → Context → Option Context → Type 0
-NextKeeps p t m c none = Unit {0}
-NextKeeps p t m c (some d) = Keeps p t m c d
+NextKeeps p t m c None = Unit {0}
+NextKeeps p t m c (Some d) = Keeps p t m c d
 
 pub record Leaves (p : Profile) (t m : ℕ) (c : Context) (s : Step Context Record) : Type 0 where
   pub next : NextKeeps p t m c s.next
@@ -117,12 +117,12 @@ record Still (o : OpenRecord) (t : ℕ) (m : Message) : Type 0 where
   volume : (m.counts && O.volume_met (reported o m)) ≡ false
   changes : (is_some (change_of o m) && O.changes_met o) ≡ false
 
-still : (o : OpenRecord) (t : ℕ) (m : Message) → closing o t m ≡ none → Still o t m
+still : (o : OpenRecord) (t : ℕ) (m : Message) → closing o t m ≡ None → Still o t m
 unfolding limit_met
 still o t m e = by m.closes (λ y. absurd (none≢some (sym e ∙ closing_once o t m y))) (λ n. go (sym (closing_limit o t m n) ∙ e))
   where
     go : or_else (test (m.counts && O.volume_met (reported o m)) 16)
-        (or_else (test (m.ticks && O.time_met t o) 17) (test (is_some (change_of o m) && O.changes_met o) 19)) ≡ none → Still o t m
+        (or_else (test (m.ticks && O.time_met t o) 17) (test (is_some (change_of o m) && O.changes_met o) 19)) ≡ None → Still o t m
     go i =
         let a = neither_none (m.counts && O.volume_met (reported o m)) 16 _ i in
         let b = neither_none (m.ticks && O.time_met t o) 17 _ a.1 in
@@ -191,28 +191,28 @@ module _ (p : Profile) (gs : Settings) (t : ℕ) (c : Context) (a : SoundContext
       (omega (arith, length-append (used o) (running (reported o m) k (time_at p t) ∷ []), used_few, apt_few p gs t c a))
 
   -- where nothing closes
-  goes_on_lem : (k : Option ℕ) → change_of o m ≡ k → closing o t m ≡ none
+  goes_on_lem : (k : Option ℕ) → change_of o m ≡ k → closing o t m ≡ None
       → Keeps p t (a.due.accepted + 1) c (going c (goes_on p o t m k) c.closed)
   unfolding goes_on reported change_of qos_after
-  goes_on_lem none i e = keeps (reported o m) c.closed (omega arith) (report_size w.containers) (report_sound (still o t m e).volume)
+  goes_on_lem None i e = keeps (reported o m) c.closed (omega arith) (report_size w.containers) (report_sound (still o t m e).volume)
     where
       report_size : length o.containers ≡ 15 → length (reported o m).containers ≡ 15
       report_size l = l
-  goes_on_lem (some k) i e =
+  goes_on_lem (Some k) i e =
       let s = still o t m e in
       let h = changes_is k i in
       let below : o.changes + 1 < o.limits.changes = leb-false o.limits.changes (o.changes + 1) (rw i at s.changes) in
       keeps (O.changed (reported o m) k (time_at p t) (qos_after o m)) c.closed (omega arith) (changed_size k) (sound k h below (report_sound s.volume))
     where
-      changes_is : (k : ℕ) → change_of o m ≡ some k → Changes o m k
+      changes_is : (k : ℕ) → change_of o m ≡ Some k → Changes o m k
       changes_is k i =
           by m.brings
           (λ y. by (same_qos o.qos m.qos) (λ z. absurd (none≢some (rw (y, z) at i))) (λ z.
-          let j : some 0 ≡ some k = rw (y, z) at i in
+          let j : Some 0 ≡ Some k = rw (y, z) at i in
           let l : 0 ≡ k = cc in
           record { small = omega arith; right = λ x q time. rw (y, ← l, q, z) }))
           (λ y. by m.tariff (λ z.
-          let j : some 1 ≡ some k = rw (y, z) at i in
+          let j : Some 1 ≡ Some k = rw (y, z) at i in
           let l : 1 ≡ k = cc in
           record { small = omega arith; right = λ x q time. rw (y, ← l, q, qos_same o.qos o.qos refl) })
           (λ z. absurd (none≢some (rw (y, z) at i))))
@@ -229,7 +229,7 @@ module _ (p : Profile) (gs : Settings) (t : ℕ) (c : Context) (a : SoundContext
   unfolding after_closing
   after_closing_lem = go m.releases
     where
-      go : (b : Bool) → NextKeeps p t (a.due.accepted + 1) c (cond b none (some (going c (O.opened (time_at p t) (qos_after o m) (limits_of c.set gs.sets)) (c.closed + 1))))
+      go : (b : Bool) → NextKeeps p t (a.due.accepted + 1) c (cond b None (Some (going c (O.opened (time_at p t) (qos_after o m) (limits_of c.set gs.sets)) (c.closed + 1))))
       go true = tt
       go false =
           keeps (O.opened (time_at p t) (qos_after o m) (limits_of c.set gs.sets)) (c.closed + 1) (omega arith) (padded_length [] (omega arith))
@@ -241,16 +241,16 @@ module _ (p : Profile) (gs : Settings) (t : ℕ) (c : Context) (a : SoundContext
   next_keeps = go (closing o t m) refl
     where
       go : (k : Option ℕ) → closing o t m ≡ k → NextKeeps p t (a.due.accepted + 1) c (hear_with p gs c t m k).next
-      go none e = goes_on_lem (change_of o m) refl e
-      go (some cause) e = after_closing_lem
+      go None e = goes_on_lem (change_of o m) refl e
+      go (Some cause) e = after_closing_lem
 
   -- whatever it hears, what stands after it follows it
-  pub heard_sound : {d : Context} → (hear p gs c t m).next ≡ some d → Keeps p t (a.due.accepted + 1) c d
+  pub heard_sound : {d : Context} → (hear p gs c t m).next ≡ Some d → Keeps p t (a.due.accepted + 1) c d
   heard_sound {d} e = go (hear p gs c t m).next next_keeps e
     where
-      go : (x : Option Context) → NextKeeps p t (a.due.accepted + 1) c x → x ≡ some d → Keeps p t (a.due.accepted + 1) c d
-      go none k i = absurd (none≢some i)
-      go (some y) k i = let z : y ≡ d = cc in rw z at k
+      go : (x : Option Context) → NextKeeps p t (a.due.accepted + 1) c x → x ≡ Some d → Keeps p t (a.due.accepted + 1) c d
+      go None k i = absurd (none≢some i)
+      go (Some y) k i = let z : y ≡ d = cc in rw z at k
 
 module _ (p : Profile) (gs : Settings) (t : ℕ) (c : Context) (a : SoundContext p gs t c) (w : HeldContext c) (h : HeldProfile p) (m : Message) (f : InRange m)
     (u : ReportFits m) where
@@ -268,8 +268,8 @@ module _ (p : Profile) (gs : Settings) (t : ℕ) (c : Context) (a : SoundContext
   out_fine = go (closing c.current t m) refl
     where
       go : (k : Option ℕ) → closing c.current t m ≡ k → All Fine (hear_with p gs c t m k).out
-      go none e = tt
-      go (some cause) e = (fine (closed_by p c t m cause) (closed_within p gs t c a w.shape.containers m f u cause e) (closed_shaped cause), tt)
+      go None e = tt
+      go (Some cause) e = (fine (closed_by p c t m cause) (closed_within p gs t c a w.shape.containers m f u cause e) (closed_shaped cause), tt)
 
   pub leaves : Leaves p t (a.due.accepted + 1) c (hear p gs c t m)
   leaves = record { next = next_keeps p gs t c a w.shape m f u; out = out_fine }

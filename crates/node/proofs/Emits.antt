@@ -1,7 +1,7 @@
 -- What a context writes: how long it is, and that it was written.
 use mathlib.Core.Path.{◌≡◌, sym, ap, ◌∙◌}
 use mathlib.Core.Bool.{true}
-use mathlib.Core.Option.{none, some}
+use Rattle.std.specs.Prelude.{None, Some}
 use mathlib.Core.List.{List, [], ◌∷◌, ◌++◌, append-nil}
 use Prim.Native.Nat.{ℕ, ◌+◌, ◌-◌, ◌≤◌}
 use native.Mathlib.Omega.{arith}
@@ -37,7 +37,7 @@ writes_put {r} {b} {b'} {answer} {n} w h p =
     put_of (omega arith) (omega arith) (l ∙ rw (← e))
 
 module _ (r : Record) {b b₁ : List ℕ} {at a : ℕ} (w : within r ≡ true) (room : at + length (marked_octets r) ≤ length b)
-    (m : Puts (some (0xC3 ∷ 0x5A ∷ [])) b b₁ at a) where
+    (m : Puts (Some (0xC3 ∷ 0x5A ∷ [])) b b₁ at a) where
   marked_put : Put (0xC3 ∷ 0x5A ∷ []) b b₁ at a
   unfolding marked_octets
   marked_put = puts_room (omega (arith, room)) m
@@ -72,25 +72,25 @@ module _ (r : Record) {b b₁ : List ℕ} {at a : ℕ} (w : within r ≡ true) (
 -- ---- what an active context does
 
 module _ (p : Profile) (gs : Settings) (c : Context) (t : ℕ) (m : Message) where
-  pub hear_closes : {cause : ℕ} → closing c.current t m ≡ some cause
+  pub hear_closes : {cause : ℕ} → closing c.current t m ≡ Some cause
       → hear p gs c t m ≡ record { next = after_closing p gs c t m; out = closed_by p c t m cause ∷ [] }
   unfolding hear hear_with
   hear_closes e = rw e
 
-  pub hear_on : closing c.current t m ≡ none
-      → hear p gs c t m ≡ record { next = some (going c (goes_on p c.current t m (change_of c.current m)) c.closed); out = [] }
+  pub hear_on : closing c.current t m ≡ None
+      → hear p gs c t m ≡ record { next = Some (going c (goes_on p c.current t m (change_of c.current m)) c.closed); out = [] }
   unfolding hear hear_with
   hear_on e = rw e
 
-  pub octets_closes : {cause : ℕ} → closing c.current t m ≡ some cause → octets_of (hear p gs c t m).out ≡ marked_octets (closed_by p c t m cause)
+  pub octets_closes : {cause : ℕ} → closing c.current t m ≡ Some cause → octets_of (hear p gs c t m).out ≡ marked_octets (closed_by p c t m cause)
   unfolding octets_of
   octets_closes {cause} e = rw (hear_closes e) (append-nil (marked_octets (closed_by p c t m cause)))
 
-  pub octets_on : closing c.current t m ≡ none → octets_of (hear p gs c t m).out ≡ []
+  pub octets_on : closing c.current t m ≡ None → octets_of (hear p gs c t m).out ≡ []
   unfolding octets_of
   octets_on e = rw (hear_on e)
 
-  pub counts_closes : {cause : ℕ} {r : Record} {n : ℕ} → closing c.current t m ≡ some cause → r ≡ closed_by p c t m cause
+  pub counts_closes : {cause : ℕ} {r : Record} {n : ℕ} → closing c.current t m ≡ Some cause → r ≡ closed_by p c t m cause
       → within (closed_by p c t m cause) ≡ true
       → Sizes r n → Counts (octets_of (hear p gs c t m).out) (2 + n)
   unfolding marked_octets size_of
@@ -98,21 +98,21 @@ module _ (p : Profile) (gs : Settings) (c : Context) (t : ℕ) (m : Message) whe
       let z : n ≡ length (scdr.enc (closed_by p c t m cause)) = s.is ∙ rw (i, w) in
       record { is = rw (octets_closes e) (omega arith); most = omega (arith, s.most) }
 
-  pub counts_on : closing c.current t m ≡ none → Counts (octets_of (hear p gs c t m).out) 0
+  pub counts_on : closing c.current t m ≡ None → Counts (octets_of (hear p gs c t m).out) 0
   counts_on e = record { is = rw (octets_on e); most = omega arith }
 
   -- room for what it writes is room for the record
-  pub room_closes : (at : ℕ) {cause : ℕ} {r : Record} {n : ℕ} → closing c.current t m ≡ some cause → r ≡ closed_by p c t m cause
+  pub room_closes : (at : ℕ) {cause : ℕ} {r : Record} {n : ℕ} → closing c.current t m ≡ Some cause → r ≡ closed_by p c t m cause
       → at + length (octets_of (hear p gs c t m).out) ≤ n → at + length (marked_octets r) ≤ n
   room_closes at e i k = rw i (rw (octets_closes e) at k)
 
-  pub turns_closes : {cause : ℕ} {r : Record} {d : Context} {b b' : List ℕ} {at next : ℕ} → closing c.current t m ≡ some cause
+  pub turns_closes : {cause : ℕ} {r : Record} {d : Context} {b b' : List ℕ} {at next : ℕ} → closing c.current t m ≡ Some cause
       → r ≡ closed_by p c t m cause
       → d ≡ stood (after_closing p gs c t m) → Put (marked_octets r) b b' at next
       → Stands (stood (hear p gs c t m).next) (octets_of (hear p gs c t m).out) b b' at d next
   turns_closes e i j q = record { value = rw (hear_closes e) j; written = put_is (ap marked_octets i ∙ sym (octets_closes e)) q }
 
-  pub turns_on : {d : Context} {b : List ℕ} {at : ℕ} → closing c.current t m ≡ none
+  pub turns_on : {d : Context} {b : List ℕ} {at : ℕ} → closing c.current t m ≡ None
       → d ≡ going c (goes_on p c.current t m (change_of c.current m)) c.closed → at ≤ length b
       → Stands (stood (hear p gs c t m).next) (octets_of (hear p gs c t m).out) b b at d at
   turns_on {b = b} e j k = record { value = rw (hear_on e) j; written = put_is (sym (octets_on e)) (put_none k) }

@@ -1,7 +1,7 @@
 -- What a report leaves, and what stands after a closing.
 use mathlib.Core.Path.{◌≡◌, ap}
 use mathlib.Core.Bool.{Bool, true, false, cond}
-use mathlib.Core.Option.{none, some}
+use Rattle.std.specs.Prelude.{None, Some}
 use Prim.Native.Nat.{ℕ, ◌+◌, ◌<◌}
 use lib.Dec.{ltb}
 use borrow.Author.Tests.{lt-ltb}
@@ -28,7 +28,7 @@ fewer_reported o m r = lt-ltb o.changes 255 r
 -- after a release nothing; else the next record
 module _ (p : Profile) (gs : Settings) (c : Context) (t : ℕ) (m : Message) where
   abbrev next : Bool → Context
-  next b = stood (cond b none (some (going c (O.opened (time_at p t) (qos_after c.current m) (limits_of c.set gs.sets)) (c.closed + 1))))
+  next b = stood (cond b None (Some (going c (O.opened (time_at p t) (qos_after c.current m) (limits_of c.set gs.sets)) (c.closed + 1))))
 
   pub after_release : m.releases ≡ true → stood (after_closing p gs c t m) ≡ no_context
   unfolding after_closing

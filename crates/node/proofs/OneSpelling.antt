@@ -1,6 +1,6 @@
 -- "One spelling of an APN" (02, W5): a call cannot tell how the letters of an access point name are spelled. Whatever the node and the buffer, an
 -- activate and the same one in another spelling get the same answer, the same node after, the same octets.
-use mathlib.Core.Option.{some}
+use Rattle.std.specs.Prelude.{Some}
 use Rattle.limits.specs.Sets.{limits_of}
 use mathlib.Core.Path.{◌≡◌, sym, ap, ◌∙◌}
 use mathlib.Core.List.{List}
@@ -18,7 +18,7 @@ use Rattle.node.specs.Step.{Words, to_contexts, takes, said_of, refusals, step_o
 -- what an activate says, by what it brings
 abbrev opens : Activation → ℕ → List ℕ → List ℕ → Words
 opens a f i n =
-    to_contexts (some a.set)
+    to_contexts (Some a.set)
     (activates a.name (λ g. record {
       flags = f;
       imsi = i;

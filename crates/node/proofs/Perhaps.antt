@@ -1,7 +1,7 @@
 -- What was told is what there was.
 use mathlib.Core.Path.{◌≡◌, refl}
 use mathlib.Core.Bool.{Bool, true, false}
-use mathlib.Core.Option.{Option, none, some}
+use Rattle.std.specs.Prelude.{Option, None, Some}
 use Prim.Native.Nat.{ℕ}
 use native.Mathlib.Omega.{arith}
 use Rattle.history.specs.Lists.{test, or_else}
@@ -9,24 +9,24 @@ use Rattle.node.specs.declared.closing.Perhaps.{Perhaps}
 use Rattle.node.specs.declared.closing.Perhaps.TheVariants.{Is, Nothing}
 use Rattle.node.specs.Private.Premises.{perhaps}
 
-pub perhaps_is : (o : Option ℕ) {r : Perhaps} {k : ℕ} → r ≡ perhaps o → r ≡ Is k → o ≡ some k
-perhaps_is none {r} {k} p q = absurd (let z : ◌≡◌ {A = ℕ} 0 1 = cc in omega arith)
-perhaps_is (some n) {r} {k} p q = let e : n ≡ k = cc in rw e
+pub perhaps_is : (o : Option ℕ) {r : Perhaps} {k : ℕ} → r ≡ perhaps o → r ≡ Is k → o ≡ Some k
+perhaps_is None {r} {k} p q = absurd (let z : ◌≡◌ {A = ℕ} 0 1 = cc in omega arith)
+perhaps_is (Some n) {r} {k} p q = let e : n ≡ k = cc in rw e
 
-pub perhaps_nothing : (o : Option ℕ) {r : Perhaps} → r ≡ perhaps o → r ≡ Nothing → o ≡ none
-perhaps_nothing none p q = refl
-perhaps_nothing (some n) p q = absurd (let z : ◌≡◌ {A = ℕ} 0 1 = cc in omega arith)
+pub perhaps_nothing : (o : Option ℕ) {r : Perhaps} → r ≡ perhaps o → r ≡ Nothing → o ≡ None
+perhaps_nothing None p q = refl
+perhaps_nothing (Some n) p q = absurd (let z : ◌≡◌ {A = ℕ} 0 1 = cc in omega arith)
 
 -- ---- the first of several tests
 
-pub test_none : (b : Bool) (n : ℕ) → test b n ≡ none → b ≡ false
+pub test_none : (b : Bool) (n : ℕ) → test b n ≡ None → b ≡ false
 test_none true n e = absurd (let z : ◌≡◌ {A = ℕ} 0 1 = cc in omega arith)
 test_none false n e = refl
 
-pub test_is : (b : Bool) (n : ℕ) {k : ℕ} → test b n ≡ some k → k ≡ n
+pub test_is : (b : Bool) (n : ℕ) {k : ℕ} → test b n ≡ Some k → k ≡ n
 test_is true n {k} e = let z : n ≡ k = cc in rw z
 test_is false n {k} e = absurd (let z : ◌≡◌ {A = ℕ} 0 1 = cc in omega arith)
 
-pub neither_none : (b : Bool) (n : ℕ) (o : Option ℕ) → or_else (test b n) o ≡ none → (b ≡ false) × (o ≡ none)
+pub neither_none : (b : Bool) (n : ℕ) (o : Option ℕ) → or_else (test b n) o ≡ None → (b ≡ false) × (o ≡ None)
 neither_none true n o e = absurd (let z : ◌≡◌ {A = ℕ} 0 1 = cc in omega arith)
 neither_none false n o e = (refl, e)

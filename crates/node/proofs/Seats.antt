@@ -2,7 +2,7 @@
 use mathlib.Core.Path.{◌≡◌, refl, sym, ap, ◌∙◌}
 use mathlib.Core.Bool.{true, cond}
 use mathlib.Core.List.{List, map}
-use mathlib.Core.Option.{Option, none, some}
+use Rattle.std.specs.Prelude.{Option, None, Some}
 use Prim.Native.Nat.{ℕ, ◌+◌, ◌^◌, ◌≤◌, ◌<◌}
 use native.Mathlib.Omega.{arith}
 use lib.Dec.{leb, eqb}
@@ -43,8 +43,8 @@ use Rattle.node.proofs.Ones.{through}
 module _ (p : Profile) (gs : Settings) (t up down : ℕ) (c : Context) where
   next_name : (k : Option ℕ) → slot_of (stood (hear_with p gs c t (report up down) k).next) ≡ slot_of c
   unfolding hear_with after_closing
-  next_name none = refl
-  next_name (some cause) = refl
+  next_name None = refl
+  next_name (Some cause) = refl
 
   slot_name : slot_of (slot_next p gs t (report up down) c) ≡ slot_of c
   unfolding hear

@@ -28,7 +28,7 @@ use Rattle.node.specs.declared.Message.{Message}
 use Rattle.node.specs.declared.Settings.{Settings}
 use Rattle.limits.specs.Sets.{has_set, is_next}
 use Rattle.event.specs.declared.Replacement.{Replacement}
-use mathlib.Core.Option.{Option, none, some}
+use Rattle.std.specs.Prelude.{Option, None, Some}
 use Rattle.node.specs.Sound.{sound, latest, most_accepted}
 use Rattle.node.specs.Step.{Brought, ToContexts, Words, to_contexts, to_settings, settled_by, handling, subscribing, taken, stood, slots, places, octets_of, activated}
 use Rattle.node.specs.Step.{node_after, records_of, mm_records_of, output, unknown_set, other_edition, outcome}
@@ -180,31 +180,31 @@ module _ (n : Node) (t : ℕ) (j : Option ℕ) (v : ToContexts) where
 module _ (n : Node) (t : ℕ) (b : List ℕ) (s : Sounding n t) (z : Held n) where
   pub outs_tell : (m : Name) (h : Message) {i : ℕ} → First (named m) n.contexts i
       → {b' : List ℕ} {a k : ℕ} {r : Node} → Serves n i (i + 1) t h b b' a r k
-      → Outs (table_rows n t (to_contexts none (tells m h)) b) n t (to_contexts none (tells m h)) b b' a r k
+      → Outs (table_rows n t (to_contexts None (tells m h)) b) n t (to_contexts None (tells m h)) b b' a r k
   unfolding unknown_set other_edition not_active is_active all_taken
   outs_tell m h {i} f {b'} {a} {k} {r} v =
-      outs_served n t none (tells m h) b
+      outs_served n t None (tells m h) b
       (record { named = refl; edition = refl; known = rw (found_active (handling n.profile) taken m f); new = refl; room = refl; attached = refl; detached = refl; vacant = refl })
       s z i (suc i) h (tells_after n.profile n.settings t h m f (settleds n t s z) (apart n t s))
       (tells_outs n.profile n.settings t h m f (settleds n t s z) (apart n t s)) (rw (add-one i) at v)
 
   pub outs_all : (h : Message) → {b' : List ℕ} {a k : ℕ} {r : Node} → Serves n 0 16 t h b b' a r k
-      → Outs (table_rows n t (to_contexts none (tells_all h)) b) n t (to_contexts none (tells_all h)) b b' a r k
+      → Outs (table_rows n t (to_contexts None (tells_all h)) b) n t (to_contexts None (tells_all h)) b b' a r k
   unfolding unknown_set other_edition not_active is_active all_taken
   outs_all h {b'} {a} {k} {r} v =
-      outs_served n t none (tells_all h) b (record { named = refl; edition = refl; known = refl; new = refl; room = refl; attached = refl; detached = refl; vacant = refl }) s z 0 16 h
+      outs_served n t None (tells_all h) b (record { named = refl; edition = refl; known = refl; new = refl; room = refl; attached = refl; detached = refl; vacant = refl }) s z 0 16 h
       (rw z.size at (all_after n.profile n.settings t h n.contexts (settleds n t s z)))
       (rw z.size at (all_outs n.profile n.settings t h n.contexts (settleds n t s z))) v
 
   module _ (m : Name) (f : Settings → Brought) (j : ℕ) (have : has_set n.profile.sets j ≡ true) where
     pub outs_activate : {i : ℕ} → All (λ c. named m c ≡ false) n.contexts → First idle n.contexts i
         → {c : Context} {a k : ℕ} {r : Node} → c ≡ activated n.profile t m (f n.settings) → a ≡ 0 → r ≡ advanced n t (set n.contexts i c) → k ≡ 0
-        → Outs (table_rows n t (to_contexts (some j) (activates m f)) b) n t (to_contexts (some j) (activates m f)) b b a r k
+        → Outs (table_rows n t (to_contexts (Some j) (activates m f)) b) n t (to_contexts (Some j) (activates m f)) b b a r k
     unfolding unknown_set other_edition not_active is_active all_taken output records_of mm_records_of octets_of mmOctetsOf
     outs_activate {i} unnamed free {c} {a} {k} {r} e p q u =
         let g : set n.contexts i c ≡ map stood (slots_after (handling n.profile) n.settings t (activates m f) (slots n)) =
         ap (λ (d : Context). set n.contexts i d) e ∙ sym (filled taken no_context (activated n.profile t m (f n.settings)) free (settleds n t s z)) in
-        outs_done n t (to_contexts (some j) (activates m f)) b
+        outs_done n t (to_contexts (Some j) (activates m f)) b
         (record {
           named = rw have;
           edition = refl;
@@ -215,33 +215,33 @@ module _ (n : Node) (t : ℕ) (b : List ℕ) (s : Sounding n t) (z : Held n) whe
           detached = refl;
           vacant = refl;
         })
-        (omega arith) p (q ∙ contexts_after n t (some j) (activates m f) s z g) u refl
+        (omega arith) p (q ∙ contexts_after n t (Some j) (activates m f) s z g) u refl
 
 module _ (n : Node) (t : ℕ) (b : List ℕ) (m : Name) {a k : ℕ} {r : Node} (q : r ≡ n) (u : k ≡ 0) where
   pub outs_8 : (h : Message) → All (λ c. named m c ≡ false) n.contexts → a ≡ 8
-      → Outs (table_rows n t (to_contexts none (tells m h)) b) n t (to_contexts none (tells m h)) b b a r k
+      → Outs (table_rows n t (to_contexts None (tells m h)) b) n t (to_contexts None (tells m h)) b b a r k
   unfolding table_rows first_fit unknown_set other_edition not_active
   outs_8 h unnamed p =
-      outs_refused n t (to_contexts none (tells m h)) b (table_rows n t (to_contexts none (tells m h)) b) 8
+      outs_refused n t (to_contexts None (tells m h)) b (table_rows n t (to_contexts None (tells m h)) b) 8
       (rw (none_active (handling n.profile) taken m n.contexts unnamed)) (λ i. omega arith) p q u
 
   module _ (f : Settings → Brought) (j : ℕ) (have : has_set n.profile.sets j ≡ true) where
     pub outs_9 : {i : ℕ} → First (named m) n.contexts i → a ≡ 9
-        → Outs (table_rows n t (to_contexts (some j) (activates m f)) b) n t (to_contexts (some j) (activates m f)) b b a r k
+        → Outs (table_rows n t (to_contexts (Some j) (activates m f)) b) n t (to_contexts (Some j) (activates m f)) b b a r k
     unfolding table_rows first_fit unknown_set other_edition not_active is_active
     outs_9 g p =
-        outs_refused n t (to_contexts (some j) (activates m f)) b (table_rows n t (to_contexts (some j) (activates m f)) b) 9
+        outs_refused n t (to_contexts (Some j) (activates m f)) b (table_rows n t (to_contexts (Some j) (activates m f)) b) 9
         (rw (have, found_active (handling n.profile) taken m g)) (λ i. omega arith) p q u
 
     pub outs_10 : All (λ c. named m c ≡ false) n.contexts → All (λ c. idle c ≡ false) n.contexts → a ≡ 10
-        → Outs (table_rows n t (to_contexts (some j) (activates m f)) b) n t (to_contexts (some j) (activates m f)) b b a r k
+        → Outs (table_rows n t (to_contexts (Some j) (activates m f)) b) n t (to_contexts (Some j) (activates m f)) b b a r k
     unfolding table_rows first_fit unknown_set other_edition not_active is_active all_taken
     outs_10 unnamed full p =
-        outs_refused n t (to_contexts (some j) (activates m f)) b (table_rows n t (to_contexts (some j) (activates m f)) b) 10
+        outs_refused n t (to_contexts (Some j) (activates m f)) b (table_rows n t (to_contexts (Some j) (activates m f)) b) 10
         (rw (have, none_active (handling n.profile) taken m n.contexts unnamed, none_free taken no_context n.contexts full)) (λ i. omega arith) p q u
 
 -- an activation, or a replacement, of a set that the node does not have
-pub outs_18 : (n : Node) (t : ℕ) (w : Words) (b : List ℕ) (j : ℕ) → w.set ≡ some j → has_set n.profile.sets j ≡ false → Outs (table_rows n t w b) n t w b b 18 n 0
+pub outs_18 : (n : Node) (t : ℕ) (w : Words) (b : List ℕ) (j : ℕ) → w.set ≡ Some j → has_set n.profile.sets j ≡ false → Outs (table_rows n t w b) n t w b b 18 n 0
 unfolding table_rows first_fit unknown_set
 outs_18 n t w b j e have = outs_refused n t w b (table_rows n t w b) 18 (rw (e, have)) (λ i. omega arith) refl refl refl
 
@@ -259,7 +259,7 @@ module _ (n : Node) (t : ℕ) (b : List ℕ) (r : Replacement) (have : has_set n
       let u = sym (stand_all isAttached no_subscriber n.subscribers (stays n t s z)) in
       λ i. record {
         profile = n.profile;
-        settings = settled_by (some r) n.settings;
+        settings = settled_by (Some r) n.settings;
         clock = t;
         accepted = n.accepted + 1;
         contexts = c i;

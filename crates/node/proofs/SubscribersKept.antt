@@ -1,7 +1,7 @@
 -- The table of subscribers after an event: each slot as it must be, the names still apart, and what was written.
 use mathlib.Core.Path.{◌≡◌, refl, sym, ap, ◌∙◌}
 use mathlib.Core.Bool.{true, false}
-use mathlib.Core.Option.{Option, none, some}
+use Rattle.std.specs.Prelude.{Option, None, Some}
 use mathlib.Core.List.{List, map}
 use Prim.Native.Nat.{ℕ, ◌+◌}
 use native.Mathlib.Omega.{arith}
@@ -78,8 +78,8 @@ module _ (p : Profile) (gs : Settings) (t : ℕ) (u : Due p gs t) (o : HeldProfi
 
   module _ (s : Subscriber) (k : SlotOk s) (h : HeldSubscriber s) (a : taken s ≡ true) (x : Notice) (f : notice_ok x ≡ true) (g : notice_held x ≡ true) where
     next_stays : (q : Option Subscriber) → (hear p s t x).next ≡ q → Stays s (stood q)
-    next_stays none e = gone s
-    next_stays (some d) e =
+    next_stays None e = gone s
+    next_stays (Some d) e =
         let w = hear_named p s t x e in
         record {
           slot = rw e at (hear_ok p u.profile u.clock u.accepted t u.since u.until u.few s h.changes x f a k);

@@ -1,7 +1,7 @@
 -- The table after an event: each slot as it must be, the names still apart, and what was written.
 use mathlib.Core.Path.{◌≡◌, refl, sym, ap, ◌∙◌}
 use mathlib.Core.Bool.{true}
-use mathlib.Core.Option.{Option, none, some}
+use Rattle.std.specs.Prelude.{Option, None, Some}
 use mathlib.Core.List.{List, map}
 use Prim.Native.Nat.{ℕ, ◌+◌}
 use native.Mathlib.Omega.{arith}
@@ -76,8 +76,8 @@ module _ {p : Profile} {t m : ℕ} {cs ds : List Context} (o : Pairs (Stays p t 
 module _ (p : Profile) (t m : ℕ) (c : Context) where
   -- what stands in the slot of an active context
   next_stays : (o : Option Context) → c.active ≡ 1 → HeldContext c → NextKeeps p t m c o → Stays p t m c (stood o)
-  next_stays none e h k = record { slot = nothing_ok p.sets p.zone t m; held = nothing_held; names = freed refl }
-  next_stays (some d) e h k =
+  next_stays None e h k = record { slot = nothing_ok p.sets p.zone t m; held = nothing_held; names = freed refl }
+  next_stays (Some d) e h k =
       record {
         slot = slot_active p.sets p.zone t m d (k.active ∙ e) ∙ k.sound;
         held = keeps_held k h;
@@ -102,12 +102,12 @@ module _ (p : Profile) (gs : Settings) (t : ℕ) (u : Due p gs t) (o : HeldProfi
     apt = record { due = u; sound = sym (slot_active p.sets p.zone u.clock u.accepted c e) ∙ k }
 
     abbrev InRangeIf : Option Message → Type 0
-    InRangeIf none = Unit {0}
-    InRangeIf (some x) = InRange x × ReportFits x
+    InRangeIf None = Unit {0}
+    InRangeIf (Some x) = InRange x × ReportFits x
 
     listens : (x : Option Message) → InRangeIf x → Leaves p t m c (listen K gs c t x)
-    listens none f = record { next = same_keeps p gs t c apt h.shape; out = tt }
-    listens (some x) f = leaves p gs t c apt h o x f.0 f.1
+    listens None f = record { next = same_keeps p gs t c apt h.shape; out = tt }
+    listens (Some x) f = leaves p gs t c apt h o x f.0 f.1
 
     hears_fair : (w : Said Settings Name Brought Message) → AllInRange gs w → InRangeIf (hears K c.name w)
     hears_fair (activates n b) f = tt
@@ -116,13 +116,13 @@ module _ (p : Profile) (gs : Settings) (t : ℕ) (u : Due p gs t) (o : HeldProfi
     hears_fair nothing f = tt
 
   module _ (w : Said Settings Name Brought Message) (f : AllInRange gs w) where
-    active_leaves : (c : Context) → SlotOk c → HeldContext c → c.active ≡ 1 → Leaves p t m c (slot K gs t w (some c))
+    active_leaves : (c : Context) → SlotOk c → HeldContext c → c.active ≡ 1 → Leaves p t m c (slot K gs t w (Some c))
     active_leaves c k h e = listens c k h e (hears K c.name w) (hears_fair c k h e w f)
 
     slot_stays : (c : Context) → SlotOk c → HeldContext c → Stays p t m c (stood (slot K gs t w (seen c)).next)
     slot_stays c k h =
         by (eqb c.active 1)
-        (λ e. let a = eqb-true c.active 1 e in rw e (next_stays p t m c (slot K gs t w (some c)).next a h (active_leaves c k h a).next))
+        (λ e. let a = eqb-true c.active 1 e in rw e (next_stays p t m c (slot K gs t w (Some c)).next a h (active_leaves c k h a).next))
         (λ e. rw e (record { slot = nothing_ok p.sets p.zone t m; held = nothing_held; names = freed refl }))
 
     slot_fine : (c : Context) → SlotOk c → HeldContext c → All Fine (slot K gs t w (seen c)).out

@@ -2,7 +2,7 @@
 use mathlib.Core.Path.{◌≡◌, refl, sym, ap, ◌∙◌}
 use mathlib.Core.Bool.{Bool, true, false, cond, ◌&&◌}
 use mathlib.Core.List.{List, [], ◌∷◌, ◌++◌, map}
-use mathlib.Core.Option.{none, some}
+use Rattle.std.specs.Prelude.{None, Some}
 use Prim.Native.Nat.{ℕ, zero, suc, ◌+◌, ◌≤◌, ◌<◌}
 use native.Mathlib.Omega.{arith}
 use lib.Dec.{leb, eqb}
@@ -175,7 +175,7 @@ module _ (n : Node) (s b : List ℕ) (z : Held n) where
 
     module _ (w : Words)
         (conv : (b' : List ℕ) (a k : ℕ) (r : Node) → Outs (table_rows n t w b) n t w b b' a r k → Steps n s b b' a r k) where
-      tell_task : (m : Name) (h : Message) → w ≡ to_contexts none (tells m h) → (f : Found) → first_from (bears m) 0 names ≡ f → Tasked n s b (one_at t h f)
+      tell_task : (m : Name) (h : Message) → w ≡ to_contexts None (tells m h) → (f : Found) → first_from (bears m) 0 names ≡ f → Tasked n s b (one_at t h f)
       unfolding done_by
       tell_task m h e (At i) q =
           let f = named_at n.contexts m q in
@@ -185,7 +185,7 @@ module _ (n : Node) (s b : List ℕ) (z : Held n) where
           record { done = sym (conv _ _ _ _ o).is; fit = (omega (arith, first_below f, z.size), so) }
       tell_task m h e Nothing q = refused_task (conv _ _ _ _ (rw e (outs_8 n t b m refl refl h (none_named n.contexts m q) refl)))
 
-      all_task : (h : Message) → w ≡ to_contexts none (tells_all h) → Tasked n s b (K.All t h)
+      all_task : (h : Message) → w ≡ to_contexts None (tells_all h) → Tasked n s b (K.All t h)
       unfolding done_by
       all_task h e =
           let r = served_of n 0 16 t h b in
@@ -193,7 +193,7 @@ module _ (n : Node) (s b : List ℕ) (z : Held n) where
           let o : Outs (table_rows n t w b) n t w b r.1.1.1 r.0 r.1.0 r.1.1.0 = rw e (outs_all n t b so z h v) in
           record { done = sym (conv _ _ _ _ o).is; fit = so }
 
-      open_task_lem : (a : Activation) → w ≡ to_contexts (some a.set) (activates a.name (λ g. brought_by g a s)) → has_set n.profile.sets a.set ≡ true → Activated s a
+      open_task_lem : (a : Activation) → w ≡ to_contexts (Some a.set) (activates a.name (λ g. brought_by g a s)) → has_set n.profile.sets a.set ≡ true → Activated s a
           → (f g : Found) → first_from (bears a.name) 0 names ≡ f
           → first_from is_free 0 names ≡ g
           → Tasked n s b (open_at t a f g)
@@ -209,7 +209,7 @@ module _ (n : Node) (s b : List ℕ) (z : Held n) where
           refused_task (conv _ _ _ _ (rw e
           (outs_10 n t b a.name refl refl (λ g. brought_by g a s) a.set have (none_named n.contexts a.name q) (all_taken_lem n.contexts r) refl)))
 
-      unknown_task : (j : ℕ) → w.set ≡ some j → has_set n.profile.sets j ≡ false → Tasked n s b (K.Refuse 18)
+      unknown_task : (j : ℕ) → w.set ≡ Some j → has_set n.profile.sets j ≡ false → Tasked n s b (K.Refuse 18)
       unknown_task j e have = refused_task (conv _ _ _ _ (outs_18 n t w b j e have))
 
       notify_task_lem : (k : ℕ) (m : Notice) → w ≡ to_subscribers (tells k m) → notice_ok m ≡ true → (f : G.Found) → keys.first_from (keys.bears k) 0 imsis ≡ f

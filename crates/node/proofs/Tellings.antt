@@ -2,7 +2,7 @@
 use mathlib.Core.Path.{◌≡◌, refl, sym, ap, ◌∙◌}
 use mathlib.Core.Bool.{true, false, cond}
 use mathlib.Core.List.{List, [], ◌∷◌, append-nil}
-use mathlib.Core.Option.{none, some}
+use Rattle.std.specs.Prelude.{None, Some}
 use Prim.Native.Nat.{ℕ, suc, ◌+◌, ◌-◌, ◌*◌, ◌/◌, ◌^◌, ◌≤◌, ◌<◌}
 use native.Mathlib.Omega.{arith}
 use lib.Dec.{eqb}
@@ -146,7 +146,7 @@ module _ (p : Profile) (gs : Settings) (t : ℕ) (ok : profile_ok p ≡ true) (s
     abbrev h : Message
     h = report up down
 
-    kept : {x : Context} → (hear p gs c t h).next ≡ some x → Sounds p t (m + 1) x
+    kept : {x : Context} → (hear p gs c t h).next ≡ Some x → Sounds p t (m + 1) x
     unfolding ready
     kept {x} e =
         let k : Keeps p t (m + 1) c x = heard_sound p gs t c (ready few s) s.shape h (report_in_range up down) (record { up = u; down = d }) e in
@@ -157,11 +157,11 @@ module _ (p : Profile) (gs : Settings) (t : ℕ) (ok : profile_ok p ≡ true) (s
 
     -- below the limit nothing closes
     module _ (below : volume c up down < c.current.limits.volume) where
-      open_on : closing c.current t h ≡ none
+      open_on : closing c.current t h ≡ None
       unfolding closing limit_met change_of reported
       open_on = rw (lt-leb c.current.limits.volume (volume c up down) below)
 
-      on_is : (hear p gs c t h).next ≡ some (counted c up down)
+      on_is : (hear p gs c t h).next ≡ Some (counted c up down)
       unfolding goes_on change_of reported
       on_is = ap (λ (z : Step Context Record). z.next) (hear_on p gs c t h open_on)
 
@@ -177,11 +177,11 @@ module _ (p : Profile) (gs : Settings) (t : ℕ) (ok : profile_ok p ≡ true) (s
 
     -- at the limit the record closes
     module _ (met : c.current.limits.volume ≤ volume c up down) where
-      closes_now : closing c.current t h ≡ some 16
+      closes_now : closing c.current t h ≡ Some 16
       unfolding closing limit_met change_of reported
       closes_now = rw (le-leb c.current.limits.volume (volume c up down) met)
 
-      after_is : (hear p gs c t h).next ≡ some (going c (O.opened (time_at p t) c.current.qos (limits_of c.set gs.sets)) (c.closed + 1))
+      after_is : (hear p gs c t h).next ≡ Some (going c (O.opened (time_at p t) c.current.qos (limits_of c.set gs.sets)) (c.closed + 1))
       unfolding after_closing qos_after
       after_is = ap (λ (z : Step Context Record). z.next) (hear_closes p gs c t h closes_now)
 
@@ -332,7 +332,7 @@ module _ {p : Profile} {gs : Settings} {clock accepted : ℕ} {c : Context} {t :
       apt : SoundContext p gs t here
       apt = ready p gs t w.profile w.sets w.until due.few s.now
 
-      closes : closing here.current t (report u d) ≡ some 16
+      closes : closing here.current t (report u d) ≡ Some 16
       closes = closes_now p gs t w.profile w.sets w.until here (accepted + k) u d due.few s.now due.up due.down over
 
       -- the record, as the code makes it

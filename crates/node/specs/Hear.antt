@@ -1,7 +1,7 @@
 -- What an event does to a context that hears it (01, "What an event does"): the context after it, or none after a release, and the
 -- record that it closes, if it closes one.
 use Rattle.std.specs.Prelude.{Bool, cond, ◌&&◌, [], ◌∷◌, ℕ, ◌+◌, ◌/◌, ◌%◌, eqb}
-use Rattle.std.proofs.Math.Option.{Option, none, some}
+use Rattle.std.specs.Prelude.{Option, None, Some}
 use Rattle.calendar.specs.declared.Stamp.{Stamp}
 use Rattle.container.specs.declared.Qos.{Qos}
 use Rattle.container.specs.declared.OpenRecord.{OpenRecord}
@@ -28,7 +28,7 @@ qos_after o m = cond m.brings m.qos o.qos
 
 -- "QoS to a different profile ends the container, condition 0. To the same profile: no change. Tariff ends the container .. condition 1"
 unfoldable pub change_of : OpenRecord → Message → Option ℕ
-change_of o m = cond m.brings (cond (same_qos o.qos m.qos) none (some 0)) (test m.tariff 1)
+change_of o m = cond m.brings (cond (same_qos o.qos m.qos) None (Some 0)) (test m.tariff 1)
 
 -- The five closing conditions, with their causes: "(16) after a traffic event, uplink plus downlink since the record opened is at least
 -- the volume limit; (17) at a tick, now minus opening is at least the time limit; (19) the record's QoS and tariff changes reach the
@@ -41,7 +41,7 @@ limit_met o t m =
     (test (is_some (change_of o m) && O.changes_met o) 19))
 
 unfoldable pub closing : OpenRecord → ℕ → Message → Option ℕ
-closing o t m = cond m.closes (some m.cause) (limit_met o t m)
+closing o t m = cond m.closes (Some m.cause) (limit_met o t m)
 
 -- ---- what then stands
 
@@ -95,8 +95,8 @@ record_of p c o cause number = record {
 
 -- the open record where nothing closes, by the condition of a change
 unfoldable pub goes_on : Profile → OpenRecord → ℕ → Message → Option ℕ → OpenRecord
-goes_on p o t m none = reported o m
-goes_on p o t m (some condition) = O.changed (reported o m) condition (time_at p t) (qos_after o m)
+goes_on p o t m None = reported o m
+goes_on p o t m (Some condition) = O.changed (reported o m) condition (time_at p t) (qos_after o m)
 
 -- The record that closes with a cause: "Closing ends the running container once, with condition 2".
 unfoldable pub closed_by : Profile → Context → ℕ → Message → ℕ → Record
@@ -106,13 +106,13 @@ closed_by p c t m cause = record_of p c (O.ended (reported c.current m) 2 (time_
 -- of its set (02, W6)
 unfoldable pub after_closing : Profile → Settings → Context → ℕ → Message → Option Context
 after_closing p g c t m =
-    cond m.releases none
-    (some (going c (O.opened (time_at p t) (qos_after c.current m) (limits_of c.set g.sets)) (c.closed + 1)))
+    cond m.releases None
+    (Some (going c (O.opened (time_at p t) (qos_after c.current m) (limits_of c.set g.sets)) (c.closed + 1)))
 
 -- p is the node's profile, g what it is set to
 unfoldable pub hear_with : Profile → Settings → Context → ℕ → Message → Option ℕ → Step Context Record
-hear_with p g c t m none = record { next = some (going c (goes_on p c.current t m (change_of c.current m)) c.closed); out = [] }
-hear_with p g c t m (some cause) = record { next = after_closing p g c t m; out = closed_by p c t m cause ∷ [] }
+hear_with p g c t m None = record { next = Some (going c (goes_on p c.current t m (change_of c.current m)) c.closed); out = [] }
+hear_with p g c t m (Some cause) = record { next = after_closing p g c t m; out = closed_by p c t m cause ∷ [] }
 
 unfoldable pub hear : Profile → Settings → Context → ℕ → Message → Step Context Record
 hear p g c t m = hear_with p g c t m (closing c.current t m)

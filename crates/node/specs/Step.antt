@@ -1,6 +1,6 @@
 -- One call: the refusal table, and what an accepted event does to the node.
 use Rattle.std.specs.Prelude.{◌≡◌, Bool, false, not, cond, ◌||◌, List, [], ◌∷◌, ◌++◌, map, ℕ, ◌+◌, leb, ltb, eqb, length, drop}
-use Rattle.std.proofs.Math.Option.{Option, none, some}
+use Rattle.std.specs.Prelude.{Option, None, Some}
 use Rattle.container.specs.declared.Qos.{Qos}
 use Rattle.container.specs.Open.{opened}
 use Rattle.limits.specs.declared.Limits.{Limits}
@@ -84,18 +84,18 @@ pub record Words : Type 0 where
   pub replaces : Option Replacement
 
 abbrev pub to_contexts : Option ℕ → ToContexts → Words
-to_contexts number w = record { contexts = w; subscribers = nothing; set = number; replaces = none }
+to_contexts number w = record { contexts = w; subscribers = nothing; set = number; replaces = None }
 
 abbrev pub to_subscribers : ToSubscribers → Words
-to_subscribers w = record { contexts = nothing; subscribers = w; set = none; replaces = none }
+to_subscribers w = record { contexts = nothing; subscribers = w; set = None; replaces = None }
 
 abbrev pub to_settings : Replacement → Words
-to_settings r = record { contexts = nothing; subscribers = nothing; set = some r.set; replaces = some r }
+to_settings r = record { contexts = nothing; subscribers = nothing; set = Some r.set; replaces = Some r }
 
 abbrev pub saying : Meaning → List ℕ → Words
-saying (W.Opens a) s = to_contexts (some a.set) (activates a.name (λ g. brought_by g a s))
-saying (W.Tells n m) s = to_contexts none (tells n m)
-saying (W.TellsAll m) s = to_contexts none (tells_all m)
+saying (W.Opens a) s = to_contexts (Some a.set) (activates a.name (λ g. brought_by g a s))
+saying (W.Tells n m) s = to_contexts None (tells n m)
+saying (W.TellsAll m) s = to_contexts None (tells_all m)
 saying (W.Attaches k q) s = to_subscribers (activates k (λ g. record { imsi = subscriber_imsi s; place = q }))
 saying (W.Notifies k m) s = to_subscribers (tells k m)
 saying (W.Replaces r) s = to_settings r
@@ -105,8 +105,8 @@ takes e s = saying (meaning_of e) s
 
 -- what the node is set to afterwards: a set is "replaced whole by an event that names the set and the next edition" (02, W6)
 unfoldable pub settled_by : Option Replacement → Settings → Settings
-settled_by none g = g
-settled_by (some r) g = record { sets = replaced r.set (record { edition = r.edition; limits = r.limits }) g.sets }
+settled_by None g = g
+settled_by (Some r) g = record { sets = replaced r.set (record { edition = r.edition; limits = r.limits }) g.sets }
 
 -- "opens a record now with empty counters, no containers, change count 0"
 unfoldable pub activated : Profile → ℕ → Name → Brought → Context
@@ -204,12 +204,12 @@ said_of s = takes (event_of s) s
 
 -- it names a set that a node with so many does not have; it replaces a set by another edition than the next one
 unfoldable pub unknown_set : ℕ → Option ℕ → Bool
-unknown_set count none = false
-unknown_set count (some number) = not (has_set count number)
+unknown_set count None = false
+unknown_set count (Some number) = not (has_set count number)
 
 unfoldable pub other_edition : Settings → Option Replacement → Bool
-other_edition g none = false
-other_edition g (some r) = not (is_next r.set r.edition g.sets)
+other_edition g None = false
+other_edition g (Some r) = not (is_next r.set r.edition g.sets)
 
 -- 01's "Refusal numbers, tried in this order", all that a call gives, each with 01's words; 15 to 17 are those of 02's W4, "16 before 15 before
 -- 17, before 11", 18 and 19 of its W6, "both after 7 and before 8". (12 is a fresh node's, 14 a list's, 20 the reader's and 24 the writer's.) Each condition is true or false of any node, octets

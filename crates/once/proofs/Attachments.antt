@@ -1,7 +1,7 @@
 -- Demand 3, attachment by attachment, over the octets: the theorem.
 use mathlib.Core.Path.{◌≡◌, refl, sym, ap, ◌∙◌}
 use mathlib.Core.Bool.{Bool, true, false, cond}
-use mathlib.Core.Option.{none, some}
+use Rattle.std.specs.Prelude.{None, Some}
 use mathlib.Core.List.{List, [], ◌∷◌, ◌++◌, map, append-nil}
 use Prim.Native.Nat.{ℕ, suc}
 use native.Mathlib.Omega.{arith}
@@ -83,14 +83,14 @@ module _ (p : Profile) (name : ℕ) where
   Reaches h t e =
       place_now (began_with (since_opening R h)) (locations p (stretches R (since_opening R h) ++ stretches_at R h t e)) ≡ after (in_force R (since_opening R h)) e
 
-  reaches_moved : (h : History Place Noted) (t : ℕ) (x : Place) (c : ℕ) → closes R h t (moved x) ≡ some c → (b : Bool) → same_place (in_force R h) x ≡ b
+  reaches_moved : (h : History Place Noted) (t : ℕ) (x : Place) (c : ℕ) → closes R h t (moved x) ≡ Some c → (b : Bool) → same_place (in_force R h) x ≡ b
       → Reaches h t (moved x)
-  reaches_moved h t x c q true e = let j : closes R h t (moved x) ≡ none = rw (in_force_open R h, e) in absurd (none≢some (sym j ∙ q))
+  reaches_moved h t x c q true e = let j : closes R h t (moved x) ≡ None = rw (in_force_open R h, e) in absurd (none≢some (sym j ∙ q))
   reaches_moved h t x c q false e =
       let one : stretches_at R h t (moved x) ≡ record { ran = running R h; time = t; event = moved x; condition = 0 } ∷ [] = rw (q, e) in
       rw (one, each_append) (place_more (record { place = x; time = time_in p t }) (began_with (since_opening R h)) (locations p (stretches R (since_opening R h))))
 
-  reaches : (h : History Place Noted) (t : ℕ) (e : Noted) (c : ℕ) → closes R h t e ≡ some c → Reaches h t e
+  reaches : (h : History Place Noted) (t : ℕ) (e : Noted) (c : ℕ) → closes R h t e ≡ Some c → Reaches h t e
   reaches h t managed c q = rw (each_append, append-nil) (fine p h).placed
   reaches h t (detached cause) c q = rw (each_append, append-nil) (fine p h).placed
   reaches h t (moved x) c q = reaches_moved h t x c q _ refl

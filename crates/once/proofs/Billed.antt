@@ -2,7 +2,7 @@
 -- records and then in the stored context are the finished stretches of its histories, once each, in order; with what runs they make
 -- up all that was reported of it by name, up and down. And a record's duration is what the history says.
 use mathlib.Core.Path.{◌≡◌, refl, sym, ◌∙◌}
-use mathlib.Core.Option.{Option}
+use Rattle.std.specs.Prelude.{Option}
 use mathlib.Core.List.{List, [], ◌∷◌, ◌++◌, map}
 use Prim.Native.Nat.{ℕ, ◌+◌, ◌-◌}
 use native.Mathlib.Nat.{add-zero}

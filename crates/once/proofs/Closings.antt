@@ -1,6 +1,6 @@
 -- "No event meets two of them for one context": the event says which closing condition can hold.
 use mathlib.Core.Path.{◌≡◌, refl, sym, ◌∙◌}
-use mathlib.Core.Option.{some}
+use Rattle.std.specs.Prelude.{Some}
 use Prim.Native.Nat.{ℕ}
 use Rattle.history.specs.History.{History, standing}
 use Rattle.history.proofs.Lists.{none≢some}
@@ -17,7 +17,7 @@ candidate Heard.management = 4
 candidate (Heard.replaces i x) = 0
 
 module _ (r : History Force Heard) (t : ℕ) where
-  changes_are : (e : Heard) (k : ℕ) → change (standing after r) e ≡ some k → 3 ≡ candidate e
+  changes_are : (e : Heard) (k : ℕ) → change (standing after r) e ≡ Some k → 3 ≡ candidate e
   changes_are (Heard.traffic u d) k p = absurd (none≢some p)
   changes_are (Heard.qos q) k p = refl
   changes_are Heard.tariff k p = refl

@@ -1,6 +1,6 @@
 -- Demand 3 of a call of one event, after calls of any kind, from the same for calls of any kind: for each kind of subject.
 use mathlib.Core.Path.{◌≡◌, refl, sym, ap, ◌∙◌}
-use mathlib.Core.Option.{Option, none, some}
+use Rattle.std.specs.Prelude.{Option, None, Some}
 use mathlib.Core.List.{List, [], ◌∷◌, map, cons≢nil}
 use Prim.Native.Nat.{ℕ}
 use lib.Dec.{eqb}
@@ -38,8 +38,8 @@ module _ (records : Node → Call → List Cdr) where
 
 -- A kind whose rules work out its closing conditions, and whose records have the causes that they are closed with.
 module _ {G N S E C B : Type 0} (K : Kind G N S E C B) (p : Profile) (calls : List Call) (s b : List ℕ)
-    (says_so : (r : History S E) (t : ℕ) (e : E) (c : ℕ) → cause_for K.rules r t e ≡ some c → K.Closes r t e c)
-    (holds_so : (r : History S E) (t : ℕ) (e : E) (c : ℕ) → K.Closes r t e c → cause_for K.rules r t e ≡ some c)
+    (says_so : (r : History S E) (t : ℕ) (e : E) (c : ℕ) → cause_for K.rules r t e ≡ Some c → K.Closes r t e c)
+    (holds_so : (r : History S E) (t : ℕ) (e : E) (c : ℕ) → K.Closes r t e c → cause_for K.rules r t e ≡ Some c)
     (for : (name : N) (r : Record S E) → K.cause_of (K.forms.as_written name r) ≡ r.cause)
     (one_call : (name : N) → OneCall K.rules K.meaning K.forms K.sight (machine wrote) (fresh_node p) K.settings calls (step s b) name) where
   abbrev R : Rules S E
@@ -77,26 +77,26 @@ module _ {G N S E C B : Type 0} (K : Kind G N S E C B) (p : Profile) (calls : Li
         let o = rw (same-run, same_log) at ((one_call name).one applied_one) in
         o (rw z)
 
-    made : (h : History S E) (e : E) (k : ℕ) → closes R h t e ≡ some k → map written (records_at R h t e) ≡ written (record_at R h t e k) ∷ []
+    made : (h : History S E) (e : E) (k : ℕ) → closes R h t e ≡ Some k → map written (records_at R h t e) ≡ written (record_at R h t e k) ∷ []
     made h e k q = rw q
 
     -- a record is written: by the open history, by what it hears, by what that closes
     module _ (cause : ℕ) where
       by_closing : (h : History S E) (e : E) (o : Option ℕ) → closes R h t e ≡ o
-          → OneFor K.cause_of (map written (records_at R h t e)) cause → closes R h t e ≡ some cause
-      by_closing h e none q w = absurd (cons≢nil (sym w.alone ∙ rw q))
-      by_closing h e (some k) q w =
+          → OneFor K.cause_of (map written (records_at R h t e)) cause → closes R h t e ≡ Some cause
+      by_closing h e None q w = absurd (cons≢nil (sym w.alone ∙ rw q))
+      by_closing h e (Some k) q w =
           let i : K.cause_of w.sole ∷ [] ≡ K.cause_of (written (record_at R h t e k)) ∷ [] =
           ap (λ (rs : List B). map K.cause_of rs) (sym w.alone ∙ made h e k q) in
           let j : K.cause_of w.sole ≡ K.cause_of (written (record_at R h t e k)) = cc in
-          q ∙ ap some (sym (j ∙ for name (record_at R h t e k)) ∙ w.for)
+          q ∙ ap Some (sym (j ∙ for name (record_at R h t e k)) ∙ w.for)
 
       found : answer n c ≡ 0 → (o : Option (History S E)) (q : Option E) → open_one R (activations K p calls name) ≡ o
           → heard R K.meaning name (K.meaning.says s) ≡ q → OneFor K.cause_of (map written (closes_in R o t q)) cause
           → ClosesUnder K p wrote calls s b name cause
-      found z none q i j w = absurd (cons≢nil (sym w.alone))
-      found z (some h) none i j w = absurd (cons≢nil (sym w.alone))
-      found z (some h) (some e) i j w = record {
+      found z None q i j w = absurd (cons≢nil (sym w.alone))
+      found z (Some h) None i j w = absurd (cons≢nil (sym w.alone))
+      found z (Some h) (Some e) i j w = record {
         accepted = z;
         history = h;
         is_open = i;

@@ -2,7 +2,7 @@
 -- what the history says.
 use mathlib.Core.Path.{◌≡◌, refl, sym, ap, ◌∙◌}
 use mathlib.Core.Bool.{true, false}
-use mathlib.Core.Option.{Option, none, some}
+use Rattle.std.specs.Prelude.{Option, None, Some}
 use mathlib.Core.List.{List, [], ◌∷◌, map}
 use Prim.Native.Nat.{ℕ, ◌^◌, ◌<◌}
 use native.Mathlib.Omega.{arith}
@@ -81,7 +81,7 @@ module _ (p : Profile) where
     brings q = record { imsi = imsi; place = q }
 
     abbrev pub noted : Said (Unit {0}) ℕ Place Noted → step.ToSubscribers
-    noted w = alike.said K K' notice (λ e. some (notice e)) (λ m c. refl) (λ c m. refl) (λ g c t e. refl) (λ g c t e. refl) brings w
+    noted w = alike.said K K' notice (λ e. Some (notice e)) (λ m c. refl) (λ c m. refl) (λ g c t e. refl) (λ g c t e. refl) brings w
 
     -- the octets are those of the name
     abbrev pub Right : Said (Unit {0}) ℕ Place Noted → Type 0
@@ -92,9 +92,9 @@ module _ (p : Profile) where
 
     pub after_alike : (t : ℕ) (w : Said (Unit {0}) ℕ Place Noted) (os : List (Option Subscriber)) → Right w
         → table.slots_after K' tt t (noted w) os ≡ table.slots_after K tt t w os
-    after_alike t w os r = alike.after_alike K K' notice (λ e. some (notice e)) (λ m c. refl) (λ c m. refl) (λ g c t e. refl) (λ g c t e. refl) brings tt t w os (opens w r)
+    after_alike t w os r = alike.after_alike K K' notice (λ e. Some (notice e)) (λ m c. refl) (λ c m. refl) (λ g c t e. refl) (λ g c t e. refl) brings tt t w os (opens w r)
       where
-        opens : (w : Said (Unit {0}) ℕ Place Noted) → Right w → alike.Opens K K' notice (λ e. some (notice e)) (λ m c. refl) (λ c m. refl) (λ g c t e. refl) (λ g c t e. refl) brings tt t w
+        opens : (w : Said (Unit {0}) ℕ Place Noted) → Right w → alike.Opens K K' notice (λ e. Some (notice e)) (λ m c. refl) (λ c m. refl) (λ g c t e. refl) (λ g c t e. refl) brings tt t w
         opens (activates m q) r = ap (λ (l : List ℕ). attached p t l (q tt)) r
         opens (tells m e) r = tt
         opens (tells_all e) r = tt
@@ -102,18 +102,18 @@ module _ (p : Profile) where
 
     pub writes_alike : (t : ℕ) (w : Said (Unit {0}) ℕ Place Noted) (os : List (Option Subscriber))
         → table.writes K' tt t (noted w) os ≡ table.writes K tt t w os
-    writes_alike = alike.writes_alike K K' notice (λ e. some (notice e)) (λ m c. refl) (λ c m. refl) (λ g c t e. refl) (λ g c t e. refl) brings tt
+    writes_alike = alike.writes_alike K K' notice (λ e. Some (notice e)) (λ m c. refl) (λ c m. refl) (λ g c t e. refl) (λ g c t e. refl) brings tt
 
     pub admitted : (w : Said (Unit {0}) ℕ Place Noted) (os : List (Option Subscriber)) → table.not_active K' (noted w) os ≡ false
         → table.is_active K' (noted w) os ≡ false → table.all_taken K' (noted w) os ≡ false → admits K w os ≡ true
-    admitted = alike.admitted K K' notice (λ e. some (notice e)) (λ m c. refl) (λ c m. refl) (λ g c t e. refl) (λ g c t e. refl) brings
+    admitted = alike.admitted K K' notice (λ e. Some (notice e)) (λ m c. refl) (λ c m. refl) (λ g c t e. refl) (λ g c t e. refl) brings
 
   -- ---- what hearing keeps
 
   module _ (s : Subscriber) (t : ℕ) (e : Noted) where
     next_is : (o : Option Subscriber) → (hear p s t (notice e)).next ≡ o → NextIs K mm_sight.name_of (name_of s) o
-    next_is none i = tt
-    next_is (some d) i = ap (λ (l : List ℕ). spelt 0 l) (hear_named p s t (notice e) i).0
+    next_is None i = tt
+    next_is (Some d) i = ap (λ (l : List ℕ). spelt 0 l) (hear_named p s t (notice e) i).0
 
     out_is : (rs : List MmRecord) → All (λ r. r.imsi ≡ s.imsi) rs → OutIs K mm_sight.name_of (name_of s) rs
     out_is [] a = tt
@@ -129,8 +129,8 @@ module _ (p : Profile) where
   stay s t e a = go (hear p s t (notice e)).next refl
     where
       go : (o : Option Subscriber) → (hear p s t (notice e)).next ≡ o → alike.Taken K taken o
-      go none i = tt
-      go (some d) i = (hear_named p s t (notice e) i).1 a
+      go None i = tt
+      go (Some d) i = (hear_named p s t (notice e) i).1 a
 
   pub seen_after : (t : ℕ) (w : Said (Unit {0}) ℕ Place Noted) (ss : List Subscriber)
       → map (S.seen taken) (map stood (table.slots_after K tt t w (map (S.seen taken) ss))) ≡ table.slots_after K tt t w (map (S.seen taken) ss)

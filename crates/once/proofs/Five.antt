@@ -2,7 +2,7 @@
 use mathlib.Core.Path.{◌≡◌, refl}
 use mathlib.Core.Logic.{◌↔◌}
 use mathlib.Core.Bool.{Bool, true, false, ◌&&◌}
-use mathlib.Core.Option.{Option, none, some}
+use Rattle.std.specs.Prelude.{Option, None, Some}
 use Prim.Native.Nat.{ℕ, ◌-◌, ◌≤◌}
 use lib.Dec.{leb}
 use borrow.Author.Tests.{leb-true, le-leb}
@@ -16,16 +16,16 @@ use Rattle.once.specs.Charging.{Force, Heard, after, change, volume, changes_of,
 
 module _ (r : History Force Heard) (t : ℕ) where
   -- a test that gives a cause passes, and it is that cause
-  tested : (e : Heard) (b : Bool) (k c : ℕ) → test b k ≡ some c → (b ≡ true → Closes r t e k) → Closes r t e c
+  tested : (e : Heard) (b : Bool) (k c : ℕ) → test b k ≡ Some c → (b ≡ true → Closes r t e k) → Closes r t e c
   tested e true k c i f = let j : k ≡ c = cc in rw j at (f refl)
   tested e false k c i f = absurd (none≢some i)
 
-  reached : (e : Heard) (o : Option ℕ) → change (standing after r) e ≡ o → (c : ℕ) → test (is_some o && leb (limits_for r).changes (changes_of (r ▸ t ∶ e))) 19 ≡ some c
+  reached : (e : Heard) (o : Option ℕ) → change (standing after r) e ≡ o → (c : ℕ) → test (is_some o && leb (limits_for r).changes (changes_of (r ▸ t ∶ e))) 19 ≡ Some c
       → Closes r t e c
-  reached e none q c i = absurd (none≢some i)
-  reached e (some k) q c i = tested e (leb (limits_for r).changes (changes_of (r ▸ t ∶ e))) 19 c i (λ b. by_changes q (leb-true (limits_for r).changes (changes_of (r ▸ t ∶ e)) b))
+  reached e None q c i = absurd (none≢some i)
+  reached e (Some k) q c i = tested e (leb (limits_for r).changes (changes_of (r ▸ t ∶ e))) 19 c i (λ b. by_changes q (leb-true (limits_for r).changes (changes_of (r ▸ t ∶ e)) b))
 
-  pub says_so : (e : Heard) (c : ℕ) → cause_for rules r t e ≡ some c → Closes r t e c
+  pub says_so : (e : Heard) (c : ℕ) → cause_for rules r t e ≡ Some c → Closes r t e c
   says_so (Heard.traffic u d) c i =
       tested (Heard.traffic u d) (leb (limits_for r).volume (volume (r ▸ t ∶ Heard.traffic u d))) 16 c i
       (λ b. by_volume (leb-true (limits_for r).volume (volume (r ▸ t ∶ Heard.traffic u d)) b))
@@ -36,7 +36,7 @@ module _ (r : History Force Heard) (t : ℕ) where
   says_so Heard.management c i = let j : 20 ≡ c = cc in rw (← j) by_management
   says_so (Heard.replaces x y) c i = absurd (none≢some i)
 
-  by_change : (e : Heard) (k : ℕ) → change (standing after r) e ≡ some k → (limits_for r).changes ≤ changes_of (r ▸ t ∶ e) → cause_for rules r t e ≡ some 19
+  by_change : (e : Heard) (k : ℕ) → change (standing after r) e ≡ Some k → (limits_for r).changes ≤ changes_of (r ▸ t ∶ e) → cause_for rules r t e ≡ Some 19
   by_change (Heard.traffic u d) k q b = absurd (none≢some q)
   by_change (Heard.qos x) k q b = rw (le-leb (limits_for r).changes (changes_of (r ▸ t ∶ Heard.qos x)) b, q)
   by_change Heard.tariff k q b = rw (le-leb (limits_for r).changes (changes_of (r ▸ t ∶ Heard.tariff)) b)
@@ -45,7 +45,7 @@ module _ (r : History Force Heard) (t : ℕ) where
   by_change Heard.management k q b = absurd (none≢some q)
   by_change (Heard.replaces x y) k q b = absurd (none≢some q)
 
-  pub holds_so : (e : Heard) (c : ℕ) → Closes r t e c → cause_for rules r t e ≡ some c
+  pub holds_so : (e : Heard) (c : ℕ) → Closes r t e c → cause_for rules r t e ≡ Some c
   holds_so e c (by_volume {u} {d} b) = rw (le-leb (limits_for r).volume (volume (r ▸ t ∶ Heard.traffic u d)) b)
   holds_so e c (by_time b) = rw (le-leb (limits_for r).seconds (t - began r) b)
   holds_so e c (by_changes {k = k} q b) = by_change e k q b

@@ -3,7 +3,7 @@
 use mathlib.Core.Path.{◌≡◌, refl, sym, ap, ◌∙◌}
 use mathlib.Core.Logic.{◌↔◌}
 use mathlib.Core.Bool.{Bool, true, false, cond}
-use mathlib.Core.Option.{Option, none, some}
+use Rattle.std.specs.Prelude.{Option, None, Some}
 use mathlib.Core.List.{List, [], map}
 use Prim.Native.Nat.{ℕ, ◌+◌}
 use native.Mathlib.Omega.{arith}
@@ -78,30 +78,30 @@ starts_with g v m s e =
     (λ r. absurd (not_activates (sym (says_replaces v r) ∙ e)))
     (λ r. rw r (rw e at (says_still g v r)))
 
-heard_calm : (g : Settings) (n : Name) (w : Said Settings Name Force Heard) (e : Heard) → Still g w → heard rules meaning n w ≡ some e → Calm e
+heard_calm : (g : Settings) (n : Name) (w : Said Settings Name Force Heard) (e : Heard) → Still g w → heard rules meaning n w ≡ Some e → Calm e
 heard_calm g n (activates m s) e k i = absurd (none≢some i)
 heard_calm g n (tells m x) e k i =
     by (same n m)
-    (λ r. let j : some x ≡ some e = rw r at i in let q : x ≡ e = cc in rw q at k)
+    (λ r. let j : Some x ≡ Some e = rw r at i in let q : x ≡ e = cc in rw q at k)
     (λ r. absurd (none≢some (rw r at i)))
 heard_calm g n (tells_all x) e k i = let q : x ≡ e = cc in rw q at k
 heard_calm g n nothing e k i = absurd (none≢some i)
 
-hears_of : (n : Name) (s : Force) (v : List ℕ) (e : Heard) → heard rules meaning n (says v) ≡ some e → (after s e).settings ≡ settles s.settings v
+hears_of : (n : Name) (s : Force) (v : List ℕ) (e : Heard) → heard rules meaning n (says v) ≡ Some e → (after s e).settings ≡ settles s.settings v
 unfolding settles
 hears_of n s v e i =
     by (eqb (kind_of v) 12)
     (λ r.
-    let j : some (Heard.replaces (number_of v) (new_set v)) ≡ some e = rw (says_replaces v r) at i in
+    let j : Some (Heard.replaces (number_of v) (new_set v)) ≡ Some e = rw (says_replaces v r) at i in
     let q : Heard.replaces (number_of v) (new_set v) ≡ e = cc in
     rw (r, ← q))
     (λ r. rw r (heard_calm s.settings n (says v) e (says_still s.settings v r) i s))
 
-none_hears : (n : Name) (g : Settings) (v : List ℕ) → heard rules meaning n (says v) ≡ none → settles g v ≡ g
+none_hears : (n : Name) (g : Settings) (v : List ℕ) → heard rules meaning n (says v) ≡ None → settles g v ≡ g
 unfolding settles
 none_hears n g v i =
     by (eqb (kind_of v) 12)
-    (λ r. let j : some (Heard.replaces (number_of v) (new_set v)) ≡ none = rw (says_replaces v r) at i in absurd (none≢some (sym j)))
+    (λ r. let j : Some (Heard.replaces (number_of v) (new_set v)) ≡ None = rw (says_replaces v r) at i in absurd (none≢some (sym j)))
     (λ r. rw r)
 
 -- ---- the same in the node's words
@@ -120,13 +120,13 @@ brings s = record {
 
 -- what all contexts are told: a replacement is nothing to them
 abbrev pub to_all : Heard → Option node.Message
-to_all (Heard.traffic u d) = some (nodes (Heard.traffic u d))
-to_all (Heard.qos q) = some (nodes (Heard.qos q))
-to_all Heard.tariff = some (nodes Heard.tariff)
-to_all (Heard.release cause) = some (nodes (Heard.release cause))
-to_all Heard.tick = some (nodes Heard.tick)
-to_all Heard.management = some (nodes Heard.management)
-to_all (Heard.replaces i x) = none
+to_all (Heard.traffic u d) = Some (nodes (Heard.traffic u d))
+to_all (Heard.qos q) = Some (nodes (Heard.qos q))
+to_all Heard.tariff = Some (nodes Heard.tariff)
+to_all (Heard.release cause) = Some (nodes (Heard.release cause))
+to_all Heard.tick = Some (nodes Heard.tick)
+to_all Heard.management = Some (nodes Heard.management)
+to_all (Heard.replaces i x) = None
 
 abbrev pub handling : Profile → table.Handling Settings Name Force Heard (List ℕ) Context scdr.Record
 handling p = record {
@@ -155,13 +155,13 @@ module _ (p : Profile) where
   same_too c m = refl
 
   -- a context that hears nothing is as it was
-  quiet_keeps : (g : Settings) (c : Context) (t : ℕ) → ◌≡◌ {A = table.Step Context scdr.Record} (record { next = some c; out = [] }) (hear p g c t quiet)
+  quiet_keeps : (g : Settings) (c : Context) (t : ℕ) → ◌≡◌ {A = table.Step Context scdr.Record} (record { next = Some c; out = [] }) (hear p g c t quiet)
   unfolding hear hear_with closing limit_met change_of goes_on reported
   quiet_keeps g c t =
       let u : c.current.uplink ≡ c.current.uplink + 0 = omega arith in
       let d : c.current.downlink ≡ c.current.downlink + 0 = omega arith in
       λ i. record {
-        next = some (going c (record {
+        next = Some (going c (record {
           opening = c.current.opening;
           qos = c.current.qos;
           limits = c.current.limits;
@@ -207,8 +207,8 @@ module _ (p : Profile) where
   -- ---- what hearing keeps: the name, and that the slot is taken
 
   abbrev pub Taken : ℕ → Option Context → Type 0
-  Taken a none = Unit {0}
-  Taken a (some c) = c.active ≡ a
+  Taken a None = Unit {0}
+  Taken a (Some c) = c.active ≡ a
 
   pub record Keeps (c : Context) (s : table.Step Context scdr.Record) : Type 0 where
     pub bears : Bears K sight.name_of c.name s
@@ -216,14 +216,14 @@ module _ (p : Profile) where
 
   module _ (g : Settings) (c : Context) (t : ℕ) (h : node.Message) where
     after_closing_lem : (r : Bool) (d : Context) → d.name ≡ c.name → d.active ≡ c.active
-        → NextIs K sight.name_of c.name (cond r none (some d)) × Taken c.active (cond r none (some d))
+        → NextIs K sight.name_of c.name (cond r None (Some d)) × Taken c.active (cond r None (Some d))
     after_closing_lem true d n a = (tt, tt)
     after_closing_lem false d n a = (n, a)
 
     keeps_by : (o : Option ℕ) → Keeps c (hear_with p g c t h o)
     unfolding hear_with closed_by after_closing record_of
-    keeps_by none = record { bears = record { next = refl; out = tt }; taken = refl }
-    keeps_by (some cause) =
+    keeps_by None = record { bears = record { next = refl; out = tt }; taken = refl }
+    keeps_by (Some cause) =
         let w = after_closing_lem h.releases (going c _ (c.closed + 1)) refl refl in
         record { bears = record { next = w.0; out = (refl, tt) }; taken = w.1 }
 
@@ -237,8 +237,8 @@ module _ (p : Profile) where
   stay g c t e a = go (K.hear g c t e).next (keeps g c t (nodes e)).taken
     where
       go : (o : Option Context) → Taken c.active o → alike.Taken K step.taken o
-      go none k = tt
-      go (some d) k = ap (λ (x : ℕ). eqb x 1) k ∙ a
+      go None k = tt
+      go (Some d) k = ap (λ (x : ℕ). eqb x 1) k ∙ a
 
   -- what the node sees of the slots after an event is what stands there
   pub seen_after : (g : Settings) (t : ℕ) (w : Said Settings Name Force Heard) (cs : List Context)

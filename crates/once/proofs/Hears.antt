@@ -1,7 +1,7 @@
 -- A stored context hears an event as its history says: of every history, and every event.
 use mathlib.Core.Path.{◌≡◌, refl, sym, ap, ◌∙◌}
 use mathlib.Core.Bool.{Bool, true, false, cond, ◌&&◌}
-use mathlib.Core.Option.{Option, none, some}
+use Rattle.std.specs.Prelude.{Option, None, Some}
 use mathlib.Core.List.{List, [], ◌∷◌, ◌++◌, map}
 use Prim.Native.Nat.{ℕ, zero, suc, ◌+◌}
 use native.Mathlib.Numerals.{add-one}
@@ -58,9 +58,9 @@ Closing (Heard.replaces i x) = ⊥
 
 -- ---- the volumes of containers, and the number of a record
 
-or_none_lem : (o : Option ℕ) → or_else o none ≡ o
-or_none_lem none = refl
-or_none_lem (some k) = refl
+or_none_lem : (o : Option ℕ) → or_else o None ≡ o
+or_none_lem None = refl
+or_none_lem (Some k) = refl
 
 volumes : (p : Profile) (xs : List (Stretch Force Heard))
     → volume_of (map (container p) xs) ≡ sum_of (λ x. total up (whole x)) xs + sum_of (λ x. total down (whole x)) xs
@@ -131,7 +131,7 @@ module _ (p : Profile) (n : Name) (t : ℕ) where
     ends e condition = cs ++ (record { qos = s.qos; uplink = u + up e; downlink = d + down e; condition = condition; time = time_in p t } ∷ [])
 
     after_closing_lem : (e : Heard) → Closing e
-        → after_closing p s.settings c t (nodes e) ≡ cond (is_some (releases e)) none (some (context (after s e) (next_limits (after s e)) 0 0 t 0 [] (suc j)))
+        → after_closing p s.settings c t (nodes e) ≡ cond (is_some (releases e)) None (Some (context (after s e) (next_limits (after s e)) 0 0 t 0 [] (suc j)))
     unfolding after_closing qos_after
     after_closing_lem (Heard.traffic x y) z = rw (add-one j)
     after_closing_lem (Heard.qos q) z = rw (add-one j)
@@ -162,12 +162,12 @@ module _ (p : Profile) (n : Name) (t : ℕ) where
     change_is (Heard.replaces i x) = refl
 
     -- an event that is no change leaves what is in force
-    kept : (q : Qos) (b : Bool) → same_qos s.qos q ≡ b → cond {A = Option ℕ} b none (some 0) ≡ none → s.qos ≡ q
+    kept : (q : Qos) (b : Bool) → same_qos s.qos q ≡ b → cond {A = Option ℕ} b None (Some 0) ≡ None → s.qos ≡ q
     kept q true e i = same_qos_lem s.qos q e
     kept q false e i = absurd (none≢some (sym i))
 
-    goes_on_lem : (e : Heard) → change s e ≡ none
-        → going c (goes_on p c.current t (nodes e) none) j ≡ context (after s e) l (u + up e) (d + down e) o k cs j
+    goes_on_lem : (e : Heard) → change s e ≡ None
+        → going c (goes_on p c.current t (nodes e) None) j ≡ context (after s e) l (u + up e) (d + down e) o k cs j
     unfolding goes_on reported
     goes_on_lem (Heard.traffic x y) i = refl
     goes_on_lem (Heard.qos q) i = rw (← kept q (same_qos s.qos q) refl i)
@@ -177,8 +177,8 @@ module _ (p : Profile) (n : Name) (t : ℕ) where
     goes_on_lem Heard.management i = refl
     goes_on_lem (Heard.replaces x y) i = refl
 
-    goes_changed : (e : Heard) (condition : ℕ) → change s e ≡ some condition
-        → going c (goes_on p c.current t (nodes e) (some condition)) j ≡ context (after s e) l 0 0 o (suc k) (ends e condition) j
+    goes_changed : (e : Heard) (condition : ℕ) → change s e ≡ Some condition
+        → going c (goes_on p c.current t (nodes e) (Some condition)) j ≡ context (after s e) l 0 0 o (suc k) (ends e condition) j
     unfolding goes_on reported qos_after
     goes_changed (Heard.traffic x y) condition i = absurd (none≢some i)
     goes_changed (Heard.qos q) condition i = rw (take_padded cs, add-one k)
@@ -189,7 +189,7 @@ module _ (p : Profile) (n : Name) (t : ℕ) where
     goes_changed (Heard.replaces x y) condition i = absurd (none≢some i)
 
     -- a replacement closes nothing
-    is_closing : (e : Heard) {cause : ℕ} → closing c.current t (nodes e) ≡ some cause → Closing e
+    is_closing : (e : Heard) {cause : ℕ} → closing c.current t (nodes e) ≡ Some cause → Closing e
     unfolding closing limit_met change_of
     is_closing (Heard.traffic x y) i = tt
     is_closing (Heard.qos q) i = tt
@@ -200,20 +200,20 @@ module _ (p : Profile) (n : Name) (t : ℕ) where
     is_closing (Heard.replaces x y) i = none≢some i
 
     -- hearing, by what closes and what changes
-    hear_closing : (e : Heard) (cause : ℕ) → closing c.current t (nodes e) ≡ some cause → hear p s.settings c t (nodes e) ≡ record {
-      next = cond (is_some (releases e)) none (some (context (after s e) (next_limits (after s e)) 0 0 t 0 [] (suc j)));
+    hear_closing : (e : Heard) (cause : ℕ) → closing c.current t (nodes e) ≡ Some cause → hear p s.settings c t (nodes e) ≡ record {
+      next = cond (is_some (releases e)) None (Some (context (after s e) (next_limits (after s e)) 0 0 t 0 [] (suc j)));
       out = bill s o (ends e 2) (number j (is_some (releases e))) cause ∷ [];
     }
     unfolding hear hear_with
     hear_closing e cause i = rw (i, after_closing_lem e (is_closing e i), closed_by_lem e cause)
 
-    hear_change : (e : Heard) (condition : ℕ) → closing c.current t (nodes e) ≡ none → change s e ≡ some condition
-        → hear p s.settings c t (nodes e) ≡ record { next = some (context (after s e) l 0 0 o (suc k) (ends e condition) j); out = [] }
+    hear_change : (e : Heard) (condition : ℕ) → closing c.current t (nodes e) ≡ None → change s e ≡ Some condition
+        → hear p s.settings c t (nodes e) ≡ record { next = Some (context (after s e) l 0 0 o (suc k) (ends e condition) j); out = [] }
     unfolding hear hear_with
     hear_change e condition i q = rw (i, change_is e, q, goes_changed e condition q)
 
-    hear_plain : (e : Heard) → closing c.current t (nodes e) ≡ none → change s e ≡ none
-        → hear p s.settings c t (nodes e) ≡ record { next = some (context (after s e) l (u + up e) (d + down e) o k cs j); out = [] }
+    hear_plain : (e : Heard) → closing c.current t (nodes e) ≡ None → change s e ≡ None
+        → hear p s.settings c t (nodes e) ≡ record { next = Some (context (after s e) l (u + up e) (d + down e) o k cs j); out = [] }
     unfolding hear hear_with
     hear_plain e i q = rw (i, change_is e, q, goes_on_lem e q)
 
@@ -263,20 +263,20 @@ module _ (p : Profile) (n : Name) (h : History Force Heard) (t : ℕ) where
     now = in_force R h
 
     -- a release closes
-    not_released : (o q : Option ℕ) → or_else o q ≡ none → is_some o ≡ false
-    not_released none q i = refl
-    not_released (some x) q i = absurd (none≢some (sym i))
+    not_released : (o q : Option ℕ) → or_else o q ≡ None → is_some o ≡ false
+    not_released None q i = refl
+    not_released (Some x) q i = absurd (none≢some (sym i))
 
-    told_closed : (cause : ℕ) → closes R h t e ≡ some cause → told R (forms p) n h t e ≡ record {
-      next = cond (is_some (releases e)) none (some (context p n t (after now e) (next_limits p n t (after now e)) 0 0 t 0 [] (suc (closings R h))));
+    told_closed : (cause : ℕ) → closes R h t e ≡ Some cause → told R (forms p) n h t e ≡ record {
+      next = cond (is_some (releases e)) None (Some (context p n t (after now e) (next_limits p n t (after now e)) 0 0 t 0 [] (suc (closings R h))));
       out =
           bill p n t now (began past) (ends p n t now (limits_for past) (total up (running R h)) (total down (running R h)) (began past) (changes_of past) held (closings R h) e 2)
           (number (closings R h) (is_some (releases e))) cause ∷ [];
     }
     told_closed cause i = told_closing R (forms p) n h t e cause i ∙ rw (map_append, in_force_open R h, in_force_running R h)
 
-    told_changed : (condition : ℕ) → closes R h t e ≡ none → change now e ≡ some condition → told R (forms p) n h t e ≡ record {
-      next = some (context p n t (after now e) (limits_for past) 0 0 (began past) (suc (changes_of past))
+    told_changed : (condition : ℕ) → closes R h t e ≡ None → change now e ≡ Some condition → told R (forms p) n h t e ≡ record {
+      next = Some (context p n t (after now e) (limits_for past) 0 0 (began past) (suc (changes_of past))
           (ends p n t now (limits_for past) (total up (running R h)) (total down (running R h)) (began past) (changes_of past) held (closings R h) e condition) (closings R h));
       out = [];
     }
@@ -284,17 +284,17 @@ module _ (p : Profile) (n : Name) (h : History Force Heard) (t : ℕ) where
         told_change R (forms p) n h t e condition i q
         ∙ rw (not_released (releases e) (R.closing past t e) i, map_append, in_force_open R h, in_force_running R h, q)
 
-    told_plainly : closes R h t e ≡ none → change now e ≡ none → told R (forms p) n h t e ≡ record {
-      next = some (context p n t (after now e) (limits_for past) (total up (running R h) + up e) (total down (running R h) + down e) (began past)
+    told_plainly : closes R h t e ≡ None → change now e ≡ None → told R (forms p) n h t e ≡ record {
+      next = Some (context p n t (after now e) (limits_for past) (total up (running R h) + up e) (total down (running R h) + down e) (began past)
           (changes_of past) held (closings R h));
       out = [];
     }
     told_plainly i q = told_plain R (forms p) n h t e i q ∙ rw (not_released (releases e) (R.closing past t e) i, in_force_open R h, in_force_running R h, q)
 
     hears_by : (o k : Option ℕ) → cause_for R past t e ≡ o → change now e ≡ k → hear p now.settings (stands now) t (nodes e) ≡ told R (forms p) n h t e
-    hears_by (some cause) k i q = hear_closing p n t now _ _ _ _ _ held (closings R h) e cause (closes_alike e ∙ i) ∙ sym (told_closed cause i)
-    hears_by none (some condition) i q = hear_change p n t now _ _ _ _ _ held (closings R h) e condition (closes_alike e ∙ i) q ∙ sym (told_changed condition i q)
-    hears_by none none i q = hear_plain p n t now _ _ _ _ _ held (closings R h) e (closes_alike e ∙ i) q ∙ sym (told_plainly i q)
+    hears_by (Some cause) k i q = hear_closing p n t now _ _ _ _ _ held (closings R h) e cause (closes_alike e ∙ i) ∙ sym (told_closed cause i)
+    hears_by None (Some condition) i q = hear_change p n t now _ _ _ _ _ held (closings R h) e condition (closes_alike e ∙ i) q ∙ sym (told_changed condition i q)
+    hears_by None None i q = hear_plain p n t now _ _ _ _ _ held (closings R h) e (closes_alike e ∙ i) q ∙ sym (told_plainly i q)
 
     pub hears_told : hear p now.settings ((forms p).as_stored n (leaves R h)) t (nodes e) ≡ told R (forms p) n h t e
     hears_told = ap (λ (c : Context). hear p now.settings c t (nodes e)) is_stored ∙ hears_by _ _ refl refl

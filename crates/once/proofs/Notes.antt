@@ -1,7 +1,7 @@
 -- A stored subscriber hears an event as its history says: of every history, and every event.
 use mathlib.Core.Path.{◌≡◌, refl, sym, ap, ◌∙◌}
 use mathlib.Core.Bool.{Bool, true, false, cond}
-use mathlib.Core.Option.{Option, none, some}
+use Rattle.std.specs.Prelude.{Option, None, Some}
 use mathlib.Core.List.{List, [], ◌∷◌, ◌++◌, append-nil}
 use Prim.Native.Nat.{ℕ, suc, ◌+◌, ◌≤◌, ◌<◌}
 use native.Mathlib.Numerals.{add-one}
@@ -77,10 +77,10 @@ module _ (p : Profile) where
           placed = rw more (place_more c (began_with r) (listed r));
         }
 
-    goes : (e : Noted) → cause_for R r t e ≡ none → Fine (r ▸ t ∶ e)
+    goes : (e : Noted) → cause_for R r t e ≡ None → Fine (r ▸ t ∶ e)
     goes (moved q) i =
         by (same_place (in_force R r) q) (λ e. stayed q e)
-        (λ e. by (leb 15 (suc (changes_of r))) (λ k. let j : cause_for R r t (moved q) ≡ some 19 = rw (e, k) in absurd (none≢some (sym i ∙ j))) (λ k. went q e k))
+        (λ e. by (leb 15 (suc (changes_of r))) (λ k. let j : cause_for R r t (moved q) ≡ Some 19 = rw (e, k) in absurd (none≢some (sym i ∙ j))) (λ k. went q e k))
     goes managed i = absurd (none≢some (sym i))
     goes (detached cause) i = absurd (none≢some (sym i))
 
@@ -90,8 +90,8 @@ module _ (p : Profile) where
 
   next_fine : (h : History Place Noted) (t : ℕ) (e : Noted) → Fine (since_opening R h) → (o : Option ℕ) → cause_for R (since_opening R h) t e ≡ o
       → Fine (since_opening R (h ▸ t ∶ e))
-  next_fine h t e f none i = rw i (goes (since_opening R h) f (open_open R h) t e i)
-  next_fine h t e f (some k) i = rw i (anew t (in_force R (h ▸ t ∶ e)))
+  next_fine h t e f None i = rw i (goes (since_opening R h) f (open_open R h) t e i)
+  next_fine h t e f (Some k) i = rw i (anew t (in_force R (h ▸ t ∶ e)))
 
   pub fine : (h : History Place Noted) → Fine (since_opening R h)
   fine (start t q) = anew t q
@@ -136,8 +136,8 @@ module _ (p : Profile) (n : ℕ) (h : History Place Noted) (t : ℕ) where
 
   -- the closings
 
-  shut : (e : Noted) (k : ℕ) → change now e ≡ none → closes R h t e ≡ some k → told R (forms p) n h t e ≡ record {
-    next = cond (is_some (releases e)) none (some (node.opened p (imsi_of n) t now (s.closed + 1)));
+  shut : (e : Noted) (k : ℕ) → change now e ≡ None → closes R h t e ≡ Some k → told R (forms p) n h t e ≡ record {
+    next = cond (is_some (releases e)) None (Some (node.opened p (imsi_of n) t now (s.closed + 1)));
     out = node.record_of p s t k (is_some (releases e)) ∷ [];
   }
   unfolding node.record_of node.number_for no_changes
@@ -145,10 +145,10 @@ module _ (p : Profile) (n : ℕ) (h : History Place Noted) (t : ℕ) where
       told_closing R (forms p) n h t e k i
       ∙ rw (numbers (closings R h) (is_some (releases e)), c, each_append, append-nil, add-one, kept e c)
     where
-      kept : (e : Noted) → change now e ≡ none → after now e ≡ now
+      kept : (e : Noted) → change now e ≡ None → after now e ≡ now
       kept (moved q) c = sym (same_place_lem now q (same (same_place now q) refl c))
         where
-          same : (b : Bool) → same_place now q ≡ b → cond {A = Option ℕ} b none (some 0) ≡ none → same_place now q ≡ true
+          same : (b : Bool) → same_place now q ≡ b → cond {A = Option ℕ} b None (Some 0) ≡ None → same_place now q ≡ true
           same true x i = x
           same false x i = absurd (none≢some (sym i))
       kept managed c = refl
@@ -156,37 +156,37 @@ module _ (p : Profile) (n : ℕ) (h : History Place Noted) (t : ℕ) where
 
   -- a change: the fifteenth, and one before it
 
-  module _ (q : Place) (c : change now (moved q) ≡ some 0) where
-    full : closes R h t (moved q) ≡ some 19 → told R (forms p) n h t (moved q) ≡ record {
-      next = some (node.opened p (imsi_of n) t q (s.closed + 1));
+  module _ (q : Place) (c : change now (moved q) ≡ Some 0) where
+    full : closes R h t (moved q) ≡ Some 19 → told R (forms p) n h t (moved q) ≡ record {
+      next = Some (node.opened p (imsi_of n) t q (s.closed + 1));
       out = node.record_of p (node.listed p s t q) t 19 false ∷ [];
     }
     unfolding node.record_of node.number_for node.listed no_changes
     full i = told_closing R (forms p) n h t (moved q) 19 i ∙ rw (c, each_append, add-one, filled q, longer q)
 
-    one_more : closes R h t (moved q) ≡ none → told R (forms p) n h t (moved q) ≡ record { next = some (node.listed p s t q); out = [] }
+    one_more : closes R h t (moved q) ≡ None → told R (forms p) n h t (moved q) ≡ record { next = Some (node.listed p s t q); out = [] }
     unfolding node.listed
     one_more i = told_change R (forms p) n h t (moved q) 0 i c ∙ rw (each_append, filled q, longer q)
 
   stays : (q : Place) → same_place now q ≡ true → node.hear p s t (N.Moved q) ≡ told R (forms p) n h t (moved q)
   unfolding node.hear
   stays q e =
-      let c : change now (moved q) ≡ none = rw e in
-      let i : closes R h t (moved q) ≡ none = rw (in_force_open R h, e) in
+      let c : change now (moved q) ≡ None = rw e in
+      let i : closes R h t (moved q) ≡ None = rw (in_force_open R h, e) in
       rw (in_place, e) (sym (told_plain R (forms p) n h t (moved q) i c))
 
   moves : (q : Place) → same_place now q ≡ false → node.hear p s t (N.Moved q) ≡ told R (forms p) n h t (moved q)
   unfolding node.hear node.closes_with node.fifteenth node.listed
   moves q e =
-      let c : change now (moved q) ≡ some 0 = rw e in
+      let c : change now (moved q) ≡ Some 0 = rw e in
       let m = ok.count in
       by (leb 15 (suc (changes_of past)))
       (λ k.
-      let i : closes R h t (moved q) ≡ some 19 = rw (in_force_open R h, e, k) in
+      let i : closes R h t (moved q) ≡ Some 19 = rw (in_force_open R h, e, k) in
       let j : leb 15 (length cs + 1) ≡ true = le-leb 15 (length cs + 1) (omega (arith, leb-true 15 (suc (changes_of past)) k)) in
       rw (in_place, e, j) (sym (full q c i)))
       (λ k.
-      let i : closes R h t (moved q) ≡ none = rw (in_force_open R h, e, k) in
+      let i : closes R h t (moved q) ≡ None = rw (in_force_open R h, e, k) in
       let j : leb 15 (length cs + 1) ≡ false = lt-leb 15 (length cs + 1) (omega (arith, leb-false 15 (suc (changes_of past)) k)) in
       rw (in_place, e, j) (sym (one_more q c i)))
 

@@ -1,7 +1,7 @@
 -- Every octet once, of the node (demand 3): the theorem.
 use mathlib.Core.Path.{◌≡◌, refl, sym, ap, ◌∙◌}
 use mathlib.Core.Bool.{true}
-use mathlib.Core.Option.{some}
+use Rattle.std.specs.Prelude.{Some}
 use mathlib.Core.List.{List, [], ◌∷◌}
 use Prim.Native.Nat.{ℕ}
 use native.Mathlib.Omega.{arith}
@@ -90,8 +90,8 @@ module _ (p : Profile) (cs : List Call) where
 -- a kind that is charged, and whose rules work out its closing conditions
 charged : {G N S E C B : Type 0} (K : Kind G N S E C B) (p : Profile)
     → ((cs : List Call) (n : N) → Demand3 K.rules K.meaning K.forms K.sight (machine wrote) (fresh_node p) K.settings cs n)
-    → ((r : History S E) (t : ℕ) (e : E) (c : ℕ) → cause_for K.rules r t e ≡ some c → K.Closes r t e c)
-    → ((r : History S E) (t : ℕ) (e : E) (c : ℕ) → K.Closes r t e c → cause_for K.rules r t e ≡ some c)
+    → ((r : History S E) (t : ℕ) (e : E) (c : ℕ) → cause_for K.rules r t e ≡ Some c → K.Closes r t e c)
+    → ((r : History S E) (t : ℕ) (e : E) (c : ℕ) → K.Closes r t e c → cause_for K.rules r t e ≡ Some c)
     → ((name : N) (r : Record S E) → K.cause_of (K.forms.as_written name r) ≡ r.cause)
     → ((r : History S E) (t : ℕ) (e : E) (j k : ℕ) → K.Closes r t e j → K.Closes r t e k → j ≡ k) → Charged K p wrote
 charged K p d says holds for one = record {

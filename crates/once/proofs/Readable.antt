@@ -1,7 +1,7 @@
 -- The octets of all calls from a fresh node read mark by mark as the records that they are.
 use mathlib.Core.Path.{◌≡◌, refl, sym, ap, ◌∙◌}
 use mathlib.Core.Bool.{true}
-use mathlib.Core.Option.{some}
+use Rattle.std.specs.Prelude.{Some}
 use mathlib.Core.List.{List, [], ◌∷◌, ◌++◌, map}
 use Prim.Native.Nat.{ℕ}
 use Rattle.format.proofs.Tests.{and_i, true_T}
@@ -85,7 +85,7 @@ wrote_right n c w o =
     (all_right single (λ a. Octets a.event) (λ m a. step_kept m a.event a.buffer) one_right (ones n c) n w (ones_octets n c o))
 
 pub output_reads : (p : Profile) (cs : List Call) → profile_ok p ≡ true → outputs (fresh_node p) cs ≡ marked (all_written (machine wrote) (fresh_node p) cs)
-    → HeldProfile p → All Given cs → record_list (outputs (fresh_node p) cs) ≡ some (all_written (machine wrote) (fresh_node p) cs)
+    → HeldProfile p → All Given cs → record_list (outputs (fresh_node p) cs) ≡ Some (all_written (machine wrote) (fresh_node p) cs)
 output_reads p cs ok e h o =
     let rs = all_written (machine wrote) (fresh_node p) cs in
     ap record_list (e ∙ marked_list rs) ∙ list_reads rs (all_right (machine wrote) Given one_kept wrote_right cs (fresh_node p) (fresh_whole p ok h) o)

@@ -1,7 +1,7 @@
 -- What a call of one event does, by its answer: accepted, the table does what the histories say of its event; refused, nothing.
 use mathlib.Core.Path.{◌≡◌, refl, sym, ap, ◌∙◌}
 use mathlib.Core.Bool.{true, false, cond}
-use mathlib.Core.Option.{none, some}
+use Rattle.std.specs.Prelude.{None, Some}
 use mathlib.Core.List.{List, [], ◌∷◌, ◌++◌, map}
 use Prim.Native.Nat.{ℕ, zero, suc}
 use lib.Dec.{eqb}
@@ -39,8 +39,8 @@ abbrev pub meant : Profile → List ℕ → step.Words
 meant p s = record {
   contexts = said p (says s);
   subscribers = noted p (subscriber_imsi s) (attaching.says s);
-  set = cond (eqb (kind_of s) 1) (some (set_of s)) (cond (eqb (kind_of s) 12) (some (get_or s 7 0)) none);
-  replaces = cond (eqb (kind_of s) 12) (some (replacement_of s)) none;
+  set = cond (eqb (kind_of s) 1) (Some (set_of s)) (cond (eqb (kind_of s) 12) (Some (get_or s 7 0)) None);
+  replaces = cond (eqb (kind_of s) 12) (Some (replacement_of s)) None;
 }
 
 pub says_alike : (p : Profile) (s : List ℕ) → known s ≡ true → step.said_of s ≡ meant p s

@@ -2,7 +2,7 @@
 use mathlib.Core.Path.{◌≡◌, refl, sym, ◌∙◌}
 use mathlib.Core.Logic.{◌↔◌}
 use mathlib.Core.Bool.{Bool, true, false}
-use mathlib.Core.Option.{some}
+use Rattle.std.specs.Prelude.{Some}
 use Prim.Native.Nat.{ℕ}
 use lib.Dec.{leb}
 use borrow.Author.Tests.{leb-true, le-leb}
@@ -17,7 +17,7 @@ use Rattle.once.specs.Attaching.{Noted, moved, managed, detached, after, changes
 
 module _ (r : History Place Noted) (t : ℕ) where
   reached : (q : Place) (b : Bool) → same_place (standing after r) q ≡ b → (k : Bool) → leb 15 (changes_of (r ▸ t ∶ moved q)) ≡ k → (c : ℕ)
-      → cause_for rules r t (moved q) ≡ some c → Closes r t (moved q) c
+      → cause_for rules r t (moved q) ≡ Some c → Closes r t (moved q) c
   reached q true e k f c i = absurd (none≢some (rw e at i))
   reached q false e true f c i =
       let g = rw (f, e) at i in
@@ -26,12 +26,12 @@ module _ (r : History Place Noted) (t : ℕ) where
       rw j at z
   reached q false e false f c i = absurd (none≢some (rw (f, e) at i))
 
-  pub says_so : (e : Noted) (c : ℕ) → cause_for rules r t e ≡ some c → Closes r t e c
+  pub says_so : (e : Noted) (c : ℕ) → cause_for rules r t e ≡ Some c → Closes r t e c
   says_so (moved q) c i = reached q _ refl _ refl c i
   says_so managed c i = let j : 20 ≡ c = cc in rw (← j) by_management
   says_so (detached x) c i = let j : x ≡ c = cc in rw (← j) by_detach
 
-  pub holds_so : (e : Noted) (c : ℕ) → Closes r t e c → cause_for rules r t e ≡ some c
+  pub holds_so : (e : Noted) (c : ℕ) → Closes r t e c → cause_for rules r t e ≡ Some c
   holds_so e c (by_fifteenth {q} o b) = rw (le-leb 15 (changes_of (r ▸ t ∶ moved q)) b, o)
   holds_so e c by_management = refl
   holds_so e c by_detach = refl

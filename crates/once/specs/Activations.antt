@@ -1,7 +1,7 @@
 -- Demand 3 read over the octets, activation by activation: its containers, read through its closed records and then its open one,
 -- are the containers of its stretches. Nothing is lost, and nothing is there twice.
 use Rattle.std.specs.Prelude.{◌≡◌, cond, List, [], ◌∷◌, ◌++◌, map, ◌+◌, take}
-use Rattle.std.proofs.Math.Option.{some}
+use Rattle.std.specs.Prelude.{Some}
 use Rattle.container.specs.declared.Container.{Container}
 use Rattle.scdr.specs.declared.Record as scdr
 use Rattle.scdr.specs.Rules.{duration}
@@ -53,7 +53,7 @@ pub record ChargedOnce (p : Profile) (name : Name) (a : Activation) : Type 0 whe
 pub record PerActivation (p : Profile) (calls : List Call) (name : Name) : Type 0 where
   -- All the octets that the calls wrote, read mark by mark, are these records.
   pub output : List Cdr
-  pub read : record_list (outputs (fresh_node p) calls) ≡ some output
+  pub read : record_list (outputs (fresh_node p) calls) ≡ Some output
   -- There is one of these for each activation of the name, first to last.
   pub one_each : List Activation
   pub histories : map (λ a. a.history) one_each ≡ activations (contexts p) p calls name

@@ -2,7 +2,7 @@
 -- history, and the M-CDR and the stored subscriber that a history makes. Histories, stretches and records are those of the crate `history`: a
 -- stretch is the time at one place. Nothing here says how the node works.
 use Rattle.std.specs.Prelude.{◌≡◌, false, cond, ◌&&◌, List, [], ◌∷◌, ℕ, ◌-◌, ◌^◌, ◌≤◌, leb, ltb, eqb, length}
-use Rattle.std.proofs.Math.Option.{Option, none, some}
+use Rattle.std.specs.Prelude.{Option, None, Some}
 use Rattle.ber.specs.Int.{lowest}
 use Rattle.ber.specs.Field.{or_zero}
 use Rattle.mcdr.specs.declared.Place.{Place}
@@ -56,15 +56,15 @@ after p (detached cause) = p
 
 -- "A change to the place in force is none". A change ends the stretch with condition 0.
 abbrev pub change : Place → Noted → Option ℕ
-change p (moved q) = cond (same_place p q) none (some 0)
-change p managed = none
-change p (detached cause) = none
+change p (moved q) = cond (same_place p q) None (Some 0)
+change p managed = None
+change p (detached cause) = None
 
 -- "detach with 0 or 4"
 abbrev pub releases : Noted → Option ℕ
-releases (moved q) = none
-releases managed = none
-releases (detached cause) = some cause
+releases (moved q) = None
+releases managed = None
+releases (detached cause) = Some cause
 
 -- the number of changes of a history
 abbrev pub changes_of : History Place Noted → ℕ
@@ -74,13 +74,13 @@ changes_of h = tally after change h
 -- listed and closes it with 19, and nothing else does; management closes with 20".
 abbrev pub closing : History Place Noted → ℕ → Noted → Option ℕ
 closing r t (moved q) = test (is_some (change (standing after r) (moved q)) && leb 15 (changes_of (r ▸ t ∶ moved q))) 19
-closing r t managed = some 20
-closing r t (detached cause) = none
+closing r t managed = Some 20
+closing r t (detached cause) = None
 
 -- A closing ends the stretch too: as the change that it is besides, or with 2.
 abbrev pub last : Option ℕ → ℕ
-last none = 2
-last (some k) = k
+last None = 2
+last (Some k) = k
 
 abbrev pub rules : Rules Place Noted
 rules = record { after = after; change = change; release = releases; closing = closing; last = last }

@@ -1,7 +1,7 @@
 -- Demand 3 read over the octets, attachment by attachment (02, W4): "location changes in place of containers". Its location changes, read
 -- through its closed records and then its open one, are the changes of its history. Nothing is lost, and nothing is there twice.
 use Rattle.std.specs.Prelude.{◌≡◌, cond, List, [], ◌∷◌, ◌++◌, map, ℕ, ◌+◌, eqb}
-use Rattle.std.proofs.Math.Option.{some}
+use Rattle.std.specs.Prelude.{Some}
 use Rattle.ber.specs.Field.{or_zero}
 use Rattle.mcdr.specs.declared.Place.{Place}
 use Rattle.mcdr.specs.declared.Change.{Change}
@@ -66,7 +66,7 @@ pub record AttachedOnce (p : Profile) (name : ℕ) (a : Attachment) : Type 0 whe
 pub record PerAttachment (p : Profile) (calls : List Call) (name : ℕ) : Type 0 where
   -- All the octets that the calls wrote, read mark by mark, are these records.
   pub output : List Cdr
-  pub read : record_list (outputs (fresh_node p) calls) ≡ some output
+  pub read : record_list (outputs (fresh_node p) calls) ≡ Some output
   -- There is one of these for each attachment of the name, first to last.
   pub one_each : List Attachment
   pub histories : map (λ a. a.history) one_each ≡ activations (subscribers p) p calls name

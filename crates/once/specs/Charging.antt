@@ -2,7 +2,7 @@
 -- history, and the S-CDR and the stored context that a history makes. Histories, stretches and records are those of the crate
 -- `history`. Nothing here says how the node works.
 use Rattle.std.specs.Prelude.{◌≡◌, Bool, true, cond, ◌&&◌, List, map, ℕ, ◌+◌, ◌-◌, ◌/◌, ◌%◌, ◌≤◌, leb, eqb, length, get_or}
-use Rattle.std.proofs.Math.Option.{Option, none, some}
+use Rattle.std.specs.Prelude.{Option, None, Some}
 use Rattle.ber.specs.Int.{number_in}
 use Rattle.calendar.specs.declared.Stamp.{Stamp}
 use Rattle.container.specs.declared.Qos.{Qos}
@@ -144,23 +144,23 @@ after s (Heard.replaces i x) = record { brought = s.brought; qos = s.qos; settin
 -- "QoS to a different profile ends the container, condition 0. To the same profile: no change. Tariff ends the container of every
 -- context, condition 1, empty ones included." A replacement "cuts nothing and closes nothing" (02, W6).
 abbrev pub change : Force → Heard → Option ℕ
-change s (Heard.traffic u d) = none
-change s (Heard.qos q) = cond (same_qos s.qos q) none (some 0)
-change s Heard.tariff = some 1
-change s (Heard.release cause) = none
-change s Heard.tick = none
-change s Heard.management = none
-change s (Heard.replaces i x) = none
+change s (Heard.traffic u d) = None
+change s (Heard.qos q) = cond (same_qos s.qos q) None (Some 0)
+change s Heard.tariff = Some 1
+change s (Heard.release cause) = None
+change s Heard.tick = None
+change s Heard.management = None
+change s (Heard.replaces i x) = None
 
 -- "(0, 4, 18) release with that cause"
 abbrev pub releases : Heard → Option ℕ
-releases (Heard.traffic u d) = none
-releases (Heard.qos q) = none
-releases Heard.tariff = none
-releases (Heard.release cause) = some cause
-releases Heard.tick = none
-releases Heard.management = none
-releases (Heard.replaces i x) = none
+releases (Heard.traffic u d) = None
+releases (Heard.qos q) = None
+releases Heard.tariff = None
+releases (Heard.release cause) = Some cause
+releases Heard.tick = None
+releases Heard.management = None
+releases (Heard.replaces i x) = None
 
 -- uplink plus downlink, and the number of changes, of a history
 abbrev pub volume : History Force Heard → ℕ
@@ -185,10 +185,10 @@ abbrev pub closing : History Force Heard → ℕ → Heard → Option ℕ
 closing r t (Heard.traffic u d) = test (leb (limits_for r).volume (volume (r ▸ t ∶ Heard.traffic u d))) 16
 closing r t (Heard.qos q) = reaches r t (Heard.qos q)
 closing r t Heard.tariff = reaches r t Heard.tariff
-closing r t (Heard.release cause) = none
+closing r t (Heard.release cause) = None
 closing r t Heard.tick = test (leb (limits_for r).seconds (t - began r)) 17
-closing r t Heard.management = some 20
-closing r t (Heard.replaces i x) = none
+closing r t Heard.management = Some 20
+closing r t (Heard.replaces i x) = None
 
 -- "Closing ends the running container once, with condition 2 (also under 19)."
 abbrev pub rules : Rules Force Heard
@@ -199,7 +199,7 @@ rules = record { after = after; change = change; release = releases; closing = c
 pub data Closes (r : History Force Heard) (t : ℕ) : Heard → ℕ → Type 0 where
   by_volume : {u d : ℕ} → (limits_for r).volume ≤ volume (r ▸ t ∶ Heard.traffic u d) → Closes r t (Heard.traffic u d) 16
   by_time : (limits_for r).seconds ≤ t - began r → Closes r t Heard.tick 17
-  by_changes : {e : Heard} {k : ℕ} → change (standing after r) e ≡ some k → (limits_for r).changes ≤ changes_of (r ▸ t ∶ e) → Closes r t e 19
+  by_changes : {e : Heard} {k : ℕ} → change (standing after r) e ≡ Some k → (limits_for r).changes ≤ changes_of (r ▸ t ∶ e) → Closes r t e 19
   by_management : Closes r t Heard.management 20
   by_release : {cause : ℕ} → Closes r t (Heard.release cause) cause
 
@@ -230,8 +230,8 @@ container p x = record {
 
 -- "only in the first record of an activation": the number is 1, or there is none
 abbrev pub first : Option ℕ → Bool
-first none = true
-first (some k) = eqb k 1
+first None = true
+first (Some k) = eqb k 1
 
 -- bit 0 of the flags is network-initiated, bit 1 arrived by SGSN change
 abbrev pub bit0 : ℕ → Bool

@@ -2,7 +2,7 @@
 -- (02, W2), the octets that they write included, and about nothing else of the node. It holds of both kinds of subject: PDP contexts, and
 -- subscribers (02, W4), whose location changes stand in the place of containers.
 use Rattle.std.specs.Prelude.{◌≡◌, ◌↔◌, List, [], ◌∷◌, ◌++◌, map, ℕ, ◌^◌, ◌≤◌, ◌<◌, length, take, drop}
-use Rattle.std.proofs.Math.Option.{some}
+use Rattle.std.specs.Prelude.{Some}
 use Rattle.scdr.specs.declared.Record as scdr
 use Rattle.mcdr.specs.declared.Place.{Place}
 use Rattle.mcdr.specs.declared.MmRecord.{MmRecord}
@@ -193,9 +193,9 @@ module _ {G N S E C B : Type 0} (K : Kind G N S E C B) (p : Profile) (records_by
   pub record ClosesUnder (name : N) (cause : ℕ) : Type 0 where
     pub accepted : answer_then ≡ 0
     pub history : History S E
-    pub is_open : open_one K.rules (activations K p calls name) ≡ some history
+    pub is_open : open_one K.rules (activations K p calls name) ≡ Some history
     pub event : E
-    pub hears : heard K.rules K.meaning name (K.meaning.says s) ≡ some event
+    pub hears : heard K.rules K.meaning name (K.meaning.says s) ≡ Some event
     pub condition : K.Closes (since_opening K.rules history) (time_of s) event cause
 
   pub record EachCall : Type 0 where
@@ -240,7 +240,7 @@ pub record Once (p : Profile) : Type 0 where
   pub all_octets_lem : (calls : List Call) → outputs (fresh_node p) calls ≡ marked (all_written (machine records_by) (fresh_node p) calls)
   -- Read mark by mark they are these records and nothing else, where events are octets and the profile is one that the code can hold.
   pub reads : HeldProfile p → (calls : List Call) → All Given calls
-      → record_list (outputs (fresh_node p) calls) ≡ some (all_written (machine records_by) (fresh_node p) calls)
+      → record_list (outputs (fresh_node p) calls) ≡ Some (all_written (machine records_by) (fresh_node p) calls)
   -- Both kinds are charged by them: PDP contexts in S-CDRs, subscribers in M-CDRs.
   pub sessions : Charged (contexts p) p records_by
   pub mobility : Charged (subscribers p) p records_by

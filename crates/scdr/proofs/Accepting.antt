@@ -1,7 +1,8 @@
 -- What the reader of a record finds: all of the octets under A0, the fields, the duration, the rules.
 use mathlib.Core.Path.{◌≡◌, refl, sym, ap, subst, ◌∙◌}
 use mathlib.Core.Bool.{Bool, true, false, ◌&&◌}
-use mathlib.Core.Option.{Option, none, some, none-ne-some}
+use Rattle.std.specs.Prelude.{Option, None, Some}
+use Rattle.std.proofs.lemmas.Option.{none-some}
 use mathlib.Core.List.{List, [], ◌∷◌}
 use Prim.Native.Nat.{ℕ, zero, suc, ◌+◌, ◌-◌, ◌^◌, ◌≤◌}
 use native.Mathlib.Nat.{le_of_suc-le-suc}
@@ -37,18 +38,18 @@ use Rattle.scdr.proofs.Answering.{shaped_is}
 
 -- ---- the value under A0
 
-scdr_absent : (s : List ℕ) → tlv_dec record_tag (drop 0 s) ≡ none → scdr.dec s ≡ none
+scdr_absent : (s : List ℕ) → tlv_dec record_tag (drop 0 s) ≡ None → scdr.dec s ≡ None
 unfolding scdr
 scdr_absent s = alone_absent record_tag inside s
 
 -- empty contents are no record
-inside_hollow : inside.dec [] ≡ none
+inside_hollow : inside.dec [] ≡ None
 unfolding inside body first tlv_dec
 inside_hollow = refl
 
 -- what was answered of the value under A0
 module _ {s : List ℕ} {from to : ℕ} (l : Lies s 0 record_tag from to) where
-  pub record_not : (to ≡ length s → ⊥) → scdr.dec s ≡ none
+  pub record_not : (to ≡ length s → ⊥) → scdr.dec s ≡ None
   unfolding scdr
   record_not n = alone_not_all record_tag inside l n
 
@@ -59,8 +60,8 @@ module _ {s : List ℕ} {from to : ℕ} (l : Lies s 0 record_tag from to) where
 -- ---- what was read has the shape of a record
 
 node_most : (o : Option (List ℕ)) → row_good NodeId o → length (or_none o) ≤ 20
-node_most none g = omega arith
-node_most (some x) g = g.0
+node_most None g = omega arith
+node_most (Some x) g = g.0
 
 good_shaped : (w : Fields) → body.good w → shaped (to_record w) ≡ true
 unfolding body to_record containers
@@ -79,7 +80,7 @@ module _ (s : List ℕ) {w : Wire} (v : Wired s w) where
   abbrev asked : Bool
   asked = w.ok && (eqb w.lasts (duration w.cdr) && within w.cdr)
 
-  wire_lost : w.ok ≡ false → inside.dec s ≡ none
+  wire_lost : w.ok ≡ false → inside.dec s ≡ None
   unfolding inside
   wire_lost e = rw (v.no e)
 
@@ -94,10 +95,10 @@ module _ (s : List ℕ) {w : Wire} (v : Wired s w) where
   wire_is : inside.dec s ≡ guard asked w.cdr
   wire_is = by w.ok (λ y. wire_read y ∙ rw y) (λ n. wire_lost n ∙ rw n)
 
-  pub wire_yes : asked ≡ true → inside.dec s ≡ some w.cdr
+  pub wire_yes : asked ≡ true → inside.dec s ≡ Some w.cdr
   wire_yes y = wire_is ∙ rw y
 
-  pub wire_no : asked ≡ false → inside.dec s ≡ none
+  pub wire_no : asked ≡ false → inside.dec s ≡ None
   wire_no n = wire_is ∙ rw n
 
   pub wire_ends : asked ≡ true → NameEnds s w
@@ -105,7 +106,7 @@ module _ (s : List ℕ) {w : Wire} (v : Wired s w) where
 
 -- ---- the answers
 
-reads_record : (s : List ℕ) {r : Record} → scdr.dec s ≡ some r → ReadsRecord s 0 r
+reads_record : (s : List ℕ) {r : Record} → scdr.dec s ≡ Some r → ReadsRecord s 0 r
 unfolding read_of
 reads_record s e = record { is = rw e }
 
@@ -130,11 +131,11 @@ part_of_part s a n x y h k =
     let e : a + y - (a + x) ≡ y - x = omega arith in
     rw (e, ← drop-drop x a s) (sym (take_inside x y n (drop a s) h k))
 
-pub taken_record : {s : List ℕ} {from to : ℕ} (l : Lies s 0 record_tag from to) {w : Wire} → NameEnds (cut (from, to) s) w → scdr.dec s ≡ some w.cdr
+pub taken_record : {s : List ℕ} {from to : ℕ} (l : Lies s 0 record_tag from to) {w : Wire} → NameEnds (cut (from, to) s) w → scdr.dec s ≡ Some w.cdr
     → Taken s 0 w.cdr (from + w.apnend - w.cdr.apnlen) (from + w.apnend)
 unfolding apn_of apn_place
 taken_record {s} {from} {to} l {w} u d = by_part l
-    (λ n _. absurd (none-ne-some w.cdr (sym (scdr_absent s n) ∙ d)))
+    (λ n _. absurd (none-some w.cdr (sym (scdr_absent s n) ∙ d)))
     (λ p.
     let start = w.apnend - w.cdr.apnlen in
     let n = part_length p in
@@ -149,7 +150,7 @@ taken_record {s} {from} {to} l {w} u d = by_part l
       name = part_of_part s from (to - from) start w.apnend (omega arith) (omega (arith, u.inside, n)) ∙ name ∙ rw d;
     })
 
-pub taken_nothing : (s : List ℕ) {n : ℕ} {r : Record} {from to : ℕ} → scdr.dec s ≡ none → NotTaken n r from to → Taken s n r from to
+pub taken_nothing : (s : List ℕ) {n : ℕ} {r : Record} {from to : ℕ} → scdr.dec s ≡ None → NotTaken n r from to → Taken s n r from to
 unfolding read_of apn_of apn_place
 taken_nothing s d n = record {
   reads = record { is = rw d (λ i. (n.number i, n.blank i)) };

@@ -1,7 +1,7 @@
 -- The answers of the test of the rules, of the writer and of the reader.
 use mathlib.Core.Path.{◌≡◌, sym, ap, ◌∙◌}
 use mathlib.Core.Bool.{Bool, true, false, ◌&&◌}
-use mathlib.Core.Option.{Option, some}
+use Rattle.std.specs.Prelude.{Option, Some}
 use mathlib.Core.List.{List, append-nil}
 use Prim.Native.Nat.{ℕ, ◌^◌, ◌≤◌, ◌<◌}
 use native.Mathlib.Omega.{arith}
@@ -64,11 +64,11 @@ module _ (r : Record) (t : T (rules r)) where
   pub body_short : length (body.enc (of_record r)) ≤ 1024
   body_short = omega (arith, at_most_1024 r t, ap length (octets_are r), tlv_length record_tag (body.enc (of_record r)))
 
-  pub octets_form : {x : List ℕ} → x ≡ body.enc (of_record r) → tlv_form record_tag x ≡ some (scdr.enc r)
-  octets_form e = ap (tlv_form record_tag) e ∙ tlv_yes record_tag (body.enc (of_record r)) (omega (arith, body_short)) ∙ ap {B = Option (List ℕ)} some
+  pub octets_form : {x : List ℕ} → x ≡ body.enc (of_record r) → tlv_form record_tag x ≡ Some (scdr.enc r)
+  octets_form e = ap (tlv_form record_tag) e ∙ tlv_yes record_tag (body.enc (of_record r)) (omega (arith, body_short)) ∙ ap {B = Option (List ℕ)} Some
       (octets_are r)
 
-  module _ (w : within r ≡ true) {b b' : List ℕ} {n : ℕ} (p : Puts (some (scdr.enc r)) b b' 0 n) where
+  module _ (w : within r ≡ true) {b b' : List ℕ} {n : ℕ} (p : Puts (Some (scdr.enc r)) b b' 0 n) where
     pub writes_full : n ≡ nowhere → Writes r b b' 11 0
     unfolding write_of
     writes_full e = record { is = (answer_full w p (omega (arith, at_most_1024 r t)) e).is }

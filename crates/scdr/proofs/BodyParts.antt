@@ -1,7 +1,7 @@
 -- The parts in which the code writes a record's fields make its body.
 use mathlib.Core.Path.{◌≡◌, sym, ap, ◌∙◌}
 use mathlib.Core.Bool.{◌&&◌}
-use mathlib.Core.Option.{some}
+use Rattle.std.specs.Prelude.{Some}
 use mathlib.Core.List.{List, [], ◌∷◌, ◌++◌, append-nil}
 use Prim.Native.Nat.{ℕ, ◌≤◌}
 use native.Mathlib.Omega.{arith}
@@ -55,7 +55,7 @@ count_known r t l =
 pub list_form_lem : (r : Record) → T (within r) → length r.containers ≡ 15
     → guard (leb 1 r.count && leb r.count 15 && all_formed no_container (take r.count r.containers))
     (row_enc Containers (take r.count r.containers))
-    ≡ some (row_enc Containers (take r.count r.containers))
+    ≡ Some (row_enc Containers (take r.count r.containers))
 list_form_lem r t l =
     let p = places_rules r (withins r t).list in
     let k = list_rules r.opening (take r.count r.containers) p.list in

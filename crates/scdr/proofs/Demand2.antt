@@ -3,7 +3,7 @@
 -- promise. That there are such answers, and only one each, is said too (here, and in Fixes.antt). The proof is ber's, of any record.
 use mathlib.Core.Path.{◌≡◌, refl, ◌∙◌}
 use mathlib.Core.Logic.{◌↔◌}
-use mathlib.Core.Option.{Option, none, some}
+use Rattle.std.specs.Prelude.{Option, None, Some}
 use mathlib.Core.List.{List, ◌++◌}
 use Prim.Native.Nat.{ℕ, ◌≤◌}
 use lib.Dec.{T}
@@ -35,8 +35,8 @@ writes p = record { is = p.is }
 
 read_as_lem : (o : Option Record) → read_of o ≡ read_as blank_record o
 unfolding read_of
-read_as_lem none = refl
-read_as_lem (some r) = refl
+read_as_lem None = refl
+read_as_lem (Some r) = refl
 
 -- ---- demand 2
 

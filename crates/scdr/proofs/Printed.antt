@@ -3,7 +3,7 @@
 use lib.Dec.{T}
 use lib.ListN.{length}
 use mathlib.Core.Path.{◌≡◌, refl, ap, ◌∙◌}
-use mathlib.Core.Option.{Option, some}
+use Rattle.std.specs.Prelude.{Option, Some}
 use Rattle.format.proofs.Formats.{eqs_eq}
 use Rattle.ber.specs.Int.{int_enc, lowest}
 use Rattle.ber.specs.Length.{len_enc, len_dec}
@@ -37,7 +37,7 @@ unfolding sample only printed fill_to no_containers scdr inside body of_record f
     tlv_enc len_enc int_enc lowest imsi_enc halves leading stamp_enc month_day seek month_len
 sample_octets = eqs_eq (scdr.enc sample) printed tt
 
-pub sample_read : scdr.dec printed ≡ some sample
+pub sample_read : scdr.dec printed ≡ Some sample
 sample_read = rw (← sample_octets) (round_trip sample sample_within)
 
 -- "a", the 37th octet

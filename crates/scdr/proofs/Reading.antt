@@ -1,7 +1,7 @@
 -- Sixteen fields read one after another are the body.
 use mathlib.Core.Path.{◌≡◌, refl, sym}
 use mathlib.Core.Bool.{Bool, false}
-use mathlib.Core.Option.{none, some}
+use Rattle.std.specs.Prelude.{None, Some}
 use mathlib.Core.List.{List}
 use Prim.Native.Nat.{ℕ, ◌-◌, ◌<◌}
 use native.Mathlib.Omega.{arith}
@@ -134,11 +134,11 @@ module _ {s : List ℕ} (h : length s < nowhere) {p₁ p₂ p₃ p₄ p₅ p₆ 
   all : Gets s table 0 (both (take 6 table) (drop 6 table) values_before (take apnlen apn ⨾ values_after)) p₁₆
   all = rows_then s (take 6 table) (drop 6 table) 0 p₆ p₁₆ values_before (take apnlen apn ⨾ values_after) before (p₇, row Apn (copies_reads rApn).0, after)
 
-  fields_yes : p₁₆ ≡ length s → body.dec s ≡ some (fields_of record_of lasts)
+  fields_yes : p₁₆ ≡ length s → body.dec s ≡ Some (fields_of record_of lasts)
   unfolding body fields_of
   fields_yes e = rest_whole (rows_yes s table 0 (fields_of record_of lasts) p₁₆ all e)
 
-  fields_no : (p₁₆ ≡ length s → ⊥) → body.dec s ≡ none
+  fields_no : (p₁₆ ≡ length s → ⊥) → body.dec s ≡ None
   unfolding body fields_of
   fields_no e = rest_whole (rows_no s table 0 (fields_of record_of lasts) p₁₆ all e)
 

@@ -3,7 +3,7 @@
 use mathlib.Core.Path.{◌≡◌, sym, ap, ◌∙◌}
 use mathlib.Core.Logic.{◌↔◌}
 use mathlib.Core.Bool.{Bool, true, false, ◌&&◌}
-use mathlib.Core.Option.{none, some}
+use Rattle.std.specs.Prelude.{None, Some}
 use mathlib.Core.List.{List, [], ◌∷◌}
 use Prim.Native.Nat.{ℕ, ◌^◌, ◌≤◌, ◌<◌}
 use native.Mathlib.Omega.{arith}
@@ -150,11 +150,11 @@ unfolding scdr inside body containers
 at_most_1024 r t = let h = scdr_law.fits r ((good_is_rules r).1 t) in omega arith
 
 -- the octets of a record within the rules read back as that record
-pub round_trip : (r : Record) → T (rules r) → scdr.dec (scdr.enc r) ≡ some r
+pub round_trip : (r : Record) → T (rules r) → scdr.dec (scdr.enc r) ≡ Some r
 round_trip r t = scdr_law.complete r ((good_is_rules r).1 t)
 
 -- octets read as a record exactly where the record is within the rules and they are its octets
-pub exact : (s : List ℕ) (r : Record) → (scdr.dec s ≡ some r) ↔ (T (rules r) × (scdr.enc r ≡ s))
+pub exact : (s : List ℕ) (r : Record) → (scdr.dec s ≡ Some r) ↔ (T (rules r) × (scdr.enc r ≡ s))
 exact s r = (
   λ e. let p = scdr_law.sound s r e in ((good_is_rules r).0 p.0, p.1),
   λ h. sym (ap scdr.dec h.1) ∙ round_trip r h.0,
@@ -165,11 +165,11 @@ pub one_record : (a b : Record) → T (rules a) → T (rules b) → scdr.enc a �
 one_record a b s t e = injective scdr scdr_law a b ((good_is_rules a).1 s) ((good_is_rules b).1 t) e
 
 -- what is refused is the octets of no record within the rules
-pub none_refused : (s : List ℕ) → scdr.dec s ≡ none → (r : Record) → T (rules r) → scdr.enc r ≡ s → ⊥
+pub none_refused : (s : List ℕ) → scdr.dec s ≡ None → (r : Record) → T (rules r) → scdr.enc r ≡ s → ⊥
 none_refused s n r t e = refuses scdr scdr_law s n r ((good_is_rules r).1 t) e
 
 -- the access point name of a record that is read is lowered: "The reader refuses capitals" (02, W5)
-pub no_capitals : (s : List ℕ) (r : Record) → scdr.dec s ≡ some r → lowered (take r.apnlen r.apn) ≡ take r.apnlen r.apn
+pub no_capitals : (s : List ℕ) (r : Record) → scdr.dec s ≡ Some r → lowered (take r.apnlen r.apn) ≡ take r.apnlen r.apn
 unfolding rules
 no_capitals s r e =
     let w = withins r (and_r (shaped r) (within r) ((exact s r).0 e).0) in

@@ -1,7 +1,8 @@
 -- Where a field lies: the readers that go from field to field come to the place to which `walk` comes.
 use mathlib.Core.Path.{◌≡◌, refl, sym, ap, subst, ◌∙◌}
 use mathlib.Core.Bool.{Bool, false, not, cond, ◌&&◌}
-use mathlib.Core.Option.{Option, none, some, none-ne-some, some-injective}
+use Rattle.std.specs.Prelude.{Option, None, Some}
+use Rattle.std.proofs.lemmas.Option.{none-some, same_Some}
 use mathlib.Core.List.{List, [], ◌∷◌}
 use Prim.Native.Nat.{ℕ, zero, suc, ◌+◌, ◌-◌, ◌≤◌, ◌<◌}
 use native.Mathlib.Nat.{not-suc-le-zero, le_of_suc-le-suc}
@@ -26,12 +27,12 @@ use Rattle.scdr.specs.Apn.{walk}
 -- ---- one value
 
 -- what has contents under a tag has that tag
-tag_is : (s : List ℕ) (at u : ℕ) {q : List ℕ × List ℕ} → tlv_dec u (drop at s) ≡ some q → get_or s at 0 ≡ u
+tag_is : (s : List ℕ) (at u : ℕ) {q : List ℕ × List ℕ} → tlv_dec u (drop at s) ≡ Some q → get_or s at 0 ≡ u
 tag_is s at u {q} d =
     either (length s) at
-    (λ h. absurd (none-ne-some q (sym (part_end s at u h) ∙ d)))
+    (λ h. absurd (none-some q (sym (part_end s at u h) ∙ d)))
     (λ h. by (eqb (get_or s at 0) u) (eqb-true (get_or s at 0) u)
-    (λ n. absurd (none-ne-some q (sym (part_other s at u h (eqb-false (get_or s at 0) u n)) ∙ d))))
+    (λ n. absurd (none-some q (sym (part_other s at u h (eqb-false (get_or s at 0) u n)) ∙ d))))
 
 module _ {s : List ℕ} {at u a e : ℕ} (p : PartIs s at u a e) where
   walk_part : (n t : ℕ) → walk (suc n) t s at ≡ cond (eqb u t) (a, e) (walk n t s e)
@@ -40,23 +41,23 @@ module _ {s : List ℕ} {at u a e : ℕ} (p : PartIs s at u a e) where
 
 -- a value of format x under the tag, which ends at next
 module _ (u : ℕ) {A : Type 0} (x : Fmt A) (s : List ℕ) (at : ℕ) {v : A} {next : ℕ} where
-  value_part : next ≤ length s → first u x (drop at s) ≡ some (v, drop next s)
-      → (a : ℕ) × PartIs s at u a next × (x.dec (take (next - a) (drop a s)) ≡ some v)
+  value_part : next ≤ length s → first u x (drop at s) ≡ Some (v, drop next s)
+      → (a : ℕ) × PartIs s at u a next × (x.dec (take (next - a) (drop a s)) ≡ Some v)
   unfolding first
   value_part j d = go (part_at s at u) refl
     where
-      go : (o : Option (ℕ × ℕ)) → part_at s at u ≡ o → (a : ℕ) × PartIs s at u a next × (x.dec (take (next - a) (drop a s)) ≡ some v)
-      go none q = absurd (none-ne-some (v, drop next s) (rw (part_none s at u q) at d))
-      go (some (a, e)) q =
+      go : (o : Option (ℕ × ℕ)) → part_at s at u ≡ o → (a : ℕ) × PartIs s at u a next × (x.dec (take (next - a) (drop a s)) ≡ Some v)
+      go None q = absurd (none-some (v, drop next s) (rw (part_none s at u q) at d))
+      go (Some (a, e)) q =
           let p = part_some s at u q in
-          let (b, f, g) = bind_some (x.dec (take (e - a) (drop a s))) (λ a. some (a, drop e s)) (v, drop next s) (rw p.is at d) in
-          let i = some-injective (b, drop e s) (v, drop next s) g in
+          let (b, f, g) = bind_some (x.dec (take (e - a) (drop a s))) (λ a. Some (a, drop e s)) (v, drop next s) (rw p.is at d) in
+          let i = same_Some (b, drop e s) (v, drop next s) g in
           let w : b ≡ v = ap (λ (z : A × List ℕ). z.0) i in
           let r : drop e s ≡ drop next s = ap (λ (z : A × List ℕ). z.1) i in
           let k : e ≡ next = omega (arith, ap length r, length-drop e s, length-drop next s, p.inside) in (
             a,
             subst (λ (m : ℕ). PartIs s at u a m) k p,
-            subst (λ (m : ℕ). x.dec (take (m - a) (drop a s)) ≡ some v) k (f ∙ ap {B = Option A} some w),
+            subst (λ (m : ℕ). x.dec (take (m - a) (drop a s)) ≡ Some v) k (f ∙ ap {B = Option A} Some w),
           )
 
 -- ---- one value after another
@@ -77,7 +78,7 @@ stays s at next k t z j e f =
 
 -- it lies after a value under another tag
 over_value : (u : ℕ) {A : Type 0} (x : Fmt A) (s : List ℕ) (at : ℕ) {v : A} {next k t : ℕ} {z : ℕ × ℕ}
-    → at ≤ length s → first u x (drop at s) ≡ some (v, drop next s) → eqb u t ≡ false → Finds k t s next z → Finds (suc k) t s at z
+    → at ≤ length s → first u x (drop at s) ≡ Some (v, drop next s) → eqb u t ≡ false → Finds k t s next z → Finds (suc k) t s at z
 over_value u x s at {v} {next} {k} {t} {z} j d ne f = record { place = j; is = go }
   where
     go : (n : ℕ) → suc k ≤ n → walk n t s at ≡ z
@@ -86,15 +87,15 @@ over_value u x s at {v} {next} {k} {t} {z} j d ne f = record { place = j; is = g
 
 -- or after a value that may be missing, and may be such a one
 over_maybe : (u : ℕ) {A : Type 0} (x : Fmt A) (s : List ℕ) (at next k t : ℕ) (z : ℕ × ℕ) (q : Option A × List ℕ)
-    → at ≤ length s → maybe u x (drop at s) ≡ some q → q.1 ≡ drop next s → eqb u t ≡ false → Finds k t s next z → Finds (suc k) t s at z
+    → at ≤ length s → maybe u x (drop at s) ≡ Some q → q.1 ≡ drop next s → eqb u t ≡ false → Finds k t s next z → Finds (suc k) t s at z
 unfolding maybe
 over_maybe u {A} x s at next k t z q j g l ne f =
     by (starts u (drop at s))
     (λ y.
-    let (b, m, o) = bind_some (first u x (drop at s)) (λ p. some (some p.0, p.1)) q (rw y at g) in
-    let e : b.1 ≡ drop next s = ap (λ (y : Option A × List ℕ). y.1) (some-injective (some b.0, b.1) q o) ∙ l in
-    over_value u x s at j (m ∙ ap {B = Option (A × List ℕ)} (λ (y : List ℕ). some (b.0, y)) e) ne f)
-    (λ y. stays s at next k t z j (ap (λ (y : Option A × List ℕ). y.1) (some-injective (none, drop at s) q (rw y at g)) ∙ l) f)
+    let (b, m, o) = bind_some (first u x (drop at s)) (λ p. Some (Some p.0, p.1)) q (rw y at g) in
+    let e : b.1 ≡ drop next s = ap (λ (y : Option A × List ℕ). y.1) (same_Some (Some b.0, b.1) q o) ∙ l in
+    over_value u x s at j (m ∙ ap {B = Option (A × List ℕ)} (λ (y : List ℕ). Some (b.0, y)) e) ne f)
+    (λ y. stays s at next k t z j (ap (λ (y : Option A × List ℕ). y.1) (same_Some (None, drop at s) q (rw y at g)) ∙ l) f)
 
 over_row : (r : Row) (s : List ℕ) (at next k t : ℕ) (z : ℕ × ℕ) (v : Value r) → Got (row_dec r) s at v next → eqb (tag r) t ≡ false
     → Finds k t s next z → Finds (suc k) t s at z
@@ -104,17 +105,17 @@ over_row (always u x) s at next k t z v g ne f =
     over_value u x s at j d ne f
 over_row (if_set u c) s at next k t z v g ne f =
     let (j, d) = got_found s (flagged u c) at next v g f.place in
-    let (q, m, w) = bind_some (maybe u (exactly c) (drop at s)) (λ p. some (is_there p.0, p.1)) (v, drop next s) d in
-    over_maybe u (exactly c) s at next k t z q j m (ap (λ (y : Bool × List ℕ). y.1) (some-injective (is_there q.0, q.1) (v, drop next s) w)) ne f
+    let (q, m, w) = bind_some (maybe u (exactly c) (drop at s)) (λ p. Some (is_there p.0, p.1)) (v, drop next s) d in
+    over_maybe u (exactly c) s at next k t z q j m (ap (λ (y : Bool × List ℕ). y.1) (same_Some (is_there q.0, q.1) (v, drop next s) w)) ne f
 over_row (if_any u x) s at next k t z v g ne f =
     let (j, d) = got_found s (maybe u x) at next v g f.place in
     over_maybe u x s at next k t z (v, drop next s) j d refl ne f
-over_row (if_new u x none) s at next k t z v g ne f =
-    let (j, d) = got_found s (new u x none) at next v g f.place in
+over_row (if_new u x None) s at next k t z v g ne f =
+    let (j, d) = got_found s (new u x None) at next v g f.place in
     over_value u x s at j d ne f
-over_row (if_new u {A} x (some b)) s at next k t z v g ne f =
-    let (j, d) = got_found s (new u x (some b)) at next v g f.place in
-    stays s at next k t z j (ap (λ (y : A × List ℕ). y.1) (some-injective (b, drop at s) (v, drop next s) d)) f
+over_row (if_new u {A} x (Some b)) s at next k t z v g ne f =
+    let (j, d) = got_found s (new u x (Some b)) at next v g f.place in
+    stays s at next k t z j (ap (λ (y : A × List ℕ). y.1) (same_Some (b, drop at s) (v, drop next s) d)) f
 
 -- or after rows that have other tags
 pub finds_rows : (s : List ℕ) (rs : List Row) (at next k t : ℕ) (z : ℕ × ℕ) (v : Values rs) → Gets s rs at v next → T (not (among t (tags rs)))

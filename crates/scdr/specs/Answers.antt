@@ -1,6 +1,6 @@
 -- What the writer and the reader of a record answer, with the numbers of 01's refusal table.
 use Rattle.std.specs.Prelude.{◌≡◌, cond, false, List, [], ◌++◌, ℕ, ◌≤◌, leb, length, drop}
-use Rattle.std.proofs.Math.Option.{Option, none, some}
+use Rattle.std.specs.Prelude.{Option, None, Some}
 use Rattle.container.specs.List.{padded}
 use Rattle.scdr.specs.declared.Record.{Record}
 use Rattle.scdr.specs.Rules.{within}
@@ -63,8 +63,8 @@ blank_record = record {
 }
 
 unfoldable pub read_of : Option Record → ℕ × Record
-read_of none = (no_record, blank_record)
-read_of (some r) = (0, r)
+read_of None = (no_record, blank_record)
+read_of (Some r) = (0, r)
 
 pub record ReadsRecord (s : List ℕ) (answer : ℕ) (r : Record) : Type 0 where
   pub is : ◌≡◌ {A = ℕ × Record} (answer, r) (read_of (scdr.dec s))

@@ -1,7 +1,7 @@
 -- A subscriber that hears something keeps its name, and so have its records.
 use mathlib.Core.Path.{◌≡◌, refl}
 use mathlib.Core.Bool.{true}
-use mathlib.Core.Option.{Option, none, some}
+use Rattle.std.specs.Prelude.{Option, None, Some}
 use Prim.Native.Nat.{ℕ}
 use Rattle.format.proofs.Tests.{by}
 use Rattle.history.specs.Lists.{All}
@@ -18,8 +18,8 @@ abbrev SameName : Subscriber → Subscriber → Type 0
 SameName s z = (z.imsi ≡ s.imsi) × (taken s ≡ true → taken z ≡ true)
 
 abbrev NextNamed : Subscriber → Option Subscriber → Type 0
-NextNamed s none = Unit {0}
-NextNamed s (some z) = SameName s z
+NextNamed s None = Unit {0}
+NextNamed s (Some z) = SameName s z
 
 module _ (p : Profile) (s : Subscriber) (t : ℕ) where
   next_named : (m : Notice) → NextNamed s (hear p s t m).next
@@ -30,12 +30,12 @@ module _ (p : Profile) (s : Subscriber) (t : ℕ) where
   next_named Managed = (refl, λ e. refl)
   next_named (Detached cause) = tt
 
-  pub hear_named : (m : Notice) {z : Subscriber} → (hear p s t m).next ≡ some z → (z.imsi ≡ s.imsi) × (taken s ≡ true → taken z ≡ true)
+  pub hear_named : (m : Notice) {z : Subscriber} → (hear p s t m).next ≡ Some z → (z.imsi ≡ s.imsi) × (taken s ≡ true → taken z ≡ true)
   hear_named m {z} e = go (hear p s t m).next (next_named m) e
     where
-      go : (o : Option Subscriber) → NextNamed s o → o ≡ some z → SameName s z
-      go none k i = absurd (none≢some i)
-      go (some y) k i = let j : y ≡ z = cc in rw j at k
+      go : (o : Option Subscriber) → NextNamed s o → o ≡ Some z → SameName s z
+      go None k i = absurd (none≢some i)
+      go (Some y) k i = let j : y ≡ z = cc in rw j at k
 
   pub hear_names : (m : Notice) → All (λ r. r.imsi ≡ s.imsi) (hear p s t m).out
   unfolding hear closes_with listed record_of

@@ -1,7 +1,7 @@
 -- What is told of a subscriber, by what it hears: nothing closes, or a record does.
 use mathlib.Core.Path.{◌≡◌, refl, sym, ap, ◌∙◌}
 use mathlib.Core.Bool.{Bool, true, false, and-true, and-false}
-use mathlib.Core.Option.{Option, none, some}
+use Rattle.std.specs.Prelude.{Option, None, Some}
 use mathlib.Core.List.{List, [], ◌∷◌, append-nil}
 use Prim.Native.Nat.{ℕ, ◌+◌, ◌^◌, ◌≤◌, ◌<◌}
 use native.Mathlib.Omega.{arith}
@@ -65,7 +65,7 @@ module _ (p : Profile) (t : ℕ) (m : Notice) (s : Subscriber) where
     closed_few = lt-ltb s.closed (10 ^ 15) y.closed
 
     -- nothing closes
-    pub tells_quiet : {b : List ℕ} {z : Subscriber} → hear p s t m ≡ record { next = some z; out = [] } → Tells p t m s b b 0 z 0
+    pub tells_quiet : {b : List ℕ} {z : Subscriber} → hear p s t m ≡ record { next = Some z; out = [] } → Tells p t m s b b 0 z 0
     unfolding told_of able all_within octets_of
     tells_quiet {b} e = record { is = rw (e, count_few, closed_few, le-leb 0 (length b) (omega arith)) }
 
@@ -79,7 +79,7 @@ module _ (p : Profile) (t : ℕ) (m : Notice) (s : Subscriber) where
 -- ---- what each closes
 
 module _ (p : Profile) (s : Subscriber) (t : ℕ) where
-  pub hears_same : (q : Place) → same_place (place_of s) q ≡ true → hear p s t (Moved q) ≡ record { next = some s; out = [] }
+  pub hears_same : (q : Place) → same_place (place_of s) q ≡ true → hear p s t (Moved q) ≡ record { next = Some s; out = [] }
   unfolding hear
   hears_same q a = rw a
 
@@ -89,12 +89,12 @@ module _ (p : Profile) (s : Subscriber) (t : ℕ) where
     unfolding listed
     count_more = ap (λ (x : Subscriber). x.count) e
 
-    pub hears_listed : n.count < 15 → hear p s t (Moved q) ≡ record { next = some n; out = [] }
+    pub hears_listed : n.count < 15 → hear p s t (Moved q) ≡ record { next = Some n; out = [] }
     unfolding hear fifteenth
     hears_listed h = rw (other, lt-leb 15 (s.count + 1) (omega (arith, count_more)), e)
 
     pub hears_full : 15 ≤ n.count
-        → hear p s t (Moved q) ≡ record { next = some (opened p s.imsi t q (s.closed + 1)); out = record_of p n t 19 false ∷ [] }
+        → hear p s t (Moved q) ≡ record { next = Some (opened p s.imsi t q (s.closed + 1)); out = record_of p n t 19 false ∷ [] }
     unfolding hear fifteenth closes_with listed
     hears_full h = rw (other, le-leb 15 (s.count + 1) (omega (arith, count_more)), e)
 
@@ -102,11 +102,11 @@ module _ (p : Profile) (s : Subscriber) (t : ℕ) where
     unfolding listed
     closed_same = ap (λ (x : Subscriber). x.closed) e
 
-  pub hears_managed : hear p s t Managed ≡ record { next = some (opened p s.imsi t (place_of s) (s.closed + 1)); out = record_of p s t 20 false ∷ [] }
+  pub hears_managed : hear p s t Managed ≡ record { next = Some (opened p s.imsi t (place_of s) (s.closed + 1)); out = record_of p s t 20 false ∷ [] }
   unfolding hear closes_with
   hears_managed = refl
 
-  pub hears_detached : (cause : ℕ) → hear p s t (Detached cause) ≡ record { next = none; out = record_of p s t cause true ∷ [] }
+  pub hears_detached : (cause : ℕ) → hear p s t (Detached cause) ≡ record { next = None; out = record_of p s t cause true ∷ [] }
   unfolding hear
   hears_detached cause = refl
 

@@ -1,7 +1,7 @@
 -- What an event does to a subscriber that hears it (02, W4): the subscriber after it, or none after a detach, and the record that it closes,
 -- if it closes one. Tariff, tick and the limits do nothing to subscribers, so these are no part of it.
 use Rattle.std.specs.Prelude.{Bool, true, false, cond, ◌&&◌, List, [], ◌∷◌, ℕ, ◌+◌, ◌-◌, leb, eqb, set}
-use Rattle.std.proofs.Math.Option.{none, some}
+use Rattle.std.specs.Prelude.{None, Some}
 use Rattle.calendar.specs.declared.Stamp.{Stamp}
 use Rattle.profile.specs.declared.Profile.{Profile}
 use Rattle.history.specs.Table.{Step}
@@ -73,15 +73,15 @@ fifteenth s = leb 15 (s.count + 1)
 
 -- "After 19 and 20 the next record opens at that time at the place then in force."
 unfoldable pub closes_with : Profile → Subscriber → ℕ → ℕ → Place → Step Subscriber MmRecord
-closes_with p s t cause q = record { next = some (opened p s.imsi t q (s.closed + 1)); out = record_of p s t cause false ∷ [] }
+closes_with p s t cause q = record { next = Some (opened p s.imsi t q (s.closed + 1)); out = record_of p s t cause false ∷ [] }
 
 -- "A change to the place in force is none .. management closes with 20, detach with 0 or 4."
 unfoldable pub hear : Profile → Subscriber → ℕ → Notice → Step Subscriber MmRecord
 hear p s t (Moved q) =
-    cond (same_place (place_of s) q) (record { next = some s; out = [] })
-    (cond (fifteenth s) (closes_with p (listed p s t q) t 19 q) (record { next = some (listed p s t q); out = [] }))
+    cond (same_place (place_of s) q) (record { next = Some s; out = [] })
+    (cond (fifteenth s) (closes_with p (listed p s t q) t 19 q) (record { next = Some (listed p s t q); out = [] }))
 hear p s t Managed = closes_with p s t 20 (place_of s)
-hear p s t (Detached cause) = record { next = none; out = record_of p s t cause true ∷ [] }
+hear p s t (Detached cause) = record { next = None; out = record_of p s t cause true ∷ [] }
 
 -- what an event in range lets it hear: a detach is with one of its causes
 unfoldable pub notice_ok : Notice → Bool

@@ -1,6 +1,6 @@
 -- What is answered where a subscriber hears something: what stands in its slot then, and the record that it closes, written after its mark.
 use Rattle.std.specs.Prelude.{◌≡◌, Bool, true, cond, ◌&&◌, List, [], ◌∷◌, ◌++◌, ℕ, ◌^◌, leb, ltb, length, drop}
-use Rattle.std.proofs.Math.Option.{Option}
+use Rattle.std.specs.Prelude.{Option}
 use Rattle.profile.specs.declared.Profile.{Profile}
 use Rattle.history.specs.Lists.{each}
 use Rattle.history.specs.Slots as S

@@ -1,6 +1,6 @@
 -- What a record within the rules says of a name: its charging ID, its GGSN's address and its number, found by lengths alone.
 use Rattle.std.proofs.Common.{◌≡◌, ℕ, zero, suc, ◌^◌, ◌<◌, Bool, true, false, cond, ◌&&◌, T, eqb, ltb, List, [], ◌∷◌, ◌++◌, length, refl, ap, ◌∙◌, arith}
-use mathlib.Core.Option.{none, some}
+use Rattle.std.specs.Prelude.{None, Some}
 use Rattle.format.specs.Format.{refined}
 use Rattle.format.proofs.Formats.{refined_law}
 use Rattle.ber.specs.Tlv.{tlv_enc}
@@ -47,8 +47,8 @@ last_rows = Number ∷ NodeId ∷ []
 -- the node ID does not begin as a number does
 no_number : (o : Value NodeId) → starts 0x95 ((layout (NodeId ∷ [])).enc (o, tt)) ≡ false
 unfolding tlv_enc
-no_number none = refl
-no_number (some n) = refl
+no_number None = refl
+no_number (Some n) = refl
 
 says_number : (n : ℕ) (o : Value NodeId) → row_good Number (unless0 n) → length ((layout last_rows).enc (unless0 n, (o, tt))) < 65536
     → say_number ((layout last_rows).enc (unless0 n, (o, tt))) ≡ carries n
@@ -57,7 +57,7 @@ says_number zero o g h = rw (past_rows 0x95 (NodeId ∷ []) [] (o, tt) refl h, s
 says_number (suc n) o g h =
     rw (
       at_value 0x95 (counted.enc (suc n)) ((layout (NodeId ∷ [])).enc (o, tt)) h,
-      maybe_complete 0x95 counted counted_law tt (some (suc n)) ((layout (NodeId ∷ [])).enc (o, tt)) g (no_number o),
+      maybe_complete 0x95 counted counted_law tt (Some (suc n)) ((layout (NodeId ∷ [])).enc (o, tt)) g (no_number o),
     )
 
 -- ---- the rows before it

@@ -1,6 +1,6 @@
 -- The fields of a record gone through: rows of a table that have another tag are stepped over.
 use Rattle.std.proofs.Common.{◌≡◌, ℕ, ◌<◌, ◌≤◌, Bool, true, false, ◌||◌, eqb, List, [], ◌∷◌, ◌++◌, length, sym, refl, ◌∙◌, arith, length-append}
-use mathlib.Core.Option.{none, some}
+use Rattle.std.specs.Prelude.{None, Some}
 use lib.Dec.{eqb_refl}
 use Rattle.format.specs.Format.{Fmt}
 use Rattle.format.proofs.Tests.{T_true}
@@ -29,20 +29,20 @@ past_row : (t : ℕ) (r : Row) {B : Type 0} (e : Fmt B) (v : Value r) (b : B) �
 past_row t (always u x) e v b d h = past_value t u (x.enc v) (e.enc b) d h
 past_row t (if_set u c) e true b d h = past_value t u c (e.enc b) d h
 past_row t (if_set u c) e false b d h = refl
-past_row t (if_any u x) e none b d h = refl
-past_row t (if_any u x) e (some v) b d h = past_value t u (x.enc v) (e.enc b) d h
-past_row t (if_new u x none) e v b d h = past_value t u (x.enc v) (e.enc b) d h
-past_row t (if_new u x (some k)) e v b d h = refl
+past_row t (if_any u x) e None b d h = refl
+past_row t (if_any u x) e (Some v) b d h = past_value t u (x.enc v) (e.enc b) d h
+past_row t (if_new u x None) e v b d h = past_value t u (x.enc v) (e.enc b) d h
+past_row t (if_new u x (Some k)) e v b d h = refl
 
 -- what follows a row is no longer than both
 row_rest : (r : Row) {B : Type 0} (e : Fmt B) (v : Value r) (b : B) → length (e.enc b) ≤ length ((row r e).enc (v, b))
 row_rest (always u x) e v b = omega (arith, length-append (tlv_enc u (x.enc v)) (e.enc b))
 row_rest (if_set u c) e true b = omega (arith, length-append (tlv_enc u c) (e.enc b))
 row_rest (if_set u c) e false b = omega arith
-row_rest (if_any u x) e none b = omega arith
-row_rest (if_any u x) e (some v) b = omega (arith, length-append (tlv_enc u (x.enc v)) (e.enc b))
-row_rest (if_new u x none) e v b = omega (arith, length-append (tlv_enc u (x.enc v)) (e.enc b))
-row_rest (if_new u x (some k)) e v b = omega arith
+row_rest (if_any u x) e None b = omega arith
+row_rest (if_any u x) e (Some v) b = omega (arith, length-append (tlv_enc u (x.enc v)) (e.enc b))
+row_rest (if_new u x None) e v b = omega (arith, length-append (tlv_enc u (x.enc v)) (e.enc b))
+row_rest (if_new u x (Some k)) e v b = omega arith
 
 -- the values of the rows behind others
 abbrev pub behind : (rs qs : List Row) → Values (rs ++ qs) → Values qs

@@ -1,6 +1,6 @@
 -- What a record says of a name, by what the readers of its fields answer.
 use Rattle.std.proofs.Common.{◌≡◌, ℕ, ◌<◌, ◌≤◌, false, eqb, List, length, drop, sym, refl, ap, ◌∙◌, arith, length-append, eq-eqb, ne_eqb}
-use mathlib.Core.Option.{Option, none, some}
+use Rattle.std.specs.Prelude.{Option, None, Some}
 use Rattle.format.specs.Maybe.{bind}
 use Rattle.format.proofs.Tests.{by}
 use Rattle.ber.specs.Int.{counted}
@@ -41,9 +41,9 @@ unfolding counts placed
 number_read_lem c t p g h =
     ap (λ (y : ℕ × ℕ). y.0) (rw (here_yes c p h) at g.is) ∙ go (maybe t counted (drop p c))
   where
-    go : (o : Option (Option ℕ × List ℕ)) → (placed 0 c (bind o (λ p. some (or_zero p.0, p.1)))).0 ≡ number_read o
-    go none = refl
-    go (some q) = refl
+    go : (o : Option (Option ℕ × List ℕ)) → (placed 0 c (bind o (λ p. Some (or_zero p.0, p.1)))).0 ≡ number_read o
+    go None = refl
+    go (Some q) = refl
 
 -- ---- a field that does not fit is one of the record's
 
@@ -69,8 +69,8 @@ module _ {f : List ℕ → Saying} (h : Short f) where
   short_like {x} l w = record { is = λ s. go s (x s) refl }
     where
       go : (s : List ℕ) (o : Option (ℕ × List ℕ)) → x s ≡ o → left_of (like o w f) ≤ length s
-      go s none e = omega arith
-      go s (some p) e =
+      go s None e = omega arith
+      go s (Some p) e =
           let (y, d) = l.before s p e in
           by (eqb p.0 w) (λ q. rw q (omega (arith, ap length d, length-append y p.1, h.is p.1))) (λ q. rw q (omega arith))
 

@@ -1,6 +1,6 @@
 -- From field to field: a law for each way on, and the loop that goes so.
 use Rattle.std.proofs.Common.{◌≡◌, ℕ, zero, suc, ◌+◌, ◌-◌, ◌<◌, ◌≤◌, Bool, true, false, eqb, List, [], ◌∷◌, ◌++◌, length, get_or, drop, sym, refl, ap, ◌∙◌, append_assoc, arith, length-append, length-drop, drop_of_length-le, eq-eqb, ne_eqb}
-use mathlib.Core.Option.{Option, none, some}
+use Rattle.std.specs.Prelude.{Option, None, Some}
 use Rattle.format.proofs.Tests.{by, either}
 use Rattle.ber.specs.Tlv.{tlv_enc, tlv_dec}
 use Rattle.ber.specs.Read.{part_at, or_start, Lies}
@@ -25,17 +25,17 @@ not_both e = let u : ◌≡◌ {A = ℕ} 0 1 = cc in omega arith
 -- ---- one step
 
 -- a field has at least two octets
-field_long : (t : ℕ) (s : List ℕ) (p : List ℕ × List ℕ) → tlv_dec t s ≡ some p → length p.1 + 2 ≤ length s
+field_long : (t : ℕ) (s : List ℕ) (p : List ℕ × List ℕ) → tlv_dec t s ≡ Some p → length p.1 + 2 ≤ length s
 field_long t s p e =
     let w = (tlv_sound t s p e).1 in
     omega (arith, ap length w ∙ length-append (tlv_enc t p.0) p.1, tlv_length t p.0, head_2 (length p.0))
 
 module _ (n t a : ℕ) (s : List ℕ) where
-  in_unfit : tlv_dec a (a ∷ s) ≡ none → seek_in (suc n) t (a ∷ s) ≡ unfit (a ∷ s)
+  in_unfit : tlv_dec a (a ∷ s) ≡ None → seek_in (suc n) t (a ∷ s) ≡ unfit (a ∷ s)
   unfolding seek_in
   in_unfit e = rw e
 
-  module _ (p : List ℕ × List ℕ) (e : tlv_dec a (a ∷ s) ≡ some p) where
+  module _ (p : List ℕ × List ℕ) (e : tlv_dec a (a ∷ s) ≡ Some p) where
     in_here : eqb a t ≡ true → seek_in (suc n) t (a ∷ s) ≡ before (a ∷ s)
     unfolding seek_in
     in_here d = rw (e, d)
@@ -64,8 +64,8 @@ enough (suc n) (suc m) t s h k = go s h k (λ r i j. enough n m t r i j)
 
     step : (a : ℕ) (s : List ℕ) (o : Option (List ℕ × List ℕ)) → tlv_dec a (a ∷ s) ≡ o → length (a ∷ s) ≤ suc n → length (a ∷ s) ≤ suc m → Enough
         → seek_in (suc n) t (a ∷ s) ≡ seek_in (suc m) t (a ∷ s)
-    step a s none e h k f = in_unfit n t a s e ∙ sym (in_unfit m t a s e)
-    step a s (some p) e h k f =
+    step a s None e h k f = in_unfit n t a s e ∙ sym (in_unfit m t a s e)
+    step a s (Some p) e h k f =
         let l = field_long a (a ∷ s) p e in
         by (eqb a t)
         (λ d. in_here n t a s p e d ∙ sym (in_here m t a s p e d))
@@ -77,11 +77,11 @@ enough (suc n) (suc m) t s h k = go s h k (λ r i j. enough n m t r i j)
 
 -- the same of all steps
 module _ (t a : ℕ) (s : List ℕ) where
-  pub seek_unfit : tlv_dec a (a ∷ s) ≡ none → seek t (a ∷ s) ≡ unfit (a ∷ s)
+  pub seek_unfit : tlv_dec a (a ∷ s) ≡ None → seek t (a ∷ s) ≡ unfit (a ∷ s)
   unfolding seek
   seek_unfit e = in_unfit (length s) t a s e
 
-  module _ (p : List ℕ × List ℕ) (e : tlv_dec a (a ∷ s) ≡ some p) where
+  module _ (p : List ℕ × List ℕ) (e : tlv_dec a (a ∷ s) ≡ Some p) where
     pub seek_here : eqb a t ≡ true → seek t (a ∷ s) ≡ before (a ∷ s)
     unfolding seek
     seek_here d = in_here (length s) t a s p e d
@@ -99,21 +99,21 @@ seek_end t = in_end 0 t
 
 -- a value was found at a place exactly where its end is not the start
 module _ {s : List ℕ} {at t from to : ℕ} (l : Lies s at t from to) where
-  pub lies_none : to ≡ 0 → tlv_dec t (drop at s) ≡ none
+  pub lies_none : to ≡ 0 → tlv_dec t (drop at s) ≡ None
   lies_none z = go (part_at s at t) refl l.is
     where
-      go : (o : Option (ℕ × ℕ)) → part_at s at t ≡ o → ◌≡◌ {A = ℕ × ℕ} (from, to) (or_start o) → tlv_dec t (drop at s) ≡ none
-      go none d q = part_none s at t d
-      go (some y) d q =
-          let w = part_some s at t (d ∙ ap {B = Option (ℕ × ℕ)} some (sym q)) in
+      go : (o : Option (ℕ × ℕ)) → part_at s at t ≡ o → ◌≡◌ {A = ℕ × ℕ} (from, to) (or_start o) → tlv_dec t (drop at s) ≡ None
+      go None d q = part_none s at t d
+      go (Some y) d q =
+          let w = part_some s at t (d ∙ ap {B = Option (ℕ × ℕ)} Some (sym q)) in
           absurd (let k = field_long t (drop at s) _ w.is in omega (arith, length-drop at s, length-drop to s))
 
   pub lies_some : (to ≡ 0 → ⊥) → PartIs s at t from to
   lies_some z = go (part_at s at t) refl l.is
     where
       go : (o : Option (ℕ × ℕ)) → part_at s at t ≡ o → ◌≡◌ {A = ℕ × ℕ} (from, to) (or_start o) → PartIs s at t from to
-      go none d q = absurd (z (ap (λ (y : ℕ × ℕ). y.1) q))
-      go (some y) d q = part_some s at t (d ∙ ap {B = Option (ℕ × ℕ)} some (sym q))
+      go None d q = absurd (z (ap (λ (y : ℕ × ℕ). y.1) q))
+      go (Some y) d q = part_some s at t (d ∙ ap {B = Option (ℕ × ℕ)} Some (sym q))
 
 -- it ends behind its place
 pub part_long : {s : List ℕ} {at t from to : ℕ} → PartIs s at t from to → at + 2 ≤ to
@@ -123,7 +123,7 @@ part_long {s} {at} {t} {from} {to} w =
     omega (arith, length-drop at s, length-drop to s)
 
 module _ (t : ℕ) (s : List ℕ) (at : ℕ) (h : at < length s) where
-  pub at_unfit : tlv_dec (get_or s at 0) (drop at s) ≡ none → seek t (drop at s) ≡ unfit (drop at s)
+  pub at_unfit : tlv_dec (get_or s at 0) (drop at s) ≡ None → seek t (drop at s) ≡ unfit (drop at s)
   at_unfit e = let c = at_cons s at h in rw c (seek_unfit t (get_or s at 0) (drop (at + 1) s) (rw c at e))
 
   module _ {from to : ℕ} (w : PartIs s at (get_or s at 0) from to) where
@@ -139,7 +139,7 @@ pub record Seeking (s : List ℕ) (from t at : ℕ) : Type 0 where
   pub is : seek t (drop from s) ≡ seek t (drop at s)
 
 module _ {s : List ℕ} {from t at : ℕ} (i : Seeking s from t at) where
-  pub seeking_unfit : at < length s → tlv_dec (get_or s at 0) (drop at s) ≡ none
+  pub seeking_unfit : at < length s → tlv_dec (get_or s at 0) (drop at s) ≡ None
       → record { at = at; fits = false } ≡ sought_in s (seek t (drop from s))
   seeking_unfit h e = rw (i.is, at_unfit t s at h e, rest_at s at (omega arith))
 
@@ -170,8 +170,8 @@ in_suffix (suc n) t s = go s (λ q. in_suffix n t q)
     Ends = (q : List ℕ) → EndsWith (rest_of (seek_in n t q)) q
 
     step : (a : ℕ) (s : List ℕ) (o : Option (List ℕ × List ℕ)) → tlv_dec a (a ∷ s) ≡ o → Ends → EndsWith (rest_of (seek_in (suc n) t (a ∷ s))) (a ∷ s)
-    step a s none d f = rw (in_unfit n t a s d) ([], refl)
-    step a s (some p) d f =
+    step a s None d f = rw (in_unfit n t a s d) ([], refl)
+    step a s (Some p) d f =
         by (eqb a t)
         (λ q. rw (in_here n t a s p d q) ([], refl))
         (λ q.

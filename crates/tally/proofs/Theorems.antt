@@ -1,6 +1,7 @@
 -- What counting has to do with reading: of a list that reads in full it is the count and the number that reading it all gives.
 use Rattle.std.proofs.Common.{◌≡◌, ℕ, suc, ◌+◌, ◌-◌, ◌<◌, ◌≤◌, Bool, true, false, cond, T, List, [], ◌∷◌, length, drop, sym, refl, ap, ◌∙◌, ap₂, arith, length-append, drop-drop, le-leb}
-use mathlib.Core.Option.{some, none-ne-some, some-injective}
+use Rattle.std.specs.Prelude.{Some}
+use Rattle.std.proofs.lemmas.Option.{none-some, same_Some}
 use lib.Seq.{take-append_seam, drop-append_seam}
 use Rattle.format.proofs.Tests.{by}
 use Rattle.ber.specs.Tlv.{tlv_enc}
@@ -36,12 +37,12 @@ abbrev lands_on : ℕ → ℕ → ℕ → Cdr → Tally
 lands_on id ggsn e (pdp r) = cond (is_named id ggsn r) (counts e r.number) (past e)
 lands_on id ggsn e (mm r) = past e
 
-found_at_lem : (x : Entry) (p : ℕ × ℕ) → place_of x ≡ some p → x ≡ Found p.0 p.1
-found_at_lem (Found a e) p d = ap (λ (z : ℕ × ℕ). Found z.0 z.1) (some-injective (a, e) p d)
-found_at_lem End p d = absurd (none-ne-some p d)
-found_at_lem (NoMark q) p d = absurd (none-ne-some p d)
-found_at_lem (Cut q) p d = absurd (none-ne-some p d)
-found_at_lem (NoValue q) p d = absurd (none-ne-some p d)
+found_at_lem : (x : Entry) (p : ℕ × ℕ) → place_of x ≡ Some p → x ≡ Found p.0 p.1
+found_at_lem (Found a e) p d = ap (λ (z : ℕ × ℕ). Found z.0 z.1) (same_Some (a, e) p d)
+found_at_lem End p d = absurd (none-some p d)
+found_at_lem (NoMark q) p d = absurd (none-some p d)
+found_at_lem (Cut q) p d = absurd (none-some p d)
+found_at_lem (NoValue q) p d = absurd (none-some p d)
 
 -- the contents of an S-CDR are its fields
 inside_short : (r : Record) → T (cdr_rules (pdp r)) → length (inside.enc r) < 65536
@@ -172,7 +173,7 @@ module _ (id ggsn : ℕ) where
 -- ---- the theorem
 
 -- For every list of S-CDRs and M-CDRs that reads in full, mark by mark, the count is the one that reading it all gives.
-pub in_full : (id ggsn : ℕ) (s : List ℕ) (rs : List Cdr) → record_list s ≡ some rs → count_of id ggsn s ≡ count_read id ggsn s rs
+pub in_full : (id ggsn : ℕ) (s : List ℕ) (rs : List Cdr) → record_list s ≡ Some rs → count_of id ggsn s ≡ count_read id ggsn s rs
 unfolding record_list count_of count_read
 in_full id ggsn s rs e =
     let (a, w) = reads_list (length s) s rs e in

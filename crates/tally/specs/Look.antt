@@ -1,6 +1,6 @@
 -- One step of a count: from the mark at the front of octets over the record that follows it, and what is counted there.
 use Rattle.std.specs.Prelude.{ℕ, ◌-◌, cond, List, [], length, nat_lt}
-use Rattle.std.proofs.Math.Option.{Option, none, some}
+use Rattle.std.specs.Prelude.{Option, None, Some}
 use Rattle.ber.specs.Tlv.{tlv_dec}
 use Rattle.ber.specs.Field.{starts}
 use Rattle.scdr.specs.Table as s-table
@@ -32,8 +32,8 @@ longest = 1024
 
 -- the contents of an S-CDR
 abbrev pub within : Option (List ℕ × List ℕ) → List ℕ
-within none = []
-within (some p) = p.0
+within None = []
+within (Some p) = p.0
 
 abbrev pub contents_of : List ℕ → List ℕ
 contents_of x = within (tlv_dec s-table.record_tag x)

@@ -1,7 +1,7 @@
 -- What a record says of a name, a charging ID and a GGSN's address: 8A, AB and 95 alone are looked at (02, W7). Each is looked for behind the
 -- last, as the table of fields has them.
 use Rattle.std.specs.Prelude.{ℕ, cond, List, ◌==◌}
-use Rattle.std.proofs.Math.Option.{Option, none, some}
+use Rattle.std.specs.Prelude.{Option, None, Some}
 use Rattle.ber.specs.Field.{or_zero}
 use Rattle.ber.specs.Table.{tag, row_dec}
 use Rattle.scdr.specs.Table.{ChargingId, Ggsn, Number}
@@ -22,13 +22,13 @@ found (unfit s) f = broken s
 
 -- what is said behind a field that has to have this value
 abbrev pub like : Option (ℕ × List ℕ) → ℕ → (List ℕ → Saying) → Saying
-like none v f = other
-like (some p) v f = cond (p.0 == v) (f p.1) other
+like None v f = other
+like (Some p) v f = cond (p.0 == v) (f p.1) other
 
 -- the number that was read, 0 for none
 abbrev pub number_read : Option (Option ℕ × List ℕ) → ℕ
-number_read none = 0
-number_read (some p) = or_zero p.0
+number_read None = 0
+number_read (Some p) = or_zero p.0
 
 -- 95: the number of a record of the name
 unfoldable pub say_number : List ℕ → Saying

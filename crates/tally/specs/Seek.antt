@@ -1,6 +1,6 @@
 -- Stepping over the fields of a record, by their lengths alone.
 use Rattle.std.specs.Prelude.{ℕ, zero, suc, cond, List, [], ◌∷◌, length, ◌==◌}
-use Rattle.std.proofs.Math.Option.{Option, none, some}
+use Rattle.std.specs.Prelude.{Option, None, Some}
 use Rattle.ber.specs.Tlv.{tlv_dec}
 
 -- where the steps from field to field end, with the octets from there on
@@ -12,8 +12,8 @@ pub data Sought : Type 0 where
 
 -- one step: it ends before a field whose length does not fit; where it fits, what follows the field goes on
 abbrev pub over : Option (List ℕ × List ℕ) → (List ℕ → Sought) → List ℕ → Sought
-over none next s = unfit s
-over (some p) next s = next p.1
+over None next s = unfit s
+over (Some p) next s = next p.1
 
 -- the first field of s with the tag, in at most n steps: as many as there are octets never run out
 unfoldable pub seek_in : ℕ → ℕ → List ℕ → Sought

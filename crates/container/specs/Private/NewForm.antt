@@ -1,6 +1,6 @@
 -- The octets of a container's QoS, as the code writes them before the other fields.
 use Rattle.std.specs.Prelude.{cond, List, [], ℕ}
-use Rattle.std.proofs.Math.Option.{Option, some}
+use Rattle.std.specs.Prelude.{Option, Some}
 use Rattle.format.specs.Maybe.{guard}
 use Rattle.ber.specs.Tlv.{tlv_enc}
 use Rattle.ber.specs.Table.{tag}
@@ -11,4 +11,4 @@ use Rattle.container.specs.Container.{is_new, QosAfter}
 
 -- after b: under its tag where it is new, else none
 unfoldable pub new_form : Container → Qos → Option (List ℕ)
-new_form b q = cond (is_new b) (guard (qos_ok q) (tlv_enc (tag (QosAfter b)) (qos.enc q))) (some [])
+new_form b q = cond (is_new b) (guard (qos_ok q) (tlv_enc (tag (QosAfter b)) (qos.enc q))) (Some [])

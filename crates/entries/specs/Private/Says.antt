@@ -1,6 +1,6 @@
 -- What the readers of each kind make of the octets of an entry.
 use Rattle.std.specs.Prelude.{◌≡◌, Bool, List, ℕ}
-use Rattle.std.proofs.Math.Option.{Option, some}
+use Rattle.std.specs.Prelude.{Option, Some}
 use Rattle.format.specs.Maybe.{bind}
 use Rattle.scdr.specs.declared.Record.{Record}
 use Rattle.scdr.specs.Layout.{scdr}
@@ -12,10 +12,10 @@ use Rattle.entries.specs.Read.{read_of}
 
 -- the S-CDR and the M-CDR that all of s is
 abbrev pub as_pdp : List ℕ → Option Cdr
-as_pdp s = bind (scdr.dec s) (λ r. some (pdp r))
+as_pdp s = bind (scdr.dec s) (λ r. Some (pdp r))
 
 abbrev pub as_mm : List ℕ → Option Cdr
-as_mm s = bind (mcdr.dec s) (λ r. some (mm r))
+as_mm s = bind (mcdr.dec s) (λ r. Some (mm r))
 
 -- the entry x, of this kind, and what its record reads as
 pub record Says (x : Entry) (k : Bool) (o : Option Cdr) (e : Entry) (answer : ℕ) (m : Bool) (r : Record) (q : MmRecord) : Type 0 where

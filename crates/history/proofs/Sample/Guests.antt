@@ -4,7 +4,7 @@ use mathlib.Core.Path.{◌≡◌, refl, sym, ap, ◌∙◌}
 use mathlib.Core.Logic.{◌↔◌}
 use mathlib.Core.Bool.{Bool, true, false, cond}
 use mathlib.Core.List.{List, [], ◌∷◌, ◌++◌, append-nil}
-use mathlib.Core.Option.{none, some}
+use Rattle.std.specs.Prelude.{None, Some}
 use native.Mathlib.Omega.{arith}
 use lib.Dec.{leb, eqb, eqb→eq}
 use lib.ListN.{length, length-append}
@@ -40,7 +40,7 @@ module _ (n : Badge) (h : History Stay Heard) (t : ℕ) where
     e = Heard.turn (Turn.move p)
 
     -- the moves since the opening are those that the guest has counted
-    closes_move : closes rules h t e ≡ cond (eqb (in_force rules h).place p) none (test (leb 3 (suc (length (stretches rules past)))) 19)
+    closes_move : closes rules h t e ≡ cond (eqb (in_force rules h).place p) None (test (leb 3 (suc (length (stretches rules past)))) 19)
     closes_move = rw (in_force_open rules h, changed rules h)
 
     hear_same : eqb (in_force rules h).place p ≡ true → hear g guest t e ≡ told rules forms n h t e
@@ -125,7 +125,7 @@ module _ (s : Stay) where
   turned (Turn.move p) = refl
   turned (Turn.leave k) = refl
 
-  settings_heard : (n : Badge) (v : Event) (e : Heard) → heard rules meaning n (says v) ≡ some e → (after s e).offset ≡ settles s.offset v
+  settings_heard : (n : Badge) (v : Event) (e : Heard) → heard rules meaning n (says v) ≡ Some e → (after s e).offset ≡ settles s.offset v
   settings_heard n (Event.activate m q) e p = absurd (none≢some p)
   settings_heard n (Event.arrive b q) e p = absurd (none≢some p)
   settings_heard n (Event.order m x) e p = absurd (none≢some p)
@@ -134,7 +134,7 @@ module _ (s : Stay) where
   settings_heard n (Event.limit l) e p = absurd (none≢some p)
   settings_heard n (Event.offset o) e p = let i : Heard.offset o ≡ e = cc in rw (← i)
 
-settings_unheard : (n : Badge) (g : ℕ) (v : Event) → heard rules meaning n (says v) ≡ none → settles g v ≡ g
+settings_unheard : (n : Badge) (g : ℕ) (v : Event) → heard rules meaning n (says v) ≡ None → settles g v ≡ g
 settings_unheard n g (Event.activate m q) p = refl
 settings_unheard n g (Event.arrive b q) p = refl
 settings_unheard n g (Event.order m x) p = refl

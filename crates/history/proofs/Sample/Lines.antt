@@ -4,7 +4,7 @@ use mathlib.Core.Path.{◌≡◌, refl, sym, ap}
 use mathlib.Core.Logic.{◌↔◌}
 use mathlib.Core.Bool.{Bool, true, false}
 use mathlib.Core.List.{List, [], ◌∷◌, map}
-use mathlib.Core.Option.{none, some}
+use Rattle.std.specs.Prelude.{None, Some}
 use native.Mathlib.Nat.{add-zero}
 use native.Mathlib.Omega.{arith}
 use lib.Dec.{leb, eqb, T, eqb→eq, eqb_refl}
@@ -134,7 +134,7 @@ module _ (s : Force) where
   ordered (Order.grade q) = refl
   ordered (Order.release k) = refl
 
-  settings_heard : (n : ℕ) (v : Event) (e : Heard) → heard rules meaning n (says v) ≡ some e → (after s e).set ≡ settles s.set v
+  settings_heard : (n : ℕ) (v : Event) (e : Heard) → heard rules meaning n (says v) ≡ Some e → (after s e).set ≡ settles s.set v
   settings_heard n (Event.activate m q) e p = absurd (none≢some p)
   settings_heard n (Event.arrive b q) e p = absurd (none≢some p)
   settings_heard n (Event.order m x) e p = kept (λ e. (after s e).set ≡ s.set) (eqb n m) (Heard.order x) e p (ordered x)
@@ -143,7 +143,7 @@ module _ (s : Force) where
   settings_heard n (Event.limit l) e p = let i : Heard.limit l ≡ e = cc in rw (← i)
   settings_heard n (Event.offset o) e p = let i : Heard.offset o ≡ e = cc in rw (← i)
 
-settings_unheard : (n : ℕ) (g : Settings) (v : Event) → heard rules meaning n (says v) ≡ none → settles g v ≡ g
+settings_unheard : (n : ℕ) (g : Settings) (v : Event) → heard rules meaning n (says v) ≡ None → settles g v ≡ g
 settings_unheard n g (Event.activate m q) p = refl
 settings_unheard n g (Event.arrive b q) p = refl
 settings_unheard n g (Event.order m x) p = refl

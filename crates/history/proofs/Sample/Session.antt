@@ -2,7 +2,7 @@
 use Prim.Native.Nat.{ℕ}
 use mathlib.Core.Path.{◌≡◌, refl}
 use mathlib.Core.List.{List, [], ◌∷◌}
-use mathlib.Core.Option.{none, some}
+use Rattle.std.specs.Prelude.{None, Some}
 use Rattle.history.specs.Run.{applied, all_written}
 use Rattle.history.specs.Sample.Events.{Badge, Order, Turn, Event, Settings}
 use Rattle.history.specs.Sample.Lines.{Part}
@@ -34,9 +34,9 @@ session = order 0 (Order.report 1) ∷ at 0 (Event.activate 7 3) ∷ order 5 (Or
     ∷ order 13 (Order.grade 2) ∷ order 13 (Order.report 4) ∷ order 14 (Order.release 0) ∷ []
 
 session_billed : all_written machine (fresh set) session ≡
-    bill (record { name = 7; number = none; cause = 4; opened = 0; offset = 60; duration = 6; parts = one_part 3 999 2 6 60 ∷ [] })
-    ∷ bill (record { name = 7; number = some 1; cause = 16; opened = 8; offset = 60; duration = 4; parts = one_part 3 999 1 11 60 ∷ one_part 3 1 2 12 60 ∷ [] })
-    ∷ bill (record { name = 7; number = some 2; cause = 0; opened = 12; offset = 60; duration = 2; parts = one_part 3 0 0 13 60 ∷ one_part 2 4 2 14 60 ∷ [] })
+    bill (record { name = 7; number = None; cause = 4; opened = 0; offset = 60; duration = 6; parts = one_part 3 999 2 6 60 ∷ [] })
+    ∷ bill (record { name = 7; number = Some 1; cause = 16; opened = 8; offset = 60; duration = 4; parts = one_part 3 999 1 11 60 ∷ one_part 3 1 2 12 60 ∷ [] })
+    ∷ bill (record { name = 7; number = Some 2; cause = 0; opened = 12; offset = 60; duration = 2; parts = one_part 3 0 0 13 60 ∷ one_part 2 4 2 14 60 ∷ [] })
     ∷ []
 session_billed = refl
 
@@ -49,10 +49,10 @@ crossing = at 0 (Event.arrive her 1) ∷ at 1 (Event.activate 7 3) ∷ at 2 (Eve
     ∷ at 8 (Event.turn her (Turn.leave 0)) ∷ order 9 (Order.release 0) ∷ []
 
 crossing_written : all_written machine (fresh set) crossing ≡
-    bill (record { name = 7; number = some 1; cause = 16; opened = 1; offset = 60; duration = 5; parts = one_part 3 1000 2 6 120 ∷ [] })
+    bill (record { name = 7; number = Some 1; cause = 16; opened = 1; offset = 60; duration = 5; parts = one_part 3 1000 2 6 120 ∷ [] })
     ∷ visit (record {
       name = her;
-      number = some 1;
+      number = Some 1;
       cause = 19;
       opened = 0;
       offset = 60;
@@ -60,8 +60,8 @@ crossing_written : all_written machine (fresh set) crossing ≡
       stops = one_stop 2 2 60 ∷ one_stop 1 5 120 ∷ one_stop 3 7 120 ∷ [];
       duration = 7;
     })
-    ∷ visit (record { name = her; number = some 2; cause = 0; opened = 7; offset = 120; place = 3; stops = []; duration = 1 })
-    ∷ bill (record { name = 7; number = some 2; cause = 0; opened = 6; offset = 120; duration = 3; parts = one_part 3 0 2 9 120 ∷ [] })
+    ∷ visit (record { name = her; number = Some 2; cause = 0; opened = 7; offset = 120; place = 3; stops = []; duration = 1 })
+    ∷ bill (record { name = 7; number = Some 2; cause = 0; opened = 6; offset = 120; duration = 3; parts = one_part 3 0 2 9 120 ∷ [] })
     ∷ []
 crossing_written = refl
 

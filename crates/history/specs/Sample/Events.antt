@@ -1,5 +1,5 @@
 -- The sample: what can happen, and what the node is set to.
-use Rattle.std.proofs.Math.Option.{Option, none, some}
+use Rattle.std.specs.Prelude.{Option, None, Some}
 use Rattle.std.specs.Prelude.{ℕ, zero, suc}
 
 -- what names a guest; a line is named by a number
@@ -45,5 +45,5 @@ settles g (Event.offset o) = record { limit = g.limit; offset = o }
 
 -- the number of a record that a release closes, after k others: a sole one has none
 abbrev pub sole_or : ℕ → Option ℕ
-sole_or zero = none
-sole_or (suc k) = some (suc (suc k))
+sole_or zero = None
+sole_or (suc k) = Some (suc (suc k))

@@ -1,7 +1,7 @@
 -- The sample's guests: a second kind of subject. They arrive at a place, move and leave, and hear the offset of the clock; of tariffs and
 -- limits they hear nothing. A move to the same place is none; the third, and only it, is listed and closes the record with 19.
 use Rattle.std.specs.Prelude.{ℕ, suc, ◌-◌, Bool, cond, ◌&&◌, List, [], ◌∷◌, ◌++◌, leb, eqb, length}
-use Rattle.std.proofs.Math.Option.{Option, none, some}
+use Rattle.std.specs.Prelude.{Option, None, Some}
 use Rattle.history.specs.Lists.{each, test}
 use Rattle.history.specs.History.{History, began, began_with, standing, tally}
 use Rattle.history.specs.Records.{Rules, Stretch, in_force}
@@ -30,20 +30,20 @@ after s (Heard.turn (Turn.leave k)) = s
 after s (Heard.offset o) = record { place = s.place; offset = o }
 
 abbrev pub change : Stay → Heard → Option ℕ
-change s (Heard.turn (Turn.move p)) = cond (eqb s.place p) none (some 0)
-change s (Heard.turn (Turn.leave k)) = none
-change s (Heard.offset o) = none
+change s (Heard.turn (Turn.move p)) = cond (eqb s.place p) None (Some 0)
+change s (Heard.turn (Turn.leave k)) = None
+change s (Heard.offset o) = None
 
 abbrev pub releases : Heard → Option ℕ
-releases (Heard.turn (Turn.move p)) = none
-releases (Heard.turn (Turn.leave k)) = some k
-releases (Heard.offset o) = none
+releases (Heard.turn (Turn.move p)) = None
+releases (Heard.turn (Turn.leave k)) = Some k
+releases (Heard.offset o) = None
 
 -- by the third move to another place, counted since the record opened
 abbrev pub closing : History Stay Heard → ℕ → Heard → Option ℕ
-closing r t (Heard.turn (Turn.move p)) = cond (eqb (standing after r).place p) none (test (leb 3 (suc (tally after change r))) 19)
-closing r t (Heard.turn (Turn.leave k)) = none
-closing r t (Heard.offset o) = none
+closing r t (Heard.turn (Turn.move p)) = cond (eqb (standing after r).place p) None (test (leb 3 (suc (tally after change r))) 19)
+closing r t (Heard.turn (Turn.leave k)) = None
+closing r t (Heard.offset o) = None
 
 abbrev pub rules : Rules Stay Heard
 rules = record { after = after; change = change; release = releases; closing = closing; last = λ o. 2 }
@@ -136,7 +136,7 @@ visit c number cause stops t = record
     { name = c.name; number = number; cause = cause; opened = c.opened; offset = c.offset; place = c.home; stops = stops; duration = t - c.opened }
 
 abbrev pub keep : Guest → Step Guest Visit
-keep c = record { next = some c; out = [] }
+keep c = record { next = Some c; out = [] }
 
 abbrev pub listed : ℕ → Guest → ℕ → ℕ → List Stop
 listed g c t p = c.stops ++ (record { place = p; time = t; offset = g } ∷ [])
@@ -155,13 +155,13 @@ moved g c t p = keep (record {
 
 abbrev pub full : ℕ → Guest → ℕ → ℕ → Step Guest Visit
 full g c t p = record {
-  next = some (record { name = c.name; place = p; opened = t; offset = g; home = p; closed = suc c.closed; count = 0; stops = [] });
-  out = visit c (some (suc c.closed)) 19 (listed g c t p) t ∷ [];
+  next = Some (record { name = c.name; place = p; opened = t; offset = g; home = p; closed = suc c.closed; count = 0; stops = [] });
+  out = visit c (Some (suc c.closed)) 19 (listed g c t p) t ∷ [];
 }
 
 abbrev pub hear : ℕ → Guest → ℕ → Heard → Step Guest Visit
 hear g c t (Heard.turn (Turn.move p)) = cond (eqb c.place p) (keep c) (cond (leb 3 (suc c.count)) (full g c t p) (moved g c t p))
-hear g c t (Heard.turn (Turn.leave k)) = record { next = none; out = visit c (sole_or c.closed) k c.stops t ∷ [] }
+hear g c t (Heard.turn (Turn.leave k)) = record { next = None; out = visit c (sole_or c.closed) k c.stops t ∷ [] }
 hear g c t (Heard.offset o) = keep c
 
 abbrev pub takes : Event → Said ℕ Badge Stay Heard

@@ -1,7 +1,7 @@
 -- The sample's lines. They are activated and released, and hear reports, grades, tariffs and both settings. Records close by volume and by
 -- release; closings by time, by changes and by management are not in it.
 use Rattle.std.specs.Prelude.{ℕ, suc, ◌+◌, ◌-◌, cond, List, [], ◌∷◌, ◌++◌, map, leb, eqb}
-use Rattle.std.proofs.Math.Option.{Option, none, some}
+use Rattle.std.specs.Prelude.{Option, None, Some}
 use Rattle.history.specs.Lists.{sum_of, test}
 use Rattle.history.specs.History.{History, ◌▸◌∶◌, began, began_with, total}
 use Rattle.history.specs.Records.{Rules, Stretch, whole, in_force}
@@ -32,12 +32,12 @@ after s (Heard.limit l) = record { grade = s.grade; set = record { limit = l; of
 after s (Heard.offset o) = record { grade = s.grade; set = record { limit = s.set.limit; offset = o } }
 
 abbrev pub change : Force → Heard → Option ℕ
-change s (Heard.order (Order.report k)) = none
-change s (Heard.order (Order.grade q)) = cond (eqb s.grade q) none (some 0)
-change s (Heard.order (Order.release k)) = none
-change s Heard.tariff = some 1
-change s (Heard.limit l) = none
-change s (Heard.offset o) = none
+change s (Heard.order (Order.report k)) = None
+change s (Heard.order (Order.grade q)) = cond (eqb s.grade q) None (Some 0)
+change s (Heard.order (Order.release k)) = None
+change s Heard.tariff = Some 1
+change s (Heard.limit l) = None
+change s (Heard.offset o) = None
 
 abbrev pub octets : Heard → ℕ
 octets (Heard.order (Order.report k)) = k
@@ -48,22 +48,22 @@ octets (Heard.limit l) = 0
 octets (Heard.offset o) = 0
 
 abbrev pub releases : Heard → Option ℕ
-releases (Heard.order (Order.report k)) = none
-releases (Heard.order (Order.grade q)) = none
-releases (Heard.order (Order.release k)) = some k
-releases Heard.tariff = none
-releases (Heard.limit l) = none
-releases (Heard.offset o) = none
+releases (Heard.order (Order.report k)) = None
+releases (Heard.order (Order.grade q)) = None
+releases (Heard.order (Order.release k)) = Some k
+releases Heard.tariff = None
+releases (Heard.limit l) = None
+releases (Heard.offset o) = None
 
 -- by volume, against the limit that the record opened with
 abbrev pub closing : History Force Heard → ℕ → Heard → Option ℕ
 closing r t (Heard.order (Order.report k)) =
     test (leb (began_with r).set.limit (total octets (r ▸ t ∶ Heard.order (Order.report k)))) 16
-closing r t (Heard.order (Order.grade q)) = none
-closing r t (Heard.order (Order.release k)) = none
-closing r t Heard.tariff = none
-closing r t (Heard.limit l) = none
-closing r t (Heard.offset o) = none
+closing r t (Heard.order (Order.grade q)) = None
+closing r t (Heard.order (Order.release k)) = None
+closing r t Heard.tariff = None
+closing r t (Heard.limit l) = None
+closing r t (Heard.offset o) = None
 
 abbrev pub rules : Rules Force Heard
 rules = record { after = after; change = change; release = releases; closing = closing; last = λ o. 2 }
@@ -151,7 +151,7 @@ bill g c k number cause t = record
     { name = c.name; number = number; cause = cause; opened = c.opened; offset = c.offset; duration = t - c.opened; parts = cut g c k 2 t }
 
 abbrev pub keep : Line → Step Line Bill
-keep c = record { next = some c; out = [] }
+keep c = record { next = Some c; out = [] }
 
 -- the line with other parts, and what is counted since
 abbrev pub parted : Line → ℕ → List Part → ℕ → Line
@@ -166,16 +166,16 @@ turned g c condition t q = parted c q (cut g c 0 condition t) 0
 
 abbrev pub full : Settings → Line → ℕ → ℕ → Step Line Bill
 full g c t k = record {
-  next = some (record
+  next = Some (record
       { name = c.name; grade = c.grade; limit = g.limit; opened = t; offset = g.offset; closed = suc c.closed; parts = []; octets = 0 });
-  out = bill g c k (some (suc c.closed)) 16 t ∷ [];
+  out = bill g c k (Some (suc c.closed)) 16 t ∷ [];
 }
 
 abbrev pub hear : Settings → Line → ℕ → Heard → Step Line Bill
 hear g c t (Heard.order (Order.report k)) =
     cond (leb c.limit (sum_of (λ p. p.octets) c.parts + (c.octets + k))) (full g c t k) (keep (counted c k))
 hear g c t (Heard.order (Order.grade q)) = cond (eqb c.grade q) (keep c) (keep (turned g c 0 t q))
-hear g c t (Heard.order (Order.release k)) = record { next = none; out = bill g c 0 (sole_or c.closed) k t ∷ [] }
+hear g c t (Heard.order (Order.release k)) = record { next = None; out = bill g c 0 (sole_or c.closed) k t ∷ [] }
 hear g c t Heard.tariff = keep (turned g c 1 t c.grade)
 hear g c t (Heard.limit l) = keep c
 hear g c t (Heard.offset o) = keep c

@@ -1,6 +1,6 @@
 -- The sample's node: lines and guests in one value, under one clock. What it writes is a record of either kind.
 use Rattle.std.specs.Prelude.{ℕ, zero, suc, cond, List, [], ◌∷◌, ◌++◌, map, leb, eqb, length, replicate}
-use Rattle.std.proofs.Math.Option.{Option, none}
+use Rattle.std.specs.Prelude.{Option, None}
 use Rattle.history.specs.Log.{Accepted}
 use Rattle.history.specs.Table.{free, active, slots_after, writes}
 use Rattle.history.specs.Run.{Machine, if_zero, run, all_written, up_to_refusal}
@@ -16,7 +16,7 @@ pub record Node : Type 0 where
   pub guests : List (Option guests.Guest)
 
 abbrev pub fresh : Settings → Node
-fresh g = record { clock = 0; set = g; lines = replicate 4 none; guests = replicate 2 none }
+fresh g = record { clock = 0; set = g; lines = replicate 4 None; guests = replicate 2 None }
 
 pub data Written : Type 0 where
   bill : lines.Bill → Written

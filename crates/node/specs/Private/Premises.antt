@@ -1,6 +1,6 @@
 -- How the code says what may be missing, and what it may count on while it works.
 use Rattle.std.specs.Prelude.{◌≡◌, true, false, List, ℕ, ◌^◌, ◌≤◌, ◌<◌}
-use Rattle.std.proofs.Math.Option.{Option, none, some}
+use Rattle.std.specs.Prelude.{Option, None, Some}
 use Rattle.container.specs.Qos.{qos_ok}
 use Rattle.container.specs.Open.{ample, roomy}
 use Rattle.event.specs.Fields.{release}
@@ -17,8 +17,8 @@ use Rattle.node.specs.Sound.{latest, most_accepted}
 
 -- a condition or a cause, if there is one
 abbrev pub perhaps : Option ℕ → Perhaps
-perhaps none = Nothing
-perhaps (some k) = Is k
+perhaps None = Nothing
+perhaps (Some k) = Is k
 
 -- what an event in range is to a context: nothing is reported where nothing is counted; a QoS is in range; a release closes with its cause,
 -- and what closes without one closes with 20

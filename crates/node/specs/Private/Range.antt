@@ -1,6 +1,6 @@
 -- Some of the table's slots, from one place up to another: what is done there, and what that writes.
 use Rattle.std.specs.Prelude.{◌≡◌, cond, List, ◌++◌, ℕ, ◌+◌, ◌≤◌, leb, eqb, length, get_or, drop, set}
-use Rattle.std.proofs.Math.Option.{some}
+use Rattle.std.specs.Prelude.{Some}
 use Rattle.ber.specs.Private.Wrote.{Put}
 use Rattle.profile.specs.declared.Profile.{Profile}
 use Rattle.event.specs.declared.Replacement.{Replacement}
@@ -65,7 +65,7 @@ notified_of n i t m b =
 abbrev pub resettled : Node → ℕ → Replacement → Node
 resettled n t r = record {
   profile = n.profile;
-  settings = settled_by (some r) n.settings;
+  settings = settled_by (Some r) n.settings;
   clock = t;
   accepted = n.accepted + 1;
   contexts = n.contexts;

@@ -1,6 +1,6 @@
 -- What the readers of a record's pieces answer.
 use Rattle.std.specs.Prelude.{◌≡◌, true, false, List, ℕ, ◌-◌, ◌≤◌, length, take, drop}
-use Rattle.std.proofs.Math.Option.{none, some}
+use Rattle.std.specs.Prelude.{None, Some}
 use Rattle.ber.specs.Table.{tag}
 use Rattle.scdr.specs.declared.fields.Wire.{Wire}
 use Rattle.scdr.specs.Table.{Apn, table}
@@ -16,7 +16,7 @@ pub record NameEnds (s : List ℕ) (w : Wire) : Type 0 where
 
 -- what was read of all of s as the fields of a record: they are what the body's format reads, and the record has them and nothing else
 pub record Wired (s : List ℕ) (w : Wire) : Type 0 where
-  pub yes : w.ok ≡ true → body.dec s ≡ some (fields_of w.cdr w.lasts)
-  pub no : w.ok ≡ false → body.dec s ≡ none
+  pub yes : w.ok ≡ true → body.dec s ≡ Some (fields_of w.cdr w.lasts)
+  pub no : w.ok ≡ false → body.dec s ≡ None
   pub back : to_record (fields_of w.cdr w.lasts) ≡ w.cdr
   pub apn : w.ok ≡ true → NameEnds s w

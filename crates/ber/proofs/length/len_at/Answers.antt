@@ -1,6 +1,6 @@
 -- `ber::length::len_at` meets its contract: a law for each answer.
 use mathlib.Core.Path.{ap, sym, ◌∙◌}
-use mathlib.Core.Option.{Option}
+use Rattle.std.specs.Prelude.{Option}
 use mathlib.Core.List.{List}
 use Prim.Native.Nat.{ℕ}
 use native.Mathlib.Omega.{arith}
