@@ -29,7 +29,7 @@ use Rattle.node.specs.Hear.{reported, change_of, limit_met, closing, time_at, nu
 use Rattle.node.specs.Sound.{most_accepted}
 use Rattle.node.specs.Private.Premises.{InRange, ReportFits, SoundContext}
 use Rattle.node.proofs.Fits.{apt_good, apt_grows, apt_few}
-use Rattle.node.proofs.Perhaps.{test_is}
+use Rattle.node.proofs.FirstOf.{test_is}
 use Rattle.node.proofs.Causes.{closing_once, closing_limit}
 
 -- ---- the number and the SGSN change

@@ -40,7 +40,7 @@ use Rattle.node.specs.Private.Premises.{InRange, ReportFits, SoundContext}
 use Rattle.node.specs.Held.{Shaped, HeldContext, HeldProfile}
 use Rattle.node.proofs.Fits.{apt_good, apt_limits, apt_few}
 use Rattle.node.proofs.ClosedRecord.{closed_within}
-use Rattle.node.proofs.Perhaps.{test_none, neither_none}
+use Rattle.node.proofs.FirstOf.{test_none, neither_none}
 use Rattle.node.proofs.Causes.{closing_once, closing_limit}
 
 -- ---- what is to be shown

@@ -1,4 +1,4 @@
-pub mod Perhaps
+pub mod FirstOf
 pub mod Causes
 pub mod Growing
 pub mod Fits

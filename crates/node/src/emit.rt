@@ -7,7 +7,6 @@ ghost use Rattle.node.specs.Step.{stood, marked_octets, octets_of};
 ghost use Rattle.node.specs.Private.Premises.{InRange, SoundContext, SoundSlot};
 ghost use Rattle.node.specs.Private.Range.{Counts, Stands, Tries, slot_next, slot_out};
 
-use crate::closing::Perhaps;
 use crate::{Message, Settings, closing, standing};
 use ber::tlv;
 use context::Context;
@@ -38,11 +37,9 @@ fn size_of(p: Profile, g: Settings, c: Context, t: u32, m: Message) -> usize
     requires in_range { InRange m }
     ensures { Counts (octets_of (hear p g c t m).out) result }
 {
-    let o = c.current;
-    let k = closing::cause_of(o, t, m);
-    match k {
-        Perhaps::Is(cause) => 2 + write::record_size(standing::closed_by(p, c, t, m, cause)),
-        Perhaps::Nothing => 0,
+    match closing::cause_of(c.current, t, m) {
+        Some(cause) => 2 + write::record_size(standing::closed_by(p, c, t, m, cause)),
+        None => 0,
     }
 }
 
@@ -61,19 +58,16 @@ fn hear(
     requires m_in_bounds { at + length (octets_of (hear p g c t m).out) ≤ length out.old }
     ensures { Stands (stood (hear p g c t m).next) (octets_of (hear p g c t m).out) out.old out.new at result.context result.at }
 {
-    let o = c.current;
-    let k = closing::cause_of(o, t, m);
-    match k {
-        Perhaps::Is(cause) => {
-            let r = standing::closed_by(p, c, t, m, cause);
-            let next = put_record(r, out, at);
+    match closing::cause_of(c.current, t, m) {
+        Some(cause) => {
+            let next = put_record(standing::closed_by(p, c, t, m, cause), out, at);
             let context = standing::after_closing(p, g, c, t, m);
             SlotAfter { context, at: next }
         }
-        Perhaps::Nothing => {
-            let context = standing::goes_on(p, c, t, m);
-            SlotAfter { context, at }
-        }
+        None => SlotAfter {
+            context: standing::goes_on(p, c, t, m),
+            at,
+        },
     }
 }
 

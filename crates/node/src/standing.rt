@@ -5,7 +5,6 @@ ghost use Rattle.node.specs.Sound.{most_accepted};
 ghost use Rattle.node.specs.Step.{stood};
 ghost use Rattle.node.specs.Private.Premises.{CanGrow};
 
-use crate::closing::Perhaps;
 use crate::{Message, Settings, closing};
 use calendar::Stamp;
 use container::{OpenRecord, open};
@@ -80,16 +79,13 @@ pub fn goes_on(p: Profile, c: Context, t: u32, m: Message) -> Context
     requires { CanGrow c }
     ensures { result ≡ going c (goes_on p c.current t m (change_of c.current m)) c.closed }
 {
-    let o = c.current;
-    let k = closing::change_of(o, m);
-    let n = closing::reported(o, m);
-    match k {
-        Perhaps::Is(condition) => {
-            let q = closing::qos_after(o, m);
-            let now = time_at(p, t);
-            going(c, open::changed(n, condition, now, q), c.closed)
+    let n = closing::reported(c.current, m);
+    match closing::change_of(c.current, m) {
+        Some(condition) => {
+            let q = closing::qos_after(c.current, m);
+            going(c, open::changed(n, condition, time_at(p, t), q), c.closed)
         }
-        Perhaps::Nothing => going(c, n, c.closed),
+        None => going(c, n, c.closed),
     }
 }
 

@@ -1,6 +1,5 @@
 -- How the code says what may be missing, and what it may count on while it works.
 use Rattle.std.specs.Prelude.{◌≡◌, true, false, List, ℕ, ◌^◌, ◌≤◌, ◌<◌}
-use Rattle.std.specs.Prelude.{Option, None, Some}
 use Rattle.container.specs.Qos.{qos_ok}
 use Rattle.container.specs.Open.{ample, roomy}
 use Rattle.event.specs.Fields.{release}
@@ -11,14 +10,7 @@ use Rattle.context.specs.declared.Context.{Context}
 use Rattle.context.specs.Sound.{context_ok, slot_ok, slots_ok}
 use Rattle.node.specs.declared.Message.{Message}
 use Rattle.node.specs.declared.Settings.{Settings}
-use Rattle.node.specs.declared.closing.Perhaps.{Perhaps}
-use Rattle.node.specs.declared.closing.Perhaps.TheVariants.{Is, Nothing}
 use Rattle.node.specs.Sound.{latest, most_accepted}
-
--- a condition or a cause, if there is one
-abbrev pub perhaps : Option ℕ → Perhaps
-perhaps None = Nothing
-perhaps (Some k) = Is k
 
 -- what an event in range is to a context: nothing is reported where nothing is counted; a QoS is in range; a release closes with its cause,
 -- and what closes without one closes with 20

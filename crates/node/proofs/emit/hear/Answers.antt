@@ -1,22 +1,20 @@
 -- `node::emit::hear` meets its contract.
-use mathlib.Core.Path.{◌≡◌}
+use mathlib.Core.Path.{◌≡◌, sym}
 use native.Mathlib.Omega.{arith}
 use lib.ListN.{length}
 use Rattle.format.proofs.Arrays.{length_of_map}
-use Rattle.node.specs.Hear.{closing}
 use Rattle.node.specs.Private.Premises.{ReportFits}
-use Rattle.node.proofs.Perhaps.{perhaps_is, perhaps_nothing}
 use Rattle.node.proofs.Fits.{apt_grows}
 use Rattle.node.proofs.ClosedRecord.{closed_within}
 use Rattle.node.proofs.Emits.{room_closes, turns_closes, turns_on}
 use borrow.Author.Rules.{rules}
 use Rattle.node.proofs.emit.hear.Goals as goal
 
-pub cause_of-k-requires : goal.cause_of-k-requires
-cause_of-k-requires c = (apt_grows c.args.p c.args.g c.args.t c.args.c c.requires.sound_context).counters
+pub cause_of-requires : goal.cause_of-requires
+cause_of-requires c = (apt_grows c.args.p c.args.g c.args.t c.args.c c.requires.sound_context).counters
 
-pub closed_by-r-requires : goal.closed_by-r-requires
-closed_by-r-requires c = apt_grows c.args.p c.args.g c.args.t c.args.c c.requires.sound_context
+pub closed_by-requires : goal.closed_by-requires
+closed_by-requires c = apt_grows c.args.p c.args.g c.args.t c.args.c c.requires.sound_context
 
 pub put_record-next-requires : goal.put_record-next-requires
 put_record-next-requires c =
@@ -25,11 +23,9 @@ put_record-next-requires c =
     let small : ReportFits c.args.m =
     record { up = search rules; down = search rules } in
     let a = c.args in
-    let e =
-    perhaps_is (closing a.c.current a.t a.m) c.cause_of-k.ensures
-    c.in-Is.is in (
-      rw c.closed_by-r.ensures (closed_within a.p a.g a.t a.c c.requires.sound_context placed a.m c.requires.in_range small _ e),
-      room_closes a.p a.g a.c a.t a.m a.at e c.closed_by-r.ensures c.requires.m_in_bounds,
+    let e = sym c.in-Some.ensures in (
+      rw c.closed_by.ensures (closed_within a.p a.g a.t a.c c.requires.sound_context placed a.m c.requires.in_range small _ e),
+      room_closes a.p a.g a.c a.t a.m a.at e c.closed_by.ensures c.requires.m_in_bounds,
     )
 
 pub after_closing-context-requires : goal.after_closing-context-requires
@@ -37,23 +33,18 @@ after_closing-context-requires c =
     apt_grows c.args.p c.args.g c.args.t
     c.args.c c.requires.sound_context
 
-pub goes_on-context-requires : goal.goes_on-context-requires
-goes_on-context-requires c = apt_grows c.args.p c.args.g c.args.t c.args.c c.requires.sound_context
+pub goes_on-requires : goal.goes_on-requires
+goes_on-requires c = apt_grows c.args.p c.args.g c.args.t c.args.c c.requires.sound_context
 
-pub returns-in-Is : goal.returns-in-Is
-returns-in-Is c =
+pub returns-in-Some : goal.returns-in-Some
+returns-in-Some c =
     let a = c.args in
-    let e =
-    perhaps_is (closing a.c.current a.t a.m)
-    c.cause_of-k.ensures
-    c.in-Is.is in
-    turns_closes a.p a.g a.c a.t a.m e c.closed_by-r.ensures c.after_closing-context.ensures
+    let e = sym c.in-Some.ensures in
+    turns_closes a.p a.g a.c a.t a.m e c.closed_by.ensures c.after_closing-context.ensures
     c.put_record-next.ensures
 
-pub returns-in-Nothing : goal.returns-in-Nothing
-returns-in-Nothing c =
+pub returns-in-None : goal.returns-in-None
+returns-in-None c =
     let a = c.args in
-    let e =
-    perhaps_nothing (closing a.c.current a.t a.m) c.cause_of-k.ensures
-    c.in-Nothing.is in
-    turns_on a.p a.g a.c a.t a.m e c.goes_on-context.ensures (omega (arith, c.requires.m_in_bounds))
+    let e = sym c.in-None.ensures in
+    turns_on a.p a.g a.c a.t a.m e c.goes_on.ensures (omega (arith, c.requires.m_in_bounds))

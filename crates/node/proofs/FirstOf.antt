@@ -1,23 +1,10 @@
--- What was told is what there was.
+-- What the first of several tests gives.
 use mathlib.Core.Path.{◌≡◌, refl}
 use mathlib.Core.Bool.{Bool, true, false}
 use Rattle.std.specs.Prelude.{Option, None, Some}
 use Prim.Native.Nat.{ℕ}
 use native.Mathlib.Omega.{arith}
 use Rattle.history.specs.Lists.{test, or_else}
-use Rattle.node.specs.declared.closing.Perhaps.{Perhaps}
-use Rattle.node.specs.declared.closing.Perhaps.TheVariants.{Is, Nothing}
-use Rattle.node.specs.Private.Premises.{perhaps}
-
-pub perhaps_is : (o : Option ℕ) {r : Perhaps} {k : ℕ} → r ≡ perhaps o → r ≡ Is k → o ≡ Some k
-perhaps_is None {r} {k} p q = absurd (let z : ◌≡◌ {A = ℕ} 0 1 = cc in omega arith)
-perhaps_is (Some n) {r} {k} p q = let e : n ≡ k = cc in rw e
-
-pub perhaps_nothing : (o : Option ℕ) {r : Perhaps} → r ≡ perhaps o → r ≡ Nothing → o ≡ None
-perhaps_nothing None p q = refl
-perhaps_nothing (Some n) p q = absurd (let z : ◌≡◌ {A = ℕ} 0 1 = cc in omega arith)
-
--- ---- the first of several tests
 
 pub test_none : (b : Bool) (n : ℕ) → test b n ≡ None → b ≡ false
 test_none true n e = absurd (let z : ◌≡◌ {A = ℕ} 0 1 = cc in omega arith)
