@@ -20,7 +20,7 @@ use zone::{away_of, sign_of, zone_of};
 // Local seconds since 2000-01-01 00:00:00, up to 3,155,759,999 at the end of 2099. The zone is the offset from universal time in
 // minutes, plus 720: 0 is -720, 720 is no offset, and 1560, the last, is 840.
 #[repr(C)]
-#[derive(Clone, Copy)]
+#[derive(Clone, Copy, PartialEq, Eq)]
 pub struct Stamp {
     pub seconds: u32,
     pub zone: u16,

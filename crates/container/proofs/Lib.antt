@@ -1,3 +1,4 @@
+pub mod Same
 pub mod TagLists
 pub mod Formats
 pub mod Fields

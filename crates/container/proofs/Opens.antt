@@ -1,15 +1,17 @@
 -- The containers of an open record: one more of them, the one that closes the record, what they leave of a limit.
 use mathlib.Core.Path.{◌≡◌, refl, sym, ap, ◌∙◌}
-use mathlib.Core.Bool.{Bool, true, false, not, ◌&&◌, and-true, and-false, and_assoc}
+use mathlib.Core.Bool.{Bool, true, false, ◌&&◌, and-true, and-false, and_assoc}
 use mathlib.Core.List.{List, [], ◌∷◌, ◌++◌}
 use Prim.Native.Nat.{ℕ, zero, suc, ◌+◌, ◌-◌, ◌≤◌, ◌<◌}
 use native.Mathlib.Numerals.{add-one}
 use native.Mathlib.Omega.{arith}
 use lib.Dec.{leb, ltb, eqb}
-use lib.ListN.{length, take, drop, get_or, length-append, length-take, drop_of_length-le}
-use lib.Seq.{take-suc, take_all, take-append-le, drop-append-le, drop-cons, get_or-take, length-take-le}
-use borrow.Author.Tests.{not-true, not-false, leb-true, leb-false, ltb-true, ltb-false, le-leb, lt-ltb, le-ltb, eq-eqb}
+use lib.ListN.{length, take, drop, get_or, length-append, drop_of_length-le}
+use lib.Seq.{take-suc, take_all, take-append-le, drop-append-le, length-take-le}
+use borrow.Author.Tests.{leb-true, ltb-true, ltb-false, le-leb, lt-ltb, le-ltb, eq-eqb}
 use Rattle.format.proofs.Tests.{both}
+use Rattle.std.specs.Prelude.{Option, None, Some}
+use Rattle.format.specs.Maybe.{guard}
 use Rattle.container.specs.declared.Qos.{Qos}
 use Rattle.container.specs.declared.Container.{Container}
 use Rattle.container.specs.declared.held.Run.{Run}
@@ -255,10 +257,19 @@ pub held_all : {v : List Container} {z o : ℕ} {s : Run} {n i : ℕ} → length
 held_all {v} {z} {o} {s} {n} {i} e = record { most = omega arith; same = ap (held_ok z o s.after s.until s.left n) (take_all i v (omega arith)) }
 
 module _ {v : List Container} {z o : ℕ} {s₀ : Run} {n : ℕ} {s : Run} {i : ℕ} (k : Held v z o s₀ n s i) where
-  module _ (d : Container) (h : 0 < i) {r : Run} (e : r ≡ looked z (leb i n) (get_or v (i - 1) d) s) where
-    here : held_ok z o s.after s.until s.left n (take i v) ≡ (held_ok z o r.after r.until r.left n (take (i - 1) v) && r.ok)
+  -- what the places before are to be tested with, if there is no fault yet
+  abbrev before : Option Run → Bool
+  before None = false
+  before (Some r) = held_ok z o r.after r.until r.left n (take (i - 1) v)
+
+  before_guard : (t : Bool) (r : Run) → (before (Some r) && t) ≡ before (guard t r)
+  before_guard true r = and-true (before (Some r))
+  before_guard false r = and-false (before (Some r))
+
+  module _ (d : Container) (h : 0 < i) {p : Option Run} (e : p ≡ looked z (ltb (i - 1) n) (get_or v (i - 1) d) s) where
+    here : held_ok z o s.after s.until s.left n (take i v) ≡ before p
     unfolding looked
-    here = ap (held_ok z o s.after s.until s.left n) w ∙ rw e (by (leb i n) refl)
+    here = ap (held_ok z o s.after s.until s.left n) w ∙ rw e (by (ltb (i - 1) n) refl)
       where
         x : Container
         x = get_or v (i - 1) d
@@ -271,41 +282,25 @@ module _ {v : List Container} {z o : ℕ} {s₀ : Run} {n : ℕ} {s : Run} {i : 
         m : length (take (i - 1) v) ≡ i - 1
         m = length-take-le (i - 1) v (omega (arith, k.most))
 
-        by : (b : Bool) → leb i n ≡ b
-            → held_ok z o s.after s.until s.left n (take (i - 1) v ++ (x ∷ [])) ≡
-            (held_ok z o (looked z b x s).after (looked z b x s).until (looked z b x s).left n (take (i - 1) v) && (looked z b x s).ok)
-        by true f = held_used z o s.after s.until s.left n (take (i - 1) v) x (omega (arith, m, leb-true i n f))
-        by false f = held_unused z o s.after s.until s.left n (take (i - 1) v) x (omega (arith, m, leb-false i n f))
+        by : (b : Bool) → ltb (i - 1) n ≡ b → held_ok z o s.after s.until s.left n (take (i - 1) v ++ (x ∷ [])) ≡ before (looked z b x s)
+        by true f =
+            held_used z o s.after s.until s.left n (take (i - 1) v) x (omega (arith, m, ltb-true (i - 1) n f))
+            ∙ before_guard (precedes z s.after s.until x) (record { after = x.qos; until = x.time.seconds; left = s.left - x.uplink - x.downlink })
+        by false f =
+            held_unused z o s.after s.until s.left n (take (i - 1) v) x (omega (arith, m, ltb-false (i - 1) n f)) ∙ before_guard (is_blank x) s
 
-    pub held_no : not r.ok ≡ true → false ≡ held_ok z o s₀.after s₀.until s₀.left n v
-    held_no f = sym (sym k.same ∙ here ∙ rw (not-true r.ok f, and-false (held_ok z o r.after r.until r.left n (take (i - 1) v))))
+    pub held_no : p ≡ None → false ≡ held_ok z o s₀.after s₀.until s₀.left n v
+    held_no f = sym (sym k.same ∙ here ∙ ap before f)
 
-    pub held_next : not r.ok ≡ false → Held v z o s₀ n r (i - 1)
-    held_next f =
-        record {
-          most = omega (arith, k.most);
-          same = sym (sym k.same ∙ here ∙ rw (not-false r.ok f, and-true (held_ok z o r.after r.until r.left n (take (i - 1) v))));
-        }
+    pub held_next : (r : Run) → p ≡ Some r → Held v z o s₀ n r (i - 1)
+    held_next r f = record { most = omega (arith, k.most); same = sym (sym k.same ∙ here ∙ ap before f) }
 
   pub held_end : i ≤ 0 → (leb o s.until && ltb 0 s.left) ≡ held_ok z o s₀.after s₀.until s₀.left n v
   held_end h =
       let e : i ≡ 0 = omega arith in
       sym (held_nil z o s.after s.until s.left n) ∙ ap (λ (j : ℕ). held_ok z o s.after s.until s.left n (take j v)) (sym e) ∙ k.same
 
--- the volumes are spent from the first container to the last: those from i on have still to be
-pub record LeftRest (v : List Container) (n limit left i : ℕ) : Type 0 where
-  pub rest : left - volume_of (drop i (take n v)) ≡ limit - volume_of (take n v)
-
-pub left_all : {v : List Container} {n limit : ℕ} → LeftRest v n limit limit 0
-left_all = record { rest = refl }
-
-module _ {v : List Container} {n limit left i : ℕ} (s : LeftRest v n limit left i) where
-  pub left_next : (d : Container) {a b : ℕ} → i < n → i < length v → a ≡ left - (get_or v i d).uplink → b ≡ a - (get_or v i d).downlink → LeftRest v n limit b (i + 1)
-  unfolding volume_of
-  left_next d h k e f =
-      let w : drop i (take n v) ≡ get_or v i d ∷ drop (suc i) (take n v) = drop-cons (take n v) i d (omega (arith, length-take n v)) ∙ rw (get_or-take n v i d h) in
-      record { rest = rw add-one (omega (arith, ap volume_of w, s.rest)) }
-
-  pub left_end : length (take n v) ≤ i → left ≡ limit - volume_of (take n v)
-  unfolding volume_of
-  left_end h = omega (arith, ap volume_of (drop_of_length-le (take n v) h), s.rest)
+-- what one container more counts of a list
+pub volume_next : (v : List Container) (i : ℕ) (d : Container) → i < length v
+    → volume_of (take (i + 1) v) ≡ volume_of (take i v) + ((get_or v i d).uplink + (get_or v i d).downlink)
+volume_next v i d h = rw (add-one i, take-suc v i d h) (volume_more (get_or v i d) (take i v))

@@ -1,6 +1,6 @@
 -- The rules of a list, tested one container after another: what the loops find, and that it is the rules of specs/List.antt.
 use mathlib.Core.Path.{◌≡◌, refl, sym, ap, ◌∙◌}
-use mathlib.Core.Bool.{Bool, true, false, not, ◌&&◌, beq}
+use mathlib.Core.Bool.{Bool, true, false, ◌&&◌}
 use mathlib.Core.List.{List, [], ◌∷◌}
 use Prim.Native.Nat.{ℕ, zero, suc, ◌+◌, ◌-◌, ◌≤◌, ◌<◌}
 use native.Mathlib.Omega.{arith}
@@ -52,22 +52,6 @@ module _ (v : List Container) (n : ℕ) (r : n ≤ length v) where
       single [] k = refl
       single (c ∷ []) k = refl
       single (c ∷ d ∷ l) k = absurd (omega arith)
-
--- the two ways out of `alike`
-module _ (a b : Bool) where
-  pub alike_true : a ≡ true → b ≡ beq a b
-  alike_true e = rw e (same b)
-    where
-      same : (b : Bool) → b ≡ beq true b
-      same true = refl
-      same false = refl
-
-  pub alike_false : a ≡ false → not b ≡ beq a b
-  alike_false e = rw e (other b)
-    where
-      other : (b : Bool) → not b ≡ beq false b
-      other true = refl
-      other false = refl
 
 -- ---- together they are the rules
 

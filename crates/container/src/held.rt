@@ -22,66 +22,52 @@ pub fn held_ok(
     ensures { result ≡ held_ok zone opening q now limit n v }
 {
     let mut s = Run {
-        ok: true,
         after: q,
         until: now,
         left: limit,
     };
-    let mut i: usize = 15;
-    while 0 < i {
-        let c = v[i - 1];
-        s = look(c, i <= n, zone, s);
-        if !s.ok {
+    for i in (0..15).rev() {
+        let Some(before) = look(v[i], i < n, zone, s) else {
             return false;
-        }
-        i -= 1;
+        };
+        s = before;
     }
     (opening <= s.until) & (0 < s.left)
 }
 
-// What the places from one on leave to those before it: whether it was as it must be itself, the QoS that follows, the time that must
-// not be passed, and what is left of the limit.
+// What the places from one on leave to those before it: the QoS that follows, the time that must not be passed, and what is left of the
+// limit.
 #[derive(Clone, Copy)]
 struct Run {
-    ok: bool,
     after: Qos,
     until: u32,
     left: u64,
 }
 
-// One place more: a container that is used must fit what follows it, one that is not must be zero.
-fn look(c: Container, used: bool, zone: u16, s: Run) -> Run
+// One place more, where it is as it must be: a container that is used must fit what follows it, one that is not must be zero.
+fn look(c: Container, used: bool, zone: u16, s: Run) -> Option<Run>
     ensures { result ≡ looked zone used c s }
 {
-    let q = s.after;
-    if used {
-        let ok = precedes(c, zone, q, s.until);
-        let left = rest_of(rest_of(s.left, c.uplink), c.downlink);
-        let p = c.qos;
-        return Run {
-            ok,
-            after: p,
-            until: c.time.seconds,
-            left,
-        };
+    if !used {
+        return unused::is_blank(c).then_some(s);
     }
-    let ok = unused::is_blank(c);
-    Run {
-        ok,
-        after: q,
-        until: s.until,
-        left: s.left,
+    if !precedes(c, zone, s.after, s.until) {
+        return None;
     }
+    Some(Run {
+        after: c.qos,
+        until: c.time.seconds,
+        left: rest_of(rest_of(s.left, c.uplink), c.downlink),
+    })
 }
 
 // Is a container as it must be, in the zone, not the end of its record, not after a time, and right before the QoS q?
 fn precedes(c: Container, zone: u16, q: Qos, until: u32) -> bool
     ensures { result ≡ precedes zone q until c }
 {
-    let t = c.time;
-    let ok = one::container_ok(c);
     let right = rules::changes(c, q);
-    ok & (c.condition < 2) & (t.zone == zone) & (t.seconds <= until) & right
+    let ok = one::container_ok(c);
+    ok & (c.condition < 2) & (c.time.zone == zone) & (c.time.seconds <= until) & right
 }
 
 // What the first n containers of v leave of a limit: 0 where it does not suffice.
@@ -89,14 +75,8 @@ pub fn left_after(v: [Container; 15], n: usize, limit: u64) -> u64
     ensures { result ≡ limit - volume_of (take n v) }
 {
     let mut left = limit;
-    let mut i: usize = 0;
-    while i < n {
-        if 15 <= i {
-            return left;
-        }
-        let c = v[i];
+    for c in &v[..n.min(15)] {
         left = rest_of(rest_of(left, c.uplink), c.downlink);
-        i += 1;
     }
     left
 }
@@ -105,5 +85,5 @@ pub fn left_after(v: [Container; 15], n: usize, limit: u64) -> u64
 pub fn rest_of(left: u64, x: u64) -> u64
     ensures { result ≡ left - x }
 {
-    if x < left { left - x } else { 0 }
+    left.saturating_sub(x)
 }

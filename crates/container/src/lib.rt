@@ -21,7 +21,7 @@ pub mod unused;
 
 // The QoS profile of a context: five numbers, each in its range.
 #[repr(C)]
-#[derive(Clone, Copy)]
+#[derive(Clone, Copy, PartialEq, Eq)]
 pub struct Qos {
     pub reliability: u8,
     pub delay: u8,
@@ -33,7 +33,7 @@ pub struct Qos {
 // What was counted under one QoS profile: octets up and down, why the container ended (0 a QoS change, 1 a tariff change, 2 the
 // record's closing), and when.
 #[repr(C)]
-#[derive(Clone, Copy)]
+#[derive(Clone, Copy, PartialEq, Eq)]
 pub struct Container {
     pub qos: Qos,
     pub uplink: u64,

@@ -14,8 +14,6 @@ use limits::Limits;
 pub fn opened(now: Stamp, q: Qos, limits: Limits) -> OpenRecord
     ensures { result ≡ opened now q limits }
 {
-    let blank = one::no_container();
-    let containers = [blank; 15];
     OpenRecord {
         opening: now,
         qos: q,
@@ -23,7 +21,7 @@ pub fn opened(now: Stamp, q: Qos, limits: Limits) -> OpenRecord
         uplink: 0,
         downlink: 0,
         changes: 0,
-        containers,
+        containers: [one::no_container(); 15],
         count: 0,
     }
 }
@@ -36,9 +34,7 @@ pub fn no_open() -> OpenRecord
         seconds: 0,
         zone: 0,
     };
-    let none = qos_profile::no_qos();
-    let limits = limits::no_limits();
-    opened(never, none, limits)
+    opened(never, qos_profile::no_qos(), limits::no_limits())
 }
 
 // A report is added to both counters.
@@ -52,8 +48,8 @@ pub fn reported(o: OpenRecord, up: u32, down: u32) -> OpenRecord
         return o;
     }
     let mut n = o;
-    n.uplink = o.uplink + up as u64;
-    n.downlink = o.downlink + down as u64;
+    n.uplink = o.uplink + u64::from(up);
+    n.downlink = o.downlink + u64::from(down);
     n
 }
 
@@ -61,9 +57,8 @@ pub fn reported(o: OpenRecord, up: u32, down: u32) -> OpenRecord
 fn running(o: OpenRecord, condition: u8, now: Stamp) -> Container
     ensures { result ≡ running o condition now }
 {
-    let qos = o.qos;
     Container {
-        qos,
+        qos: o.qos,
         uplink: o.uplink,
         downlink: o.downlink,
         condition,
@@ -75,18 +70,15 @@ fn running(o: OpenRecord, condition: u8, now: Stamp) -> Container
 pub fn ended(o: OpenRecord, condition: u8, now: Stamp) -> OpenRecord
     ensures { result ≡ cond (roomy o) (ended o condition now) o }
 {
-    let at = o.count;
-    let v = o.containers;
-    if 15 <= at {
+    if 15 <= o.count {
         return o;
     }
-    if !unused::unused_blank(v, at) {
+    if !unused::unused_blank(o.containers, o.count) {
         return o;
     }
-    let x = running(o, condition, now);
     let mut n = o;
-    n.containers[at] = x;
-    n.count = at + 1;
+    n.containers[o.count] = running(o, condition, now);
+    n.count = o.count + 1;
     n.uplink = 0;
     n.downlink = 0;
     n
@@ -96,21 +88,18 @@ pub fn ended(o: OpenRecord, condition: u8, now: Stamp) -> OpenRecord
 pub fn changed(o: OpenRecord, condition: u8, now: Stamp, q: Qos) -> OpenRecord
     ensures { result ≡ cond (roomy o && ltb o.changes 255) (changed o condition now q) o }
 {
-    let more = o.changes;
-    let at = o.count;
-    let v = o.containers;
-    if 255 <= more {
+    if 255 <= o.changes {
         return o;
     }
-    if 15 <= at {
+    if 15 <= o.count {
         return o;
     }
-    if !unused::unused_blank(v, at) {
+    if !unused::unused_blank(o.containers, o.count) {
         return o;
     }
     let mut n = ended(o, condition, now);
     n.qos = q;
-    n.changes = more + 1;
+    n.changes = o.changes + 1;
     n
 }
 
@@ -118,8 +107,10 @@ pub fn changed(o: OpenRecord, condition: u8, now: Stamp, q: Qos) -> OpenRecord
 pub fn volume_met(o: OpenRecord) -> bool
     ensures { result ≡ volume_met o }
 {
-    let v = o.containers;
-    let left = held::rest_of(held::left_after(v, o.count, o.limits.volume), o.uplink);
+    let left = held::rest_of(
+        held::left_after(o.containers, o.count, o.limits.volume),
+        o.uplink,
+    );
     left <= o.downlink
 }
 
@@ -127,8 +118,10 @@ pub fn volume_met(o: OpenRecord) -> bool
 pub fn volume_left(o: OpenRecord) -> u64
     ensures { result ≡ volume_left o }
 {
-    let v = o.containers;
-    let left = held::rest_of(held::left_after(v, o.count, o.limits.volume), o.uplink);
+    let left = held::rest_of(
+        held::left_after(o.containers, o.count, o.limits.volume),
+        o.uplink,
+    );
     held::rest_of(left, o.downlink)
 }
 
@@ -136,34 +129,37 @@ pub fn volume_left(o: OpenRecord) -> u64
 pub fn time_met(o: OpenRecord, t: u32) -> bool
     ensures { result ≡ time_met t o }
 {
-    let opening = o.opening;
-    o.limits.seconds as u64 <= held::rest_of(t as u64, opening.seconds as u64)
+    o.limits.seconds <= t.saturating_sub(o.opening.seconds)
 }
 
 // Does one change more reach its limit?
 pub fn changes_met(o: OpenRecord) -> bool
     ensures { result ≡ changes_met o }
 {
-    o.limits.changes as u32 <= o.changes as u32 + 1
+    u32::from(o.limits.changes) <= u32::from(o.changes) + 1
 }
 
 // Is it as it must be in a sound node, with this offset, at this clock? Its counters keep to its own limits.
 pub fn is_sound(o: OpenRecord, zone: u16, clock: u32) -> bool
     ensures { result ≡ sound_open zone clock o }
 {
-    let l = o.limits;
-    let q = o.qos;
-    let v = o.containers;
-    let t = o.opening;
-    let limited = limits::limits_ok(l);
-    let range = qos_profile::qos_ok(q);
-    let left = held::rest_of(held::rest_of(l.volume, o.uplink), o.downlink);
-    let kept = held::held_ok(v, o.count, zone, t.seconds, q, clock, left);
+    let limited = limits::limits_ok(o.limits);
+    let range = qos_profile::qos_ok(o.qos);
+    let left = held::rest_of(held::rest_of(o.limits.volume, o.uplink), o.downlink);
+    let kept = held::held_ok(
+        o.containers,
+        o.count,
+        zone,
+        o.opening.seconds,
+        o.qos,
+        clock,
+        left,
+    );
     limited
         & range
-        & (o.count == o.changes as usize)
-        & (o.changes < l.changes)
-        & (t.zone == zone)
+        & (o.count == usize::from(o.changes))
+        & (o.changes < o.limits.changes)
+        & (o.opening.zone == zone)
         & kept
 }
 
@@ -171,13 +167,9 @@ pub fn is_sound(o: OpenRecord, zone: u16, clock: u32) -> bool
 pub fn is_blank(o: OpenRecord) -> bool
     ensures { result ≡ blank_open o }
 {
-    let l = o.limits;
-    let q = o.qos;
-    let v = o.containers;
-    let unlimited = limits::is_blank(l);
-    let none = qos_profile::no_qos();
-    let same = qos_profile::same_qos(q, none);
-    let unused = unused::unused_blank(v, 0);
+    let unlimited = limits::is_blank(o.limits);
+    let same = o.qos == qos_profile::no_qos();
+    let unused = unused::unused_blank(o.containers, 0);
     (o.opening.seconds == 0)
         & (o.opening.zone == 0)
         & same

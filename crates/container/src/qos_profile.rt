@@ -22,11 +22,7 @@ pub fn qos_ok(q: Qos) -> bool
 pub fn same_qos(a: Qos, b: Qos) -> bool
     ensures { result ≡ same_qos a b }
 {
-    (a.reliability == b.reliability)
-        & (a.delay == b.delay)
-        & (a.precedence == b.precedence)
-        & (a.peak == b.peak)
-        & (a.mean == b.mean)
+    a == b
 }
 
 // What was read, and the place after it: zeros and NOWHERE where it is not there.

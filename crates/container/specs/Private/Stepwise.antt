@@ -1,6 +1,8 @@
 -- How the code tests the rules of a list: one container after another, and each with the next. proofs/Stepwise.antt shows that these are
 -- the rules of specs/List.antt, and proofs/Opens.antt those of specs/Open.antt.
 use Rattle.std.specs.Prelude.{Bool, true, false, ◌&&◌, List, [], ◌∷◌, ℕ, ◌-◌, leb, ltb, eqb}
+use Rattle.std.specs.Prelude.{Option}
+use Rattle.format.specs.Maybe.{guard}
 use Rattle.container.specs.declared.Qos.{Qos}
 use Rattle.container.specs.declared.Container.{Container}
 use Rattle.container.specs.declared.held.Run.{Run}
@@ -36,7 +38,7 @@ last_ends (c ∷ d ∷ cs) = last_ends (d ∷ cs)
 unfoldable pub precedes : ℕ → Qos → ℕ → Container → Bool
 precedes z q t c = container_ok c && ltb c.condition 2 && eqb c.time.zone z && leb c.time.seconds t && changes c q
 
--- one place more of an array, from the last to the first: is it as it must be, and what does it leave to those before it?
-unfoldable pub looked : ℕ → Bool → Container → Run → Run
-looked z true c s = record { ok = precedes z s.after s.until c; after = c.qos; until = c.time.seconds; left = s.left - c.uplink - c.downlink }
-looked z false c s = record { ok = is_blank c; after = s.after; until = s.until; left = s.left }
+-- one place more of an array, from the last to the first: what it leaves to those before it, if it is as it must be
+unfoldable pub looked : ℕ → Bool → Container → Run → Option Run
+looked z true c s = guard (precedes z s.after s.until c) (record { after = c.qos; until = c.time.seconds; left = s.left - c.uplink - c.downlink })
+looked z false c s = guard (is_blank c) s

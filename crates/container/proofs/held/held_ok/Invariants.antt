@@ -5,6 +5,3 @@ use Rattle.container.proofs.held.held_ok.Given as goal
 
 abbrev pub invariant-loop-i : goal.invariant-loop-i
 invariant-loop-i l = Held l.v l.zone l.opening l.initial.s l.n l.s l.i
-
-abbrev pub decreases-loop-i : goal.decreases-loop-i
-decreases-loop-i l = l.i

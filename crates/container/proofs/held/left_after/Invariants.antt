@@ -1,10 +1,7 @@
--- `container::held::left_after` meets its contract. The loop's invariant: what is left to rest_of comes off what is left.
-use Prim.Native.Nat.{◌-◌}
-use Rattle.container.proofs.Opens.{LeftRest}
+-- `container::held::left_after` meets its contract. The loop's invariant: the volumes so far are off the limit.
+use Rattle.std.proofs.Common.{◌≡◌, ◌-◌, take}
+use Rattle.container.specs.Open.{volume_of}
 use Rattle.container.proofs.held.left_after.Given as goal
 
-abbrev pub invariant-loop-i : goal.invariant-loop-i
-invariant-loop-i l = LeftRest l.v l.n l.limit l.left l.i
-
-abbrev pub decreases-loop-i : goal.decreases-loop-i
-decreases-loop-i l = l.n - l.i
+abbrev pub invariant-loop-c : goal.invariant-loop-c
+invariant-loop-c l = l.left ≡ l.limit - volume_of (take l.c-index l.c-items)

@@ -5,5 +5,5 @@ use Rattle.container.proofs.open.is_sound.Goals as goal
 pub returns : goal.returns
 returns c =
     let a = c.args in
-    rules_found a.o a.zone a.clock c.limits_ok-limited.ensures c.qos_ok-range.ensures
-    c.rest_of.ensures c.rest_of-left.ensures c.held_ok-kept.ensures
+    rw c.from.ensures (rules_found a.o a.zone a.clock c.limits_ok-limited.ensures c.qos_ok-range.ensures
+    c.rest_of.ensures c.rest_of-left.ensures c.held_ok-kept.ensures)

@@ -2,4 +2,4 @@
 use Rattle.container.proofs.open.no_open.Goals as goal
 
 pub returns : goal.returns
-returns c = rw (c.opened.ensures, c.no_limits-limits.ensures, c.no_qos-none.ensures)
+returns c = rw (c.opened.ensures, c.no_limits.ensures, c.no_qos.ensures)

@@ -4,4 +4,4 @@ use Rattle.container.proofs.open.opened.Goals as goal
 
 pub returns : goal.returns
 unfolding no_containers
-returns c = rw c.no_container-blank.ensures
+returns c = rw c.no_container.ensures

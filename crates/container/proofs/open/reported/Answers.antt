@@ -14,4 +14,4 @@ returns-then-o-ge9223372036854775808-2 c =
 pub returns : goal.returns
 returns c =
     let o = c.args.o in
-    rw (lt-ltb o.uplink (2 ^ 63) c.if-o-ge9223372036854775808.false, lt-ltb o.downlink (2 ^ 63) c.if-o-ge9223372036854775808-2.false)
+    rw (lt-ltb o.uplink (2 ^ 63) c.if-o-ge9223372036854775808.false, lt-ltb o.downlink (2 ^ 63) c.if-o-ge9223372036854775808-2.false, c.from.ensures, c.from-2.ensures)

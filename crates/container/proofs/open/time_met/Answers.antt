@@ -2,4 +2,4 @@
 use Rattle.container.proofs.open.time_met.Goals as goal
 
 pub returns : goal.returns
-returns c = rw c.rest_of.ensures
+returns c = rw c.saturating_sub.ensures

@@ -7,4 +7,4 @@ use Rattle.container.proofs.rules.follows.Goals as goal
 
 pub returns : goal.returns
 unfolding follows
-returns c = ap (λ (x : Bool). ltb c.args.c.condition 2 && x) c.changes-right.ensures
+returns c = ap (λ (x : Bool). ltb c.args.c.condition 2 && x) c.changes.ensures

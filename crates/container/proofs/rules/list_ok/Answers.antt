@@ -1,11 +1,12 @@
--- `container::rules::list_ok` meets its contract. The loop's invariant: what is left to look at, from the last time on, decides. Assumes
--- nothing.
-use mathlib.Core.Path.{◌≡◌}
+-- `container::rules::list_ok` meets its contract. The loop's invariant: what is left to look at, from the last time on, decides.
+use mathlib.Core.Path.{◌≡◌, subst}
 use native.Mathlib.Omega.{arith}
+use Prim.Native.Nat.{◌-◌}
 use lib.ListN.{length}
 use borrow.Author.Tests.{not-true, not-false}
 use borrow.Author.Rules.{rules}
-use Rattle.container.proofs.Stepwise.{ok_few, ok_many, turning_none, turning_more, turning_no, turning_end}
+use Rattle.container.specs.Container.{no_container}
+use Rattle.container.proofs.Stepwise.{Turning, ok_few, ok_many, turning_none, turning_more, turning_no, turning_end}
 use Rattle.container.proofs.rules.list_ok.Goals as goal
 
 pub returns-then-n-lt1 : goal.returns-then-n-lt1
@@ -23,7 +24,7 @@ returns-then-not-pair_ok c =
     let l = c.loop-i in
     let z : length a.v ≡ 15 = search rules in
     let h = c.if-n-gt15.false in
-    turning_no a.v a.n a.opening (omega (arith, h)) (omega (arith, h)) l.invariant _ _ c.loop-i-test.true
+    turning_no a.v a.n a.opening (omega (arith, h)) (omega (arith, h)) l.invariant no_container no_container (omega (arith, c.loop-i-test.true))
     c.pair_ok.ensures (not-true _ c.if-not-pair_ok.true-raw)
 
 pub loop-i-preserved : goal.loop-i-preserved
@@ -31,8 +32,8 @@ loop-i-preserved c =
     let a = c.args in
     let l = c.loop-i in
     let z : length a.v ≡ 15 = search rules in
-    turning_more a.v a.n (omega (arith, c.if-n-gt15.false)) l.invariant _ _
-    c.loop-i-test.true c.pair_ok.ensures (not-false _ c.if-not-pair_ok.false-raw)
+    turning_more a.v a.n (omega (arith, c.if-n-gt15.false)) l.invariant no_container no_container
+    (omega (arith, c.loop-i-test.true)) c.pair_ok.ensures (not-false _ c.if-not-pair_ok.false-raw)
 
 pub returns : goal.returns
 returns c =
@@ -40,5 +41,6 @@ returns c =
     let l = c.loop-i in
     let z : length a.v ≡ 15 = search rules in
     let h = c.if-n-gt15.false in
-    turning_end a.v a.n a.opening (omega (arith, h)) (omega (arith, h)) l.invariant _ (omega (arith, c.loop-i-test.false))
-    c.stands-stand.ensures
+    let e : l.i ≡ a.n - 1 = omega (arith, c.loop-i-test.false, l.auto.i-end) in
+    turning_end a.v a.n a.opening (omega (arith, h)) (omega (arith, h)) (subst (Turning a.v a.n a.opening.zone a.opening.seconds l.from) e l.invariant)
+    no_container (omega arith) c.stands-stand.ensures

@@ -1,11 +1,6 @@
--- `container::rules::list_ok` meets its contract. The loop's invariant: what is left to look at, from the last time on, decides. Assumes
--- nothing.
-use Prim.Native.Nat.{◌-◌}
+-- `container::rules::list_ok` meets its contract. The loop's invariant: what is left to look at, from the last time on, decides.
 use Rattle.container.proofs.Stepwise.{Turning}
 use Rattle.container.proofs.rules.list_ok.Given as goal
 
 abbrev pub invariant-loop-i : goal.invariant-loop-i
-invariant-loop-i l = Turning l.v l.n l.zone l.initial.from l.from l.i
-
-abbrev pub decreases-loop-i : goal.decreases-loop-i
-decreases-loop-i l = l.n - l.i
+invariant-loop-i l = Turning l.v l.n l.fn.opening.zone l.fn.opening.seconds l.from l.i

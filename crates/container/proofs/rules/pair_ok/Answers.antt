@@ -4,4 +4,4 @@ use mathlib.Core.Bool.{Bool, ◌&&◌}
 use Rattle.container.proofs.rules.pair_ok.Goals as goal
 
 pub returns : goal.returns
-returns c = ap₂ (λ (x y : Bool). x && y) c.stands-stand.ensures c.follows-follow.ensures
+returns c = ap₂ (λ (x y : Bool). x && y) c.stands.ensures c.follows.ensures

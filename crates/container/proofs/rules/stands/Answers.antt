@@ -9,4 +9,4 @@ pub returns : goal.returns
 unfolding stands
 returns c =
     let a = c.args in
-    ap (λ (x : Bool). x && eqb a.c.time.zone a.zone && leb a.from a.c.time.seconds) c.container_ok-ok.ensures
+    ap (λ (x : Bool). x && eqb a.c.time.zone a.zone && leb a.from a.c.time.seconds) c.container_ok.ensures
