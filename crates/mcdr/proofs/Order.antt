@@ -2,14 +2,16 @@
 use mathlib.Core.Path.{◌≡◌, refl, sym, ap, ◌∙◌}
 use mathlib.Core.Bool.{Bool, true, false, not, ◌&&◌}
 use mathlib.Core.List.{List, [], ◌∷◌, ◌++◌}
-use Prim.Native.Nat.{ℕ, zero, suc, ◌+◌, ◌≤◌, ◌<◌}
+use Prim.Native.Nat.{ℕ, zero, suc, ◌+◌, ◌-◌, ◌≤◌, ◌<◌}
+use Rattle.std.specs.Prelude.{Some, None, slice_get}
+use Rattle.std.proofs.lemmas.Option.{none-some, slice_get-get_or, slice_get_within, get_or_from_slice_get}
 use native.Mathlib.Omega.{arith}
 use lib.Dec.{leb, ltb, eqb}
 use lib.ListN.{length, take, drop, get_or}
-use lib.Seq.{get_or-take}
+use lib.Seq.{drop-cons}
+use native.Mathlib.Numerals.{add-one}
 use borrow.Author.Tests.{leb-true, ltb-true, le-leb, lt-leb, eqb-true, eq-eqb}
 use Rattle.format.proofs.Tests.{both}
-use Rattle.format.proofs.Arrays.{front_cons, front_end}
 use Rattle.calendar.specs.declared.Stamp.{Stamp}
 use Rattle.calendar.specs.Stamp.{stamp_ok}
 use Rattle.mcdr.specs.declared.Place.{Place}
@@ -119,20 +121,11 @@ changes_times zone from p (c ∷ cs) h =
 
 -- ---- the loop of `changes_ok`: what is left to look at, from a time and a place on, decides
 
-module _ (v : List Change) (n : ℕ) (r : n ≤ length v) (zone from : ℕ) (p : Place) (i : ℕ) where
-  module _ (d : Change) (h : i < n) where
-    pub order_no : follows zone from p (get_or v i d) ≡ false → false ≡ changes_ok zone from p (drop i (take n v))
-    unfolding changes_ok
-    order_no e = rw (front_cons v n r i d h, e)
-
-    pub order_more : follows zone from p (get_or v i d) ≡ true
-        → changes_ok zone (get_or v i d).time.seconds (get_or v i d).place (drop (i + 1) (take n v)) ≡ changes_ok zone from p (drop i (take n v))
-    unfolding changes_ok
-    order_more e = rw (front_cons v n r i d h, e)
-
-  pub order_end : n ≤ i → true ≡ changes_ok zone from p (drop i (take n v))
-  unfolding changes_ok
-  order_end h = rw (front_end v n r i h)
+pub order_next : (v : List Change) (zone from : ℕ) (p : Place) (i : ℕ) (d : Change) → i < length v
+    → changes_ok zone from p (drop i v)
+    ≡ (follows zone from p (get_or v i d) && changes_ok zone (get_or v i d).time.seconds (get_or v i d).place (drop (i + 1) v))
+unfolding changes_ok
+order_next v zone from p i d h = rw (drop-cons v i d h, add-one i) refl
 
 module _ (n : ℕ) (b : Bool) where
   pub count_many : 15 < n → false ≡ (leb n 15 && b)
@@ -141,15 +134,11 @@ module _ (n : ℕ) (b : Bool) where
   pub count_right : n ≤ 15 → {a : Bool} → a ≡ b → a ≡ (leb n 15 && b)
   count_right h e = rw (le-leb n 15 h) e
 
--- ---- the last of the first n
+-- ---- the last of a list
 
-pub last_none : (t n : ℕ) (v : List Change) → n ≡ 0 → t ≡ last_time t (take n v)
-unfolding last_time
-last_none t n v e = rw e
-
-pub place_none : (p : Place) (n : ℕ) (v : List Change) → n ≡ 0 → p ≡ place_now p (take n v)
-unfolding place_now
-place_none p n v e = rw e
+nothing : (cs : List Change) → None ≡ slice_get cs (length cs - 1) → cs ≡ []
+nothing [] e = refl
+nothing (c ∷ cs) e = absurd (none-some _ (e ∙ slice_get-get_or (c ∷ cs) (length (c ∷ cs) - 1) c (omega arith)))
 
 last_at : (t : ℕ) (cs : List Change) (i : ℕ) (d : Change) → length cs ≡ suc i → last_time t cs ≡ (get_or cs i d).time.seconds
 unfolding last_time
@@ -167,9 +156,25 @@ place_at p (c ∷ []) (suc i) d h = absurd (omega arith)
 place_at p (c ∷ b ∷ cs) zero d h = absurd (omega arith)
 place_at p (c ∷ b ∷ cs) (suc i) d h = place_at c.place (b ∷ cs) i d (omega arith)
 
-module _ (v : List Change) (n i : ℕ) (d : Change) (h : i < n) (e : length (take n v) ≡ suc i) where
-  pub last_is : (t : ℕ) → (get_or v i d).time.seconds ≡ last_time t (take n v)
-  last_is t = sym (last_at t (take n v) i d e ∙ ap (λ (c : Change). c.time.seconds) (get_or-take n v i d h))
+-- as a slice's `last` finds it
+module _ (cs : List Change) (c : Change) (e : Some c ≡ slice_get cs (length cs - 1)) where
+  is : get_or cs (length cs - 1) c ≡ c
+  is = get_or_from_slice_get cs (length cs - 1) c c (sym e)
 
-  pub place_is : (p : Place) → (get_or v i d).place ≡ place_now p (take n v)
-  place_is p = sym (place_at p (take n v) i d e ∙ ap (λ (c : Change). c.place) (get_or-take n v i d h))
+  more : length cs ≡ suc (length cs - 1)
+  more = omega (arith, slice_get_within cs (length cs - 1) c (sym e))
+
+  pub last_some : (t : ℕ) → c.time.seconds ≡ last_time t cs
+  last_some t = sym (last_at t cs (length cs - 1) c more ∙ ap (λ (x : Change). x.time.seconds) is)
+
+  pub place_some : (p : Place) → c.place ≡ place_now p cs
+  place_some p = sym (place_at p cs (length cs - 1) c more ∙ ap (λ (x : Change). x.place) is)
+
+module _ (cs : List Change) (e : None ≡ slice_get cs (length cs - 1)) where
+  pub last_none : (t : ℕ) → t ≡ last_time t cs
+  unfolding last_time
+  last_none t = sym (ap (last_time t) (nothing cs e))
+
+  pub place_none : (p : Place) → p ≡ place_now p cs
+  unfolding place_now
+  place_none p = sym (ap (place_now p) (nothing cs e))

@@ -3,7 +3,7 @@ ghost use Rattle.std.specs.Prelude.{◌≡◌, ◌&&◌, leb, take, drop};
 ghost use Rattle.mcdr.specs.Change.{no_change, follows};
 ghost use Rattle.mcdr.specs.Changes.{changes_ok, last_time, place_now, is_blank, blanks};
 
-use crate::{Change, Place, places};
+use crate::{Change, Place};
 use calendar::Stamp;
 
 // No change: what a place of the array holds that is not used.
@@ -23,11 +23,8 @@ pub fn no_change() -> Change
 pub fn follows(c: Change, zone: u16, from: u32, p: Place) -> bool
     ensures { result ≡ follows zone from p c }
 {
-    let q = c.place;
-    let t = c.time;
-    let same = places::same_place(p, q);
-    let right = calendar::stamp_within(t);
-    !same & right & (from <= t.seconds) & (t.zone == zone)
+    let right = calendar::stamp_within(c.time);
+    (p != c.place) & right & (from <= c.time.seconds) & (c.time.zone == zone)
 }
 
 // Are the first n changes of v those of a record that opened at a time and a place, and no more than 15?
@@ -39,15 +36,12 @@ pub fn changes_ok(v: [Change; 15], n: usize, opening: Stamp, p: Place) -> bool
     }
     let mut from = opening.seconds;
     let mut at = p;
-    let mut i: usize = 0;
-    while i < n {
-        let c = v[i];
-        if !follows(c, opening.zone, from, at) {
+    for c in &v[..n] {
+        if !follows(*c, opening.zone, from, at) {
             return false;
         }
         from = c.time.seconds;
         at = c.place;
-        i += 1;
     }
     true
 }
@@ -56,52 +50,32 @@ pub fn changes_ok(v: [Change; 15], n: usize, opening: Stamp, p: Place) -> bool
 pub fn last_time(v: [Change; 15], n: usize, opening: u32) -> u32
     ensures { result ≡ last_time opening (take n v) }
 {
-    if n == 0 {
-        return opening;
+    match v[..n.min(15)].last() {
+        Some(c) => c.time.seconds,
+        None => opening,
     }
-    let mut i: usize = 14;
-    if n < 15 {
-        i = n - 1;
-    }
-    let c = v[i];
-    c.time.seconds
 }
 
 // The place in force after the first n changes of v.
 pub fn place_now(v: [Change; 15], n: usize, p: Place) -> Place
     ensures { result ≡ place_now p (take n v) }
 {
-    if n == 0 {
-        return p;
+    match v[..n.min(15)].last() {
+        Some(c) => c.place,
+        None => p,
     }
-    let mut i: usize = 14;
-    if n < 15 {
-        i = n - 1;
-    }
-    let c = v[i];
-    c.place
 }
 
 // Is every field of a change zero?
 pub fn is_blank(c: Change) -> bool
     ensures { result ≡ is_blank c }
 {
-    let p = c.place;
-    let t = c.time;
-    (p.lac == 0) & (p.rac == 0) & (t.seconds == 0) & (t.zone == 0)
+    c == no_change()
 }
 
 // Is every change of v from the place n on all zeros?
 pub fn unused_blank(v: [Change; 15], n: usize) -> bool
     ensures { result ≡ blanks (drop n v) }
 {
-    let mut i = n;
-    while i < 15 {
-        let c = v[i];
-        if !is_blank(c) {
-            return false;
-        }
-        i += 1;
-    }
-    true
+    v.iter().skip(n).all(|c| is_blank(*c))
 }

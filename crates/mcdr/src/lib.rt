@@ -23,7 +23,7 @@ use calendar::Stamp;
 
 // A place: the codes of a location area and of a routing area in it. Any are.
 #[repr(C)]
-#[derive(Clone, Copy)]
+#[derive(Clone, Copy, PartialEq, Eq)]
 pub struct Place {
     pub lac: u16,
     pub rac: u8,
@@ -31,7 +31,7 @@ pub struct Place {
 
 // A location change: the place that the subscriber moved to, and when.
 #[repr(C)]
-#[derive(Clone, Copy)]
+#[derive(Clone, Copy, PartialEq, Eq)]
 pub struct Change {
     pub place: Place,
     pub time: Stamp,

@@ -8,5 +8,5 @@ use crate::Place;
 pub fn same_place(a: Place, b: Place) -> bool
     ensures { result ≡ same_place a b }
 {
-    (a.lac == b.lac) & (a.rac == b.rac)
+    a == b
 }

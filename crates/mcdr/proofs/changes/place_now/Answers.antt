@@ -1,24 +1,17 @@
--- `mcdr::changes::place_now` meets its contract: the last one used, or the array's last.
-use mathlib.Core.Path.{◌≡◌}
-use Prim.Native.Nat.{◌<◌, suc}
-use native.Mathlib.Omega.{arith}
-use lib.ListN.{length, take, length-take}
-use borrow.Author.Rules.{rules}
-use Rattle.mcdr.proofs.Order.{place_none, place_is}
-use Rattle.mcdr.proofs.changes.place_now.Goals.{then-n-lt15, else-n-lt15}
+-- `mcdr::changes::place_now` meets its contract: the last of those that are used.
+use Rattle.std.proofs.Common.{◌≡◌, length, take, rules, sym}
+use Rattle.std.proofs.lemmas.List.{take_min}
+use Rattle.mcdr.proofs.Order.{place_some, place_none}
 use Rattle.mcdr.proofs.changes.place_now.Goals as goal
 
-pub returns-then-n-eq0 : goal.returns-then-n-eq0
-returns-then-n-eq0 c = let a = c.args in place_none a.p a.n a.v c.if-n-eq0.true
+pub returns-in-Some : goal.returns-in-Some
+returns-in-Some c =
+    let whole : length c.args.v ≡ 15 = search rules in
+    let used : take c.min.result c.args.v ≡ take c.args.n c.args.v = rw (c.min.ensures, sym whole) (take_min c.args.n c.args.v) in
+    rw (sym used) (place_some _ _ (rw c.in-Some.is at c.last.ensures.value) c.args.p)
 
-pub returns : goal.returns
-returns c =
-    let long : length c.args.v ≡ 15 =
-    search rules in
-    let a = c.args in
-    let l = long in
-    let j = c.if-n-lt15 in
-    let h : j.i < a.n = elim j.branch [ then-n-lt15 w ↦ omega arith | else-n-lt15 w ↦ omega arith ] in
-    let e : length (take a.n a.v) ≡ suc j.i =
-    elim j.branch [ then-n-lt15 w ↦ omega (arith, length-take a.n a.v) | else-n-lt15 w ↦ omega (arith, length-take a.n a.v) ] in
-    place_is a.v a.n j.i _ h e a.p
+pub returns-in-None : goal.returns-in-None
+returns-in-None c =
+    let whole : length c.args.v ≡ 15 = search rules in
+    let used : take c.min.result c.args.v ≡ take c.args.n c.args.v = rw (c.min.ensures, sym whole) (take_min c.args.n c.args.v) in
+    rw (sym used) (place_none _ (rw c.in-None.is at c.last.ensures.value) c.args.p)

@@ -1,37 +1,15 @@
--- `mcdr::changes::unused_blank` meets its contract. The loop's invariant: what is left to look at decides.
-use mathlib.Core.Path.{◌≡◌, refl, sym, ◌∙◌}
-use native.Mathlib.Omega.{arith}
-use lib.ListN.{length}
-use borrow.Author.Rules.{rules}
-use Rattle.format.proofs.Blanks.{blank_no, blank_more, blank_end}
-use Rattle.mcdr.proofs.Padded.{blank}
+-- `mcdr::changes::unused_blank` meets its contract: `all` tests each place from n on.
+use Rattle.std.proofs.Common.{◌≡◌, true, false, drop, rules, tests}
+use Rattle.std.proofs.lemmas.Iterator.{cases_from_all, YieldsList-from_slice}
+use Rattle.std.proofs.lemmas.Iterator.Adapters.{YieldsList-from_skip}
+use Rattle.format.proofs.Each.{each_told}
+use Rattle.mcdr.specs.Changes.{is_blank, blanks}
+use Rattle.mcdr.proofs.Padded.{all_nil, all_cons}
 use Rattle.mcdr.proofs.changes.unused_blank.Goals as goal
-
-pub loop-i-init : goal.loop-i-init
-loop-i-init c = refl
-
-pub returns-then-not-is_blank : goal.returns-then-not-is_blank
-returns-then-not-is_blank c =
-    let long : length c.args.v ≡ 15 =
-    search rules in
-    let l = c.loop-i in
-    let z = long in
-    blank_no blank c.args.v l.i _ (omega (arith, c.loop-i-test.true))
-    (sym c.is_blank.ensures ∙ c.if-not-is_blank.true) ∙ l.invariant
-
-pub loop-i-preserved : goal.loop-i-preserved
-loop-i-preserved c =
-    let long : length c.args.v ≡ 15 =
-    search rules in
-    let l = c.loop-i in
-    let z = long in
-    blank_more blank c.args.v l.i _ (omega (arith, c.loop-i-test.true))
-    (sym c.is_blank.ensures ∙ c.if-not-is_blank.false) ∙ l.invariant
 
 pub returns : goal.returns
 returns c =
-    let long : length c.args.v ≡ 15 =
-    search rules in
-    let l = c.loop-i in
-    let z = long in
-    blank_end blank c.args.v l.i (omega (arith, c.loop-i-test.false)) ∙ l.invariant
+    each_told is_blank blanks all_nil all_cons (drop c.args.n c.args.v) c.all.result
+    (cases_from_all _ _ _ (λ x. is_blank x ≡ true) (λ x. is_blank x ≡ false) c.all.ensures.ran
+    (YieldsList-from_skip c.args.n (YieldsList-from_slice c.args.v cc) cc)
+    (λ x q k. search (rules, tests)) (λ x q k. search (rules, tests)))
