@@ -1,4 +1,4 @@
--- The next event of a file: its length by what the code finds; it lies within what is left of the file, and is not nothing.
+-- The next event of a file: it lies within what is left of the file, and is not nothing.
 use mathlib.Core.Path.{◌≡◌, refl, sym, ap, ◌∙◌}
 use mathlib.Core.Bool.{Bool, true, false, cond, ◌&&◌}
 use mathlib.Core.List.{List}
@@ -6,29 +6,33 @@ use Prim.Native.Nat.{ℕ, ◌≤◌, ◌<◌, ◌+◌}
 use native.Mathlib.Omega.{arith}
 use lib.Dec.{leb}
 use lib.ListN.{length}
-use borrow.Author.Tests.{leb-true}
+use borrow.Author.Tests.{leb-true, leb-false}
+use Rattle.std.specs.Prelude.{None, Some, min}
+use Rattle.std.proofs.Math.Nat.{min-eq_left}
+use Rattle.format.proofs.Tests.{by}
 use Rattle.event.specs.Fields.{kind_of, count_of}
-use Rattle.event.specs.Kinds.{Kind, kinds, row_of, the_row, whole_of}
+use Rattle.event.specs.Kinds.{Kind, kinds, row_of, is_row, the_row, whole_of}
 use Rattle.event.specs.Kinds.{activate_kind, traffic_kind, qos_kind, tariff_kind, release_kind, tick_kind, management_kind, no_kind}
 use Rattle.event.specs.Kinds.{attach_kind, location_kind, subscriber_kind, detach_kind, replace_kind}
 use Rattle.event.specs.Rows.{known}
 use Rattle.event.specs.Framing.{next_length}
-use Rattle.event.specs.Private.Entries.{entry_of}
-use Rattle.event.specs.declared.kinds.Entry.{Entry}
 use Rattle.event.proofs.Table.{Every, row_else}
 
--- ---- what the code finds
+-- ---- by the row
 
-module _ (s : List ℕ) {e : Entry} (p : e ≡ entry_of s) where
-  found : cond (e.known && leb e.whole (length s)) e.whole (length s) ≡ next_length s
-  unfolding next_length entry_of known whole_of
-  found = rw p
+least : (m n : ℕ) → min m n ≡ cond (leb m n) m n
+least m n =
+    by (leb m n) (λ h. let l = leb-true m n h in rw (h, min-eq_left l)) (λ h. let l = leb-false m n h in rw h (omega arith))
 
-  pub next_whole : (e.known && leb e.whole (length s)) ≡ true → e.whole ≡ next_length s
-  next_whole h = rw h at found
+pub next_of : (s : List ℕ) {k : Kind} → row_of s ≡ Some k → min (k.whole s) (length s) ≡ next_length s
+unfolding next_length known whole_of
+next_of s {k} e =
+    least (k.whole s) (length s)
+    ∙ sym (ap (λ o. cond (is_row o && leb ((the_row o).whole s) (length s)) ((the_row o).whole s) (length s)) e)
 
-  pub next_all : (e.known && leb e.whole (length s)) ≡ false → length s ≡ next_length s
-  next_all h = rw h at found
+pub next_all : (s : List ℕ) → row_of s ≡ None → length s ≡ next_length s
+unfolding next_length known
+next_all s e = rw e
 
 -- ---- what the length is good for
 

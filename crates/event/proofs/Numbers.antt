@@ -1,9 +1,7 @@
 -- The number in k octets from a place on, octet by octet: one law for every k.
 use mathlib.Core.Path.{◌≡◌, refl, ap, ◌∙◌}
 use mathlib.Core.List.{List, [], ◌∷◌, ◌++◌}
-use Prim.Native.Nat.{ℕ, zero, suc, ◌+◌, ◌*◌, ◌^◌, ◌≤◌, ◌<◌}
-use native.Mathlib.Nat.{pow-le-pow_right}
-use native.Mathlib.Numerals.{add-one}
+use Prim.Native.Nat.{ℕ, zero, suc, ◌+◌, ◌*◌, ◌≤◌}
 use native.Mathlib.Omega.{arith}
 use lib.ListN.{length, get_or, take, drop}
 use lib.Seq.{drop-cons}
@@ -31,31 +29,3 @@ octets_part (suc k) at s h =
 pub number_part : (k at : ℕ) (s : List ℕ) → at + k ≤ length s → spelt 0 (take k (drop at s)) ≡ number_in k at s
 unfolding number_in
 number_part k at s h = ap (spelt 0) (octets_part k at s h)
-
--- ---- as the code finds it
-
--- n is the number in the first i of k octets
-pub record Spelling (s : List ℕ) (at k n i : ℕ) : Type 0 where
-  pub is : n ≡ number_in i at s
-  pub below : n < 256 ^ i
-  pub within : i ≤ k
-
-pub spelling_none : (s : List ℕ) (at k : ℕ) → Spelling s at k 0 0
-unfolding number_in octets_from spelt
-spelling_none s at k = record { is = omega arith; below = omega arith; within = omega arith }
-
-module _ {s : List ℕ} {at k n i : ℕ} (w : Spelling s at k n i) where
-  -- there is room for one octet more, where that is the eighth at most
-  pub spelling_room : i < 8 → n < 2 ^ 56
-  spelling_room h = let p : 256 ^ i ≤ 256 ^ 7 = pow-le-pow_right {n = 256} (omega arith) {i = i} {j = 7} (omega arith) in omega (arith, w.below)
-
-  pub spelling_more : {x y : ℕ} → i < k → x ≡ y → y ≡ get_or s (at + i) 0 → x < 256 → Spelling s at k (n * 256 + x) (i + 1)
-  spelling_more h e q y =
-      record {
-        is = rw (add-one i) (omega (arith, number_more i at s, w.is));
-        below = rw (add-one i) (omega (arith, w.below));
-        within = omega arith;
-      }
-
-  pub spelling_end : k ≤ i → (n ≡ number_in k at s) × (n < 256 ^ k)
-  spelling_end h = let e : i ≡ k = omega (arith, w.within) in (rw e at w.is, rw e at w.below)

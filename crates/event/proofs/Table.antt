@@ -1,20 +1,21 @@
--- Laws of the table of kinds: its numbers, what holds of every row, and the entry that the code finds.
+-- Laws of the table of kinds: its numbers, what holds of every row, and which row is that of a kind of the code's.
 use mathlib.Core.Path.{◌≡◌, refl, sym, ap, ◌∙◌}
 use mathlib.Core.Bool.{Bool, true, false, ◌&&◌}
 use mathlib.Core.List.{List, [], ◌∷◌, map}
 use Rattle.std.specs.Prelude.{Option, None, Some}
-use Prim.Native.Nat.{ℕ, zero, suc, ◌+◌, ◌≤◌, ◌<◌}
+use Prim.Native.Nat.{ℕ, suc, ◌+◌, ◌≤◌, ◌<◌}
 use native.Mathlib.Omega.{arith}
 use lib.Dec.{leb, ltb, eqb}
 use lib.ListN.{length}
 use borrow.Author.Tests.{eqb-true, eqb-false, le-leb, lt-leb, lt-ltb, le-ltb, leb-true, leb-false}
 use Rattle.format.proofs.Tests.{by}
 use Rattle.event.specs.Fields.{kind_of}
-use Rattle.event.specs.Kinds.{Kind, kinds, kind_in, row_of, is_row, the_row, no_kind, whole_of}
-use Rattle.event.specs.Rows.{known, measured, fields_ok}
-use Rattle.event.specs.Event.{event_of}
-use Rattle.event.specs.Private.Entries.{entry_by, entry_of}
-use Rattle.event.specs.declared.kinds.Entry.{Entry}
+use Rattle.event.specs.Kinds.{Kind, kinds, kind_in, row_of, is_row, the_row, no_kind}
+use Rattle.event.specs.Rows.{known}
+use Rattle.event.specs.Private.ByKind.{row_by}
+use Rattle.event.specs.declared.kinds.Kind as C
+use Rattle.event.specs.declared.kinds.Kind.TheVariants.{Activate, Traffic, Qos, Tariff, Release, Tick, Management}
+use Rattle.event.specs.declared.kinds.Kind.TheVariants.{Attach, Location, ManageSubscriber, Detach, Replace}
 
 -- ---- the numbers
 
@@ -91,50 +92,35 @@ pub row_number : (s : List ℕ) → known s ≡ true → (the_row (row_of s)).nu
 unfolding known
 row_number s h = number_here (kind_of s) kinds h
 
--- ---- the entry that the code finds
+-- ---- the row of a kind of the code's
 
--- o is the octet of the kind, with the number of row k
-pub entry_row : (s : List ℕ) (k : Kind) {o : ℕ} {r : Entry} → o ≡ kind_of s → o ≡ k.number → kind_in k.number kinds ≡ Some k
-    → r ≡ entry_by true k s → r ≡ entry_of s
-unfolding entry_of
-entry_row s k {o} p q e x = let f : row_of s ≡ Some k = ap (λ (i : ℕ). kind_in i kinds) (sym p ∙ q) ∙ e in rw f x
+number_row : (k : C.Kind) → kind_in (row_by k).number kinds ≡ Some (row_by k)
+unfolding kinds kind_in
+number_row Activate = refl
+number_row Traffic = refl
+number_row Qos = refl
+number_row Tariff = refl
+number_row Release = refl
+number_row Tick = refl
+number_row Management = refl
+number_row Attach = refl
+number_row Location = refl
+number_row ManageSubscriber = refl
+number_row Detach = refl
+number_row Replace = refl
 
 none_of : (o : Option Kind) → is_row o ≡ false → o ≡ None
 none_of None h = refl
 none_of (Some k) h = absurd (let z : ◌≡◌ {A = ℕ} 0 1 = cc in omega arith)
 
--- o is none of 1 to n: what a `match` on them leaves
-unfoldable pub Past : ℕ → ℕ → Type 0
-Past zero o = Unit {0}
-Past (suc n) o = Past n o × (o ≡ suc n → ⊥)
+-- the kind that its octet decodes as is the row of the octets
+pub row_is : (s : List ℕ) (k : C.Kind) → (row_by k).number ≡ kind_of s → row_of s ≡ Some (row_by k)
+row_is s k e = ap (λ (i : ℕ). kind_in i kinds) (sym e) ∙ number_row k
 
-past : (n o : ℕ) → Past n o → 1 ≤ o → n < o
-unfolding Past
-past zero o p h = h
-past (suc n) o p h = let g = past n o p.0 h in let q = p.1 in omega arith
-
--- o, the octet of the kind, is no row's number
-pub entry_none : (s : List ℕ) {o : ℕ} {r : Entry} → o ≡ kind_of s → Past 12 o → r ≡ entry_by false no_kind s → r ≡ entry_of s
-unfolding entry_of known
-entry_none s {o} p h x =
-    let g : (leb 1 o && leb o 12) ≡ false = by (leb 1 o) (λ a. rw (a, lt-leb o 12 (past 12 o h (leb-true 1 o a)))) (λ a. rw a) in
-    let f : row_of s ≡ None = none_of (row_of s) (known_is s ∙ rw p at g) in
-    rw f x
-
--- what the entry has is what the refusals and the answer are about
-module _ (s : List ℕ) {e : Entry} (p : e ≡ entry_of s) where
-  pub entry_known : e.known ≡ known s
-  unfolding entry_of known
-  entry_known = rw p
-
-  pub entry_long : eqb (length s) e.whole ≡ measured s
-  unfolding entry_of measured whole_of
-  entry_long = rw p
-
-  pub entry_right : e.right ≡ fields_ok s
-  unfolding entry_of fields_ok
-  entry_right = rw p
-
-  pub entry_says : e.event ≡ event_of s
-  unfolding entry_of event_of
-  entry_says = rw p
+-- an octet that is none of 1 to 12 is no row's
+pub row_none : (s : List ℕ) → (1 ≤ kind_of s → 12 < kind_of s) → row_of s ≡ None
+unfolding known
+row_none s h =
+    let o = kind_of s in
+    let g : (leb 1 o && leb o 12) ≡ false = by (leb 1 o) (λ a. rw (a, lt-leb o 12 (h (leb-true 1 o a)))) (λ a. rw a) in
+    none_of (row_of s) (known_is s ∙ g)

@@ -4,10 +4,10 @@ use mathlib.Core.Bool.{Bool, true, not, ◌&&◌}
 use mathlib.Core.List.{List, [], ◌∷◌}
 use Prim.Native.Nat.{ℕ, ◌+◌, ◌≤◌}
 use native.Mathlib.Omega.{arith}
-use lib.Dec.{T, leb, ltb, eqb}
+use lib.Dec.{T, leb, ltb}
 use lib.ListN.{length, length-drop}
 use borrow.Author.Tests.{ltb-false, leb-true, eqb-true, not-false}
-use Rattle.format.proofs.Tests.{by, T_true, true_T, and_l, and_r}
+use Rattle.format.proofs.Tests.{T_true, true_T, and_l, and_r}
 use Rattle.ber.specs.Imsi.{imsi_ok}
 use Rattle.ber.specs.Int.{spelt, number_in, all_octets, lowest}
 use Rattle.ber.proofs.Fixeds.{spelt_back}
@@ -20,7 +20,8 @@ use Rattle.event.specs.Fields.{kind_of, time_of, qos_at, flags_of, imsi_of, coun
 use Rattle.event.specs.Fields.{subscriber_imsi, subscriber_of, lac_of, rac_of, subscriber_ok, detach}
 use Rattle.event.specs.Kinds.{Kind, kinds, whole_of}
 use Rattle.event.specs.Rows.{row, first_fit, rows, marked, known, measured, fields_ok}
-use Rattle.event.specs.Event.{event_of, said_by, decoded}
+use Rattle.event.specs.Event.{event_of, decoded}
+use Rattle.std.specs.Prelude.{Ok}
 use Rattle.event.specs.Private.Activated.{Activated}
 use Rattle.event.specs.declared.Activation.{Activation}
 use Rattle.event.specs.declared.Name.{Name}
@@ -29,9 +30,9 @@ use Rattle.event.specs.declared.Event.{Event}
 use Rattle.event.specs.declared.Event.TheVariants as E
 use Rattle.event.specs.declared.Event.TheVariants.{Activate, Traffic, Tariff, Release, Tick, Management}
 use Rattle.event.specs.declared.Event.TheVariants.{Attach, Location, ManageSubscriber, Detach, Replace}
-use Rattle.event.specs.declared.Decoded.TheVariants.{Said, Refused}
 use Rattle.event.proofs.Firsts.{passed}
 use Rattle.event.proofs.Numbers.{number_part}
+use Rattle.event.proofs.Saying.{none_fits, says_so}
 use Rattle.event.proofs.Table.{known_is, Every, row_has}
 
 -- ---- both of two tests
@@ -84,32 +85,16 @@ clear s h =
       fields = not-false (fields_ok s) p5.fails;
     }
 
--- something is said only where no row fits
-said_zero : (n : ℕ) (s : List ℕ) {t : ℕ} {e : Event} → said_by n s ≡ Said t e → n ≡ 0
-unfolding said_by
-said_zero n s {t} {e} h =
-    by (eqb n 0) (λ z. eqb-true n 0 z) (λ z.
-    let g : Refused n ≡ Said t e = rw z at h in
-    let x : ◌≡◌ {A = ℕ} 0 1 = cc in
-    omega arith)
-
-said_what : (s : List ℕ) → first_fit (rows s) ≡ 0 → decoded s ≡ Said (time_of s) (event_of s)
-unfolding decoded said_by
-said_what s z = rw z
-
-pub heard : (s : List ℕ) {t : ℕ} {e : Event} → decoded s ≡ Said t e → Heard s t e
+pub heard : (s : List ℕ) {t : ℕ} {e : Event} → decoded s ≡ Ok (t, e) → Heard s t e
 unfolding decoded measured
 heard s {t} {e} h =
-    let z = said_zero (first_fit (rows s)) s h in
-    let w : Said (time_of s) (event_of s) ≡ Said t e = sym (said_what s z) ∙ h in
-    let u : t ≡ time_of s = cc in
-    let v : e ≡ event_of s = cc in
-    let c = clear s z in
+    let w = says_so s h in
+    let c = clear s (none_fits s h) in
     let k = kind_of s in
     let n = sym (known_is s) ∙ c.kind in
     record {
-      time = u;
-      event = v;
+      time = w.0;
+      event = w.1;
       head = c.head;
       mark = c.mark;
       kind = c.kind;
@@ -177,7 +162,7 @@ Fine s (Replace r) = limits_ok r.limits ≡ true
 abbrev FineBy : List ℕ → Kind → Type 0
 FineBy s k = length s ≡ k.whole s → k.in_range s ≡ true → Fine s (k.says s)
 
-fine : (s : List ℕ) {t : ℕ} {e : Event} → decoded s ≡ Said t e → Fine s e
+fine : (s : List ℕ) {t : ℕ} {e : Event} → decoded s ≡ Ok (t, e) → Fine s e
 unfolding event_of whole_of fields_ok Every kinds
 fine s h =
     let x = heard s h in
@@ -206,35 +191,35 @@ fine s h =
     )
     x.kind x.long x.fields)
 
-pub activated : (s : List ℕ) {t : ℕ} {a : Activation} → decoded s ≡ Said t (Activate a) → Activated s a
+pub activated : (s : List ℕ) {t : ℕ} {a : Activation} → decoded s ≡ Ok (t, Activate a) → Activated s a
 activated s h = fine s h
 
 -- a traffic's octets up and down are those that stand there
-pub reported : (s : List ℕ) {t : ℕ} {n : Name} {u d : ℕ} → decoded s ≡ Said t (Traffic n u d) → (u ≡ number_in 4 15 s) × (d ≡ number_in 4 19 s)
+pub reported : (s : List ℕ) {t : ℕ} {n : Name} {u d : ℕ} → decoded s ≡ Ok (t, Traffic n u d) → (u ≡ number_in 4 15 s) × (d ≡ number_in 4 19 s)
 reported s h = fine s h
 
 -- a QoS has a profile in range
-pub qos_changed : (s : List ℕ) {t : ℕ} {n : Name} {q : Qos} → decoded s ≡ Said t (E.Qos n q) → qos_ok q ≡ true
+pub qos_changed : (s : List ℕ) {t : ℕ} {n : Name} {q : Qos} → decoded s ≡ Ok (t, E.Qos n q) → qos_ok q ≡ true
 qos_changed s h = fine s h
 
 -- a release has cause 0, 4 or 18
-pub released : (s : List ℕ) {t : ℕ} {n : Name} {c : ℕ} → decoded s ≡ Said t (Release n c) → release c ≡ true
+pub released : (s : List ℕ) {t : ℕ} {n : Name} {c : ℕ} → decoded s ≡ Ok (t, Release n c) → release c ≡ true
 released s h = fine s h
 
 -- an attach has an IMSI
-pub attached : (s : List ℕ) {t m l r : ℕ} → decoded s ≡ Said t (Attach m l r) → Attached s m l r
+pub attached : (s : List ℕ) {t m l r : ℕ} → decoded s ≡ Ok (t, Attach m l r) → Attached s m l r
 attached s h = fine s h
 
 -- a location change says the place that stands there
-pub located : (s : List ℕ) {t m l r : ℕ} → decoded s ≡ Said t (Location m l r) → (l ≡ lac_of s) × (r ≡ rac_of s)
+pub located : (s : List ℕ) {t m l r : ℕ} → decoded s ≡ Ok (t, Location m l r) → (l ≡ lac_of s) × (r ≡ rac_of s)
 located s h = fine s h
 
 -- a detach has cause 0 or 4
-pub detached : (s : List ℕ) {t m c : ℕ} → decoded s ≡ Said t (Detach m c) → detach c ≡ true
+pub detached : (s : List ℕ) {t m c : ℕ} → decoded s ≡ Ok (t, Detach m c) → detach c ≡ true
 detached s h = fine s h
 
 -- a replacement has limits in range
-pub replaced : (s : List ℕ) {t : ℕ} {r : Replacement} → decoded s ≡ Said t (Replace r) → limits_ok r.limits ≡ true
+pub replaced : (s : List ℕ) {t : ℕ} {r : Replacement} → decoded s ≡ Ok (t, Replace r) → limits_ok r.limits ≡ true
 replaced s h = fine s h
 
 -- ---- the name of a subscriber

@@ -10,7 +10,7 @@ use Rattle.event.specs.Event.{event_of, said_by, decoded}
 use Rattle.event.specs.Traffic.{traffic_event}
 use Rattle.event.specs.declared.Name.{Name}
 use Rattle.event.specs.declared.Event.TheVariants.{Traffic}
-use Rattle.event.specs.declared.Decoded.TheVariants.{Said}
+use Rattle.std.specs.Prelude.{Ok}
 
 module _ (m : Name) (t up down : ℕ) where
   pub traffic_time : t < 256 ^ 4 → time_of (traffic_event m t up down) ≡ t
@@ -19,7 +19,7 @@ module _ (m : Name) (t up down : ℕ) where
 
   -- each number is one of four octets
   pub traffic_said : t < 256 ^ 4 → m.id < 256 ^ 4 → m.ggsn < 256 ^ 4 → up < 256 ^ 4 → down < 256 ^ 4
-      → decoded (traffic_event m t up down) ≡ Said t (Traffic m up down)
+      → decoded (traffic_event m t up down) ≡ Ok (t, Traffic m up down)
   unfolding traffic_event decoded said_by event_of first_fit rows marked kinds kind_in known measured whole_of fields_ok number_in octets_from lowest
   traffic_said ht hi hg hu hd =
       let et = spelt_lowest 4 t ht in
@@ -27,4 +27,4 @@ module _ (m : Name) (t up down : ℕ) where
       let eg = spelt_lowest 4 m.ggsn hg in
       let eu = spelt_lowest 4 up hu in
       let ed = spelt_lowest 4 down hd in
-      λ j. Said (et j) (Traffic (record { id = ei j; ggsn = eg j }) (eu j) (ed j))
+      λ j. Ok (et j, Traffic (record { id = ei j; ggsn = eg j }) (eu j) (ed j))

@@ -1,6 +1,8 @@
 -- The refusals of an event's octets, in their order.
 use Rattle.std.specs.Prelude.{Bool, not, cond, ◌&&◌, List, [], ◌∷◌, ℕ, ltb, eqb, length, get_or}
 use Rattle.event.specs.Kinds.{row_of, is_row, the_row, whole_of}
+use Rattle.event.specs.declared.Refusal.{Refusal}
+use Rattle.event.specs.declared.Refusal.TheVariants.{TooShort, NoMark, UnknownKind, WrongLength, OutOfRange}
 
 -- a refusal: its number, and whether it fits
 pub data Row : Type 0 where
@@ -35,3 +37,16 @@ rows s =
     ∷ row 4 (not (measured s))
     ∷ row 5 (not (fields_ok s))
     ∷ []
+
+-- ---- by name
+
+abbrev pub number_of : Refusal → ℕ
+number_of TooShort = 1
+number_of NoMark = 2
+number_of UnknownKind = 3
+number_of WrongLength = 4
+number_of OutOfRange = 5
+
+-- the refusal with the number of a row
+unfoldable pub refusal_of : ℕ → Refusal
+refusal_of n = cond (eqb n 1) TooShort (cond (eqb n 2) NoMark (cond (eqb n 3) UnknownKind (cond (eqb n 4) WrongLength OutOfRange)))

@@ -1,9 +1,8 @@
-// An event's octets decoded: what an event says, or the number of the first refusal that fits. The time's range is the node's to
+// An event's octets decoded: what an event says, or the first refusal that fits. The time's range is the node's to
 // look at, and so is what a context or a subscriber has to do with the event. (The IMSI of kinds 8 to 11 is octets 7 to 14 of the event.)
 //
-// number has numbers at a place, fields where each field stands and what is in range, kinds the table of kinds, framing where an event
-// ends in a file of them. One kind more is a case of `Event` here, a row of specs/Kinds.antt, and in kinds a line of `entry_of` with its
-// function.
+// number has numbers at a place, fields where each field stands and what is in range, kinds the kinds by their numbers, framing where an
+// event ends in a file of them. One kind more is a case of `Event` here, a row of specs/Kinds.antt, and a case of `Kind` in kinds.
 //
 // No public function has a `requires`: each answers for every input.
 #![tactic(auto)]
@@ -14,11 +13,14 @@ mod kinds;
 mod number;
 
 ghost use Rattle.std.specs.Prelude.{◌≡◌};
+ghost use Rattle.event.specs.Rows.{number_of};
 ghost use Rattle.event.specs.Event.{decoded};
+
+use kinds::Kind;
 
 // The name of a context.
 #[repr(C)]
-#[derive(Clone, Copy)]
+#[derive(Clone, Copy, PartialEq, Eq, Debug)]
 pub struct Name {
     pub id: u32,
     pub ggsn: u32,
@@ -72,35 +74,50 @@ pub enum Event {
     Replace(Replacement),
 }
 
-// The time and the event, or the number of the first refusal that fits.
-#[derive(Clone, Copy)]
-pub enum Decoded {
-    Said(u32, Event),
-    Refused(u8),
+// What is wrong with an event's octets: the rows of the refusal table that these alone can meet, in its order.
+#[derive(Clone, Copy, PartialEq, Eq, Debug)]
+pub enum Refusal {
+    // under 7 octets
+    TooShort,
+    // not C3 5E at the front
+    NoMark,
+    // the kind not 1..12
+    UnknownKind,
+    // not as long as its kind is
+    WrongLength,
+    // a field out of range
+    OutOfRange,
 }
 
-pub fn decode(s: &[u8]) -> Decoded
+// The number of the row.
+impl From<Refusal> for u8 {
+    ghost from_gives = { λ refusal n. n ≡ number_of refusal };
+
+    fn from(refusal: Refusal) -> u8 {
+        match refusal {
+            Refusal::TooShort => 1,
+            Refusal::NoMark => 2,
+            Refusal::UnknownKind => 3,
+            Refusal::WrongLength => 4,
+            Refusal::OutOfRange => 5,
+        }
+    }
+}
+
+// The time and the event, or the first refusal that fits.
+pub fn decode(s: &[u8]) -> Result<(u32, Event), Refusal>
     ensures { result ≡ decoded s.now }
 {
     if s.len() < 7 {
-        return Decoded::Refused(1);
+        return Err(Refusal::TooShort);
     }
     if !fields::is_marked(s) {
-        return Decoded::Refused(2);
+        return Err(Refusal::NoMark);
     }
-    let e = kinds::entry_of(s);
-    if !e.known {
-        return Decoded::Refused(3);
+    let kind = Kind::try_from(octets::octet(s, 2))?;
+    if s.len() != kind.whole(s) {
+        return Err(Refusal::WrongLength);
     }
-    let long = s.len() == e.whole;
-    let right = e.right;
-    if !long {
-        return Decoded::Refused(4);
-    }
-    if !right {
-        return Decoded::Refused(5);
-    }
-    let t = number::four(s, 3);
-    let event = e.event;
-    Decoded::Said(t, event)
+    let event = kind.event(s).ok_or(Refusal::OutOfRange)?;
+    Ok((number::four(s, 3), event))
 }

@@ -12,10 +12,11 @@ use borrow.Author.Tests.{eqb-true, eqb-false, eq-eqb, ne_eqb}
 use Rattle.format.proofs.Tests.{by}
 use Rattle.event.specs.declared.Name.{Name}
 use Rattle.event.specs.declared.Event.TheVariants as E
-use Rattle.event.specs.declared.Decoded.TheVariants as D
+use Rattle.std.specs.Prelude.{Ok}
 use Rattle.event.specs.Fields.{time_of}
 use Rattle.event.specs.Rows.{Row, row, first_fit, rows}
-use Rattle.event.specs.Event.{event_of, said_by, decoded}
+use Rattle.event.specs.Event.{event_of, decoded}
+use Rattle.event.proofs.Saying.{none_fits as octets_fit, says_so}
 use Rattle.event.specs.Traffic.{traffic_event}
 use Rattle.event.proofs.Traffics.{traffic_said}
 use Rattle.history.specs.Lists.{All}
@@ -204,16 +205,8 @@ module _ (m : Name) (t : ℕ) (ht : t < 2 ^ 32) (hi : m.id < 2 ^ 32) (hg : m.ggs
   abbrev Fair : List ℕ → Type 0
   Fair s = (n : Node) (b : List ℕ) → among (step_of n s b).0 answers ≡ true
 
-  said_fair : (s : List ℕ) (up down : ℕ) → decoded s ≡ D.Said t (E.Traffic m up down) → Fair s
-  unfolding decoded said_by
-  said_fair s up down e n b =
-      let i = first_fit (rows s) in
-      by (eqb i 0)
-      (λ j.
-      let q = rw j at e in
-      let v : event_of s ≡ E.Traffic m up down = cc in
-      traffic_numbers n s b m up down v (eqb-true i 0 j))
-      (λ j. let q = rw j at e in absurd (let x : ◌≡◌ {A = ℕ} 0 1 = cc in omega arith))
+  said_fair : (s : List ℕ) (up down : ℕ) → decoded s ≡ Ok (t, E.Traffic m up down) → Fair s
+  said_fair s up down e n b = traffic_numbers n s b m up down (sym (says_so s e).1) (octets_fit s e)
 
   reports_fair : (vs : List ℕ) → All (λ v. v < 2 ^ 32) vs → All Fair (reports_of m t vs)
   unfolding pairs_of

@@ -29,7 +29,7 @@ use Rattle.event.specs.declared.Activation.{Activation}
 use Rattle.event.specs.declared.Replacement.{Replacement}
 use Rattle.event.specs.declared.Event.{Event}
 use Rattle.event.specs.declared.Event.TheVariants as E
-use Rattle.event.specs.declared.Decoded.TheVariants as D
+use Rattle.std.specs.Prelude.{Ok}
 use Rattle.event.specs.Event.{decoded}
 use Rattle.event.proofs.Numbers.{number_more}
 use Rattle.event.specs.Fields.{spelling_of, lac_of, rac_of, detach}
@@ -140,7 +140,7 @@ unfolding notice_ok detach mm.detach
 detached_ok c e = e
 
 -- octets that no row refuses say what is in range
-pub fair_meaning : (s : List ℕ) (e : Event) {t : ℕ} → decoded s ≡ D.Said t e → MeaningInRange (meaning_of e)
+pub fair_meaning : (s : List ℕ) (e : Event) {t : ℕ} → decoded s ≡ Ok (t, e) → MeaningInRange (meaning_of e)
 fair_meaning s (E.Activate a) d = tt
 fair_meaning s (E.Traffic n up down) d = report_in_range up down
 fair_meaning s (E.Qos n q) d =
@@ -178,7 +178,7 @@ detached_held : (c : ℕ) → notice_held (Detached c) ≡ true
 unfolding notice_held
 detached_held c = refl
 
-pub fair_said : (gs : Settings) (s : List ℕ) (e : Event) {t : ℕ} → Octets s → decoded s ≡ D.Said t e → Fair gs (takes e s)
+pub fair_said : (gs : Settings) (s : List ℕ) (e : Event) {t : ℕ} → Octets s → decoded s ≡ Ok (t, e) → Fair gs (takes e s)
 fair_said gs s (E.Activate a) o d =
     let x = activate-in s d in
     record {
@@ -249,7 +249,7 @@ module _ (p : Profile) (t : ℕ) (m : Name) (b : Brought) (r : Brings m b) where
 
 -- so of an activate that is said, of a set that the node has
 pub activate_sound : (p : Profile) (gs : Settings) (s : List ℕ) {t : ℕ} {a : Activation} → sets_ok p.sets gs.sets ≡ true
-    → has_set p.sets a.set ≡ true → Octets s → decoded s ≡ D.Said t (E.Activate a) → (accepted : ℕ)
+    → has_set p.sets a.set ≡ true → Octets s → decoded s ≡ Ok (t, E.Activate a) → (accepted : ℕ)
     → context_ok p.sets p.zone t (accepted + 1) (activated p t a.name (brought_by gs a s)) ≡ true
 activate_sound p gs s {t} {a} ok have o d accepted =
     activated_sound p t a.name (brought_by gs a s) (fair_said gs s (E.Activate a) o d).contexts have

@@ -4,14 +4,15 @@ use mathlib.Core.Bool.{Bool, true, false, ◌&&◌}
 use mathlib.Core.List.{List, ◌++◌, map}
 use Prim.Native.Nat.{ℕ, ◌≤◌, ◌<◌}
 use native.Mathlib.Omega.{arith}
-use lib.Dec.{leb, eqb}
-use borrow.Author.Tests.{le-leb, lt-leb, le-ltb, lt-ltb, eqb-true}
-use Rattle.format.proofs.Tests.{by}
+use lib.Dec.{leb}
+use borrow.Author.Tests.{le-leb, lt-leb, le-ltb, lt-ltb}
 use Rattle.event.specs.declared.Event.{Event}
-use Rattle.event.specs.declared.Decoded.TheVariants.{Said, Refused}
+use Rattle.std.specs.Prelude.{Ok, Err}
+use Rattle.event.specs.declared.Refusal as octets
 use Rattle.event.specs.Fields.{time_of}
-use Rattle.event.specs.Rows.{first_fit, rows}
-use Rattle.event.specs.Event.{event_of, said_by, decoded}
+use Rattle.event.specs.Rows.{first_fit, rows, number_of}
+use Rattle.event.specs.Event.{decoded}
+use Rattle.event.proofs.Saying.{none_fits, row_fits, numbered}
 use Rattle.event.proofs.Theorems.{heard}
 use Rattle.profile.specs.Profile.{profile_ok}
 use Rattle.limits.specs.Sets.{sets_ok}
@@ -27,28 +28,6 @@ use Rattle.node.specs.Sound.{sound, latest, most_accepted}
 use Rattle.node.specs.Step.{Words, takes, said_of, refusals, step_of, Steps}
 use Rattle.node.proofs.RefusalRows.{table_rows, later_rows, parted, numbered_rows, fit_more, fit_first}
 use Rattle.node.proofs.Served.{Outs, outs_refused}
-
--- ---- what was decoded
-
-said_by_lem : (n : ℕ) (s : List ℕ) {t : ℕ} {e : Event} → said_by n s ≡ Said t e → n ≡ 0
-unfolding said_by
-said_by_lem n s {t} {e} h =
-    by (eqb n 0) (λ z. eqb-true n 0 z) (λ z.
-    let g : Refused n ≡ Said t e = rw z at h in
-    let x : ◌≡◌ {A = ℕ} 0 1 = cc in
-    omega arith)
-
-refused_by : (n : ℕ) (s : List ℕ) {k : ℕ} → said_by n s ≡ Refused k → (n ≡ k) × (k ≡ 0 → ⊥)
-unfolding said_by
-refused_by n s {k} h =
-    by (eqb n 0)
-    (λ z.
-    let g : Said (time_of s) (event_of s) ≡ Refused k = rw z at h in
-    absurd (let x : ◌≡◌ {A = ℕ} 0 1 = cc in omega arith))
-    (λ z.
-    let g : Refused n ≡ Refused k = rw z at h in
-    let i : n ≡ k = cc in
-    (i, λ j. let y = rw (i, j) at z in let x : ◌≡◌ {A = Bool} true false = y in absurd (let w : ◌≡◌ {A = ℕ} 0 1 = cc in omega arith)))
 
 -- ---- the answers
 
@@ -87,18 +66,17 @@ module _ (n : Node) (s b : List ℕ) where
     unfolding first_fit
     past_13 = rw (parted n s b, ok)
 
-    pub steps_octets : {a k : ℕ} {r : Node} {j : ℕ} → decoded s ≡ Refused j → a ≡ j → r ≡ n → k ≡ 0 → Steps n s b b a r k
-    unfolding decoded
-    steps_octets {j = j} d p q u =
-        let w = refused_by (first_fit (rows s)) s d in
-        steps_refused j (past_13 ∙ fit_first (rows s) (later_rows n (time_of s) (said_of s) b) j w.0 w.1) w.1 p q u
+    pub steps_octets : {a k : ℕ} {m : Node} {r : octets.Refusal} → decoded s ≡ Err r → a ≡ number_of r → m ≡ n → k ≡ 0 → Steps n s b b a m k
+    steps_octets {r = r} d p q u =
+        let z = numbered r in
+        steps_refused (number_of r) (past_13 ∙ fit_first (rows s) (later_rows n (time_of s) (said_of s) b) (number_of r) (row_fits s d) z) z p q u
 
-    pub steps_said : {t : ℕ} {e : Event} {b' : List ℕ} {a k : ℕ} {r : Node} → decoded s ≡ Said t e
+    pub steps_said : {t : ℕ} {e : Event} {b' : List ℕ} {a k : ℕ} {r : Node} → decoded s ≡ Ok (t, e)
         → Outs (later_rows n t (takes e s) b) n t (takes e s) b b' a r k → Steps n s b b' a r k
-    unfolding decoded step_of
+    unfolding step_of
     steps_said {t} {e} d o =
         let h = heard s d in
-        let z = said_by_lem (first_fit (rows s)) s d in
+        let z = none_fits s d in
         let f : first_fit (refusals n s b) ≡ first_fit (later_rows n (time_of s) (said_of s) b) =
         past_13 ∙ fit_more (rows s) (later_rows n (time_of s) (said_of s) b) (numbered_rows s) z in
         record { is = rw f (rw (h.time, h.event) at o.is) }

@@ -10,7 +10,7 @@ use borrow.Author.Tests.{le-leb, leb-false, ltb-false, eqb-true, not-false as no
 use Rattle.limits.specs.Limits.{limits_ok}
 use Rattle.limits.specs.Sets.{has_set, set_ok, sets_ok, set_at, is_next}
 use Rattle.limits.proofs.Numbers.{limits_in_range, replaced_in_range}
-use Rattle.event.specs.declared.Decoded.TheVariants as D
+use Rattle.std.specs.Prelude.{Ok}
 use Rattle.event.specs.Fields.{time_of}
 use Rattle.event.specs.Rows.{row, first_fit, known, rows}
 use Rattle.event.specs.Event.{event_of, said_by, decoded}
@@ -52,7 +52,7 @@ use Rattle.node.proofs.Filled.{slots_later, filled_slots}
 pub record Accepts (n : Node) (s b : List ℕ) : Type 0 where
   pub sound : sound n ≡ true
   pub kind : known s ≡ true
-  pub said : decoded s ≡ D.Said (time_of s) (event_of s)
+  pub said : decoded s ≡ Ok (time_of s, event_of s)
   pub since : n.clock ≤ time_of s
   pub until : time_of s ≤ latest
   pub few : n.accepted < most_accepted
@@ -73,7 +73,7 @@ is_known s e =
     let p₂ = passed _ _ _ (omega arith) p₁.rest in
     not-false-true (known s) (passed _ _ _ (omega arith) p₂.rest).fails
 
-said_what : (s : List ℕ) → first_fit (rows s) ≡ 0 → decoded s ≡ D.Said (time_of s) (event_of s)
+said_what : (s : List ℕ) → first_fit (rows s) ≡ 0 → decoded s ≡ Ok (time_of s, event_of s)
 unfolding decoded said_by
 said_what s z = rw z
 

@@ -12,7 +12,7 @@ use borrow.Author.Tests.{le-leb, lt-leb, le-ltb, eqb-true, eqb-false}
 use Rattle.format.proofs.Tests.{by, either}
 use Rattle.event.specs.declared.Name.{Name}
 use Rattle.event.specs.declared.Event.TheVariants as E
-use Rattle.event.specs.declared.Decoded.TheVariants as D
+use Rattle.std.specs.Prelude.{Ok}
 use Rattle.event.specs.Event.{decoded}
 use Rattle.event.specs.Traffic.{traffic_event}
 use Rattle.event.proofs.Traffics.{traffic_said}
@@ -82,7 +82,7 @@ module _ (n : Node) (i t : ℕ) (d : Context) (m : Name) (until : t ≤ latest) 
     late : t < 256 ^ 4
     late = omega (arith, until)
 
-    said : decoded (event v) ≡ D.Said t (E.Traffic m v.0 v.1)
+    said : decoded (event v) ≡ Ok (t, E.Traffic m v.0 v.1)
     said = traffic_said m t v.0 v.1 late id ggsn f.0 f.1
 
     names : map slot_of (N s).contexts ≡ map slot_of n.contexts

@@ -17,8 +17,8 @@ use Rattle.event.specs.declared.Activation.{Activation}
 use Rattle.event.specs.declared.Replacement.{Replacement}
 use Rattle.event.specs.declared.Event.{Event}
 use Rattle.event.specs.declared.Event.TheVariants as E
-use Rattle.event.specs.declared.Decoded.{Decoded}
-use Rattle.event.specs.declared.Decoded.TheVariants as D
+use Rattle.std.specs.Prelude.{Result, Ok, Err}
+use Rattle.event.specs.declared.Refusal as octets
 use Rattle.event.specs.Event.{decoded}
 use Rattle.event.specs.Private.Activated.{Activated}
 use Rattle.event.specs.Fields.{subscriber_imsi}
@@ -74,7 +74,7 @@ OpensWell s (W.Attaches k q) = length s ≡ 18
 OpensWell s (W.Notifies k m) = notice_ok m ≡ true
 OpensWell s (W.Replaces r) = Unit {0}
 
-opens_well : (s : List ℕ) (e : Event) {t : ℕ} → decoded s ≡ D.Said t e → OpensWell s (meaning_of e)
+opens_well : (s : List ℕ) (e : Event) {t : ℕ} → decoded s ≡ Ok (t, e) → OpensWell s (meaning_of e)
 opens_well s (E.Activate a) q = activate-in s q
 opens_well s (E.Traffic n up down) q = tt
 opens_well s (E.Qos n p) q = tt
@@ -247,7 +247,7 @@ module _ (n : Node) (s b : List ℕ) (z : Held n) where
           (λ have. rw have (unknown_task (to_settings r) conv r.set refl have))
 
     module _ (ok : sound n ≡ true) where
-      kind_task : (e : Event) → decoded s ≡ D.Said t e → Tasked n s b (task_of n.profile.sets n.settings names imsis t (meaning_of e))
+      kind_task : (e : Event) → decoded s ≡ Ok (t, e) → Tasked n s b (task_of n.profile.sets n.settings names imsis t (meaning_of e))
       unfolding task_of named_task open_task notify_task attach_task
       kind_task e q = go (meaning_of e) opens later
         where
@@ -272,7 +272,7 @@ module _ (n : Node) (s b : List ℕ) (z : Held n) where
           go (W.Notifies k m) x conv = notify_task_lem (saying (W.Notifies k m) s) conv k m refl x (keys.first_from (keys.bears k) 0 imsis) refl
           go (W.Replaces r) x conv = replace_task_lem r conv
 
-  module _ (ok : sound n ≡ true) (t : ℕ) (e : Event) (q : decoded s ≡ D.Said t e) where
+  module _ (ok : sound n ≡ true) (t : ℕ) (e : Event) (q : decoded s ≡ Ok (t, e)) where
     abbrev w : Words
     w = takes e s
 
@@ -289,11 +289,11 @@ module _ (n : Node) (s b : List ℕ) (z : Held n) where
         (λ l. rw (le-ltb latest t m, lt-ltb t n.clock l) (refused_task (steps_said n s b ok q (outs_early n t w b refl refl m l refl)))))
         (λ m. rw (lt-ltb latest t m) (refused_task (steps_said n s b ok q (outs_late n t w b refl refl m refl))))
 
-  said_task : sound n ≡ true → (d : Decoded) → decoded s ≡ d
+  said_task : sound n ≡ true → (d : Result (ℕ × Event) octets.Refusal) → decoded s ≡ d
       → Tasked n s b (task_for true n.profile.sets n.settings n.clock n.accepted (map slot_of n.contexts) (map imsiSlot n.subscribers) d)
   unfolding task_for
-  said_task ok (D.Refused k) q = refused_task (steps_octets n s b ok q refl refl refl)
-  said_task ok (D.Said t e) q = timely_task_lem ok t e q
+  said_task ok (Err r) q = refused_task (steps_octets n s b ok q refl refl refl)
+  said_task ok (Ok x) q = timely_task_lem ok x.0 x.1 q
 
   pub tasked : (ok : Bool) → sound n ≡ ok
       → Tasked n s b (task_for ok n.profile.sets n.settings n.clock n.accepted (map slot_of n.contexts) (map imsiSlot n.subscribers) (decoded s))

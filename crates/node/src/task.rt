@@ -11,7 +11,7 @@ use crate::meaning::Meaning;
 use crate::{Message, Settings, meaning};
 use context::slots;
 use context::slots::{Found, Slot};
-use event::{Activation, Decoded, Event, Name, Replacement};
+use event::{Activation, Event, Name, Replacement};
 use limits::sets;
 use mcdr::Place;
 use subscriber::Notice;
@@ -153,6 +153,7 @@ fn timely(
 }
 
 // The rows of the refusal table before room is looked for: 13, then those of the event's octets, then those of the time and the name.
+#[tactic(auto, unfolding(crate::specs::Private::Task::task_for))]
 pub fn task_for(
     sound: bool,
     count: usize,
@@ -168,9 +169,8 @@ pub fn task_for(
     if !sound {
         return Task::Refuse(13);
     }
-    let d = event::decode(event);
-    match d {
-        Decoded::Refused(k) => Task::Refuse(k),
-        Decoded::Said(t, e) => timely(count, g, clock, accepted, names, imsis, t, e),
+    match event::decode(event) {
+        Ok((t, e)) => timely(count, g, clock, accepted, names, imsis, t, e),
+        Err(refusal) => Task::Refuse(refusal.into()),
     }
 }

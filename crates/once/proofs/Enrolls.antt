@@ -17,7 +17,7 @@ use Rattle.ber.proofs.Imsis.{imsi_rules}
 use Rattle.profile.specs.declared.Profile.{Profile}
 use Rattle.event.specs.declared.Event.{Event}
 use Rattle.event.specs.declared.Event.TheVariants as E
-use Rattle.event.specs.declared.Decoded.TheVariants as D
+use Rattle.std.specs.Prelude.{Ok}
 use Rattle.event.specs.Fields.{kind_of, subscriber_imsi, subscriber_of, lac_of, rac_of}
 use Rattle.event.specs.Kinds.{kinds, kind_in}
 use Rattle.event.specs.Event.{event_of, decoded}
@@ -162,12 +162,12 @@ attach_says : (s : List ℕ) → kind_of s ≡ 8 → event_of s ≡ E.Attach (su
 unfolding event_of kinds kind_in
 attach_says s e = rw (event_of, e)
 
-pub imsi_right : (p : Profile) (s : List ℕ) {t : ℕ} → decoded s ≡ D.Said t (event_of s) → Right p (subscriber_imsi s) (says s)
+pub imsi_right : (p : Profile) (s : List ℕ) {t : ℕ} → decoded s ≡ Ok (t, event_of s) → Right p (subscriber_imsi s) (says s)
 unfolding says
 imsi_right p s {t} d =
     by (eqb (kind_of s) 8)
     (λ a.
-    let x = attach-in s (d ∙ ap (λ (v : Event). D.Said t v) (attach_says s (eqb-true (kind_of s) 8 a))) in
+    let x = attach-in s (d ∙ ap (λ (v : Event). Ok (t, v)) (attach_says s (eqb-true (kind_of s) 8 a))) in
     let o = imsi_octets (subscriber_imsi s) x.imsi in
     rw a (imsi_back (subscriber_imsi s) (imsi_rules (subscriber_imsi s) (true_T (imsi_ok (subscriber_imsi s)) x.imsi)).eight o ∙ ap imsi_of x.name))
     (λ a. by (eqb (kind_of s) 9) (λ b. rw (a, b) tt)

@@ -1,12 +1,12 @@
 -- What a call is to do, by the names of the slots and the event; and what is answered then.
-use Rattle.std.specs.Prelude.{◌≡◌, Bool, true, false, cond, ◌||◌, List, ℕ, ◌+◌, leb, ltb, set}
+use Rattle.std.specs.Prelude.{◌≡◌, Bool, true, false, cond, ◌||◌, List, ℕ, ◌+◌, leb, ltb, set, Result, Ok, Err}
 use Rattle.event.specs.declared.Name.{Name}
 use Rattle.event.specs.declared.Activation.{Activation}
 use Rattle.event.specs.declared.Event.{Event}
 use Rattle.event.specs.declared.Replacement.{Replacement}
 use Rattle.limits.specs.Sets.{has_set, is_next}
-use Rattle.event.specs.declared.Decoded.{Decoded}
-use Rattle.event.specs.declared.Decoded.TheVariants as D
+use Rattle.event.specs.declared.Refusal as octets
+use Rattle.event.specs.Rows.{number_of}
 use Rattle.context.specs.declared.slots.Slot.{Slot}
 use Rattle.context.specs.declared.slots.Found.{Found}
 use Rattle.context.specs.declared.slots.Found.TheVariants.{At, Nothing}
@@ -95,10 +95,10 @@ timely_task count g clock accepted names imsis t e =
     cond (ltb latest t || ltb t clock) (Refuse 6) (cond (leb most_accepted accepted) (Refuse 7) (task_of count g names imsis t (meaning_of e)))
 
 -- 13, then 1 to 5
-unfoldable pub task_for : Bool → ℕ → Settings → ℕ → ℕ → List Slot → List N.Slot → Decoded → Task
+unfoldable pub task_for : Bool → ℕ → Settings → ℕ → ℕ → List Slot → List N.Slot → Result (ℕ × Event) octets.Refusal → Task
 task_for false count g clock accepted names imsis d = Refuse 13
-task_for true count g clock accepted names imsis (D.Refused k) = Refuse k
-task_for true count g clock accepted names imsis (D.Said t e) = timely_task count g clock accepted names imsis t e
+task_for true count g clock accepted names imsis (Err r) = Refuse (number_of r)
+task_for true count g clock accepted names imsis (Ok x) = timely_task count g clock accepted names imsis x.0 x.1
 
 -- ---- and what is answered then: 11 is found out while it is done
 

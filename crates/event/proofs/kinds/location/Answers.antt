@@ -1,5 +1,0 @@
--- `event::kinds::location` meets its contract.
-use Rattle.event.proofs.kinds.location.Goals as goal
-
-pub returns : goal.returns
-returns c = rw (c.eight-imsi.ensures, c.two-lac.ensures, c.octet-rac.ensures, c.subscriber_ok.ensures)
