@@ -31,12 +31,12 @@ fn main(rt: HostRuntime) {
     }
     if setup::is_word(&rt, 1, b"both") {
         charge::charge_file(&rt, output, error);
-        show::show_file(&rt, output, error, 4, out::TEXT);
+        show::show_file(&rt, output, error, 4, shown::Style::Text);
         return;
     }
     if setup::is_word(&rt, 1, b"all") {
         charge::charge_file(&rt, output, error);
-        show::show_file(&rt, output, error, 4, out::TEXT);
+        show::show_file(&rt, output, error, 4, shown::Style::Text);
         count::count_file(&rt, output, error, 4);
         return;
     }

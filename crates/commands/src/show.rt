@@ -8,10 +8,11 @@
 // docs/FORMATS.md has both forms.
 use entries::Entry;
 use mcdr::MmRecord;
-use out::{JSON, Stream, TEXT};
+use out::Stream;
 use scdr::Record;
+use shown::{Shown, Style};
 use std::env::Env;
-use std::io::{Read, Stderr, Stdout};
+use std::io::{Read, Stderr, Stdout, Write};
 use std::num::{wrapping_add_u64, wrapping_sub_u64};
 use std::rt::Files;
 use template::{four, say};
@@ -32,13 +33,11 @@ const NO_RECORD: u64 = 3;
 
 const OVER: u64 = 4;
 
-// Where the next record lies; how many were shown; how many characters wait to be written; whether the file has been read to its end;
-// and how to go on.
+// Where the next record lies; how many were shown; whether the file has been read to its end; and how to go on.
 #[derive(Clone, Copy)]
 struct State {
     place: Place,
     records: u64,
-    waiting: usize,
     ended: bool,
     turn: u64,
 }
@@ -51,7 +50,6 @@ fn read_on<F: Read>(error: Stderr, file: &mut F, s: State, held: &mut [u8; 65536
     State {
         place,
         records: s.records,
-        waiting: s.waiting,
         ended: f.got == 0,
         turn: over_if(f.got < 0),
     }
@@ -93,20 +91,19 @@ fn turned(s: State, turn: u64) -> State {
 }
 
 // The state after a record that takes so many octets of the file. Nothing more is read once a write has failed.
-fn past_record(s: State, end: usize, waiting: usize) -> State {
+fn past_record(s: State, end: usize, written: bool) -> State {
     let p = s.place;
     let place = window::after(p, end);
     State {
         place,
         records: wrapping_add_u64(s.records, 1),
-        waiting,
         ended: s.ended,
-        turn: over_if(4096 < waiting),
+        turn: over_if(!written),
     }
 }
 
 // What lies at the front of the octets that are left: a record and more, or all that is left of the file.
-fn show_one(to: &mut Stream, style: u8, s: State, here: &[u8], text: &mut [u8; 4096]) -> State {
+fn show_one(to: &mut Stream, style: Style, s: State, here: &[u8]) -> State {
     let z = entries::read::read_entry(here, 0);
     let e = z.entry;
     let turn = turn_after(e, z.answer);
@@ -116,56 +113,36 @@ fn show_one(to: &mut Stream, style: u8, s: State, here: &[u8], text: &mut [u8; 4
     let end = end_of(e);
     if z.mm {
         let cdr = z.mmcdr;
-        return show_mm(to, style, s, end, cdr, text);
+        return show_mm(to, style, s, end, cdr);
     }
     let cdr = z.cdr;
-    show_cdr(to, style, s, end, cdr, text)
+    show_cdr(to, style, s, end, cdr)
 }
 
 // An S-CDR, whose entry takes so many octets of the file.
-fn show_cdr(
-    to: &mut Stream,
-    style: u8,
-    s: State,
-    end: usize,
-    cdr: Record,
-    text: &mut [u8; 4096],
-) -> State {
-    let p = s.place;
-    let waiting = shown::put_record(
-        to,
-        text,
-        s.waiting,
+fn show_cdr(to: &mut Stream, style: Style, s: State, end: usize, cdr: Record) -> State {
+    let shown = Shown {
+        record: &cdr,
         style,
-        cdr,
-        wrapping_add_u64(s.records, 1),
-        p.offset,
-        wrapping_sub_u64(end as u64, 2),
-    );
-    past_record(s, end, waiting)
+        which: wrapping_add_u64(s.records, 1),
+        before: s.place.offset,
+        size: wrapping_sub_u64(end as u64, 2),
+    };
+    let written = write!(to, "{shown}").is_ok();
+    past_record(s, end, written)
 }
 
 // An M-CDR, in the same way.
-fn show_mm(
-    to: &mut Stream,
-    style: u8,
-    s: State,
-    end: usize,
-    cdr: MmRecord,
-    text: &mut [u8; 4096],
-) -> State {
-    let p = s.place;
-    let waiting = shown::mm::put_record(
-        to,
-        text,
-        s.waiting,
+fn show_mm(to: &mut Stream, style: Style, s: State, end: usize, cdr: MmRecord) -> State {
+    let shown = Shown {
+        record: &cdr,
         style,
-        cdr,
-        wrapping_add_u64(s.records, 1),
-        p.offset,
-        wrapping_sub_u64(end as u64, 2),
-    );
-    past_record(s, end, waiting)
+        which: wrapping_add_u64(s.records, 1),
+        before: s.place.offset,
+        size: wrapping_sub_u64(end as u64, 2),
+    };
+    let written = write!(to, "{shown}").is_ok();
+    past_record(s, end, written)
 }
 
 // One record, or more of the file: so that a whole record is in the window, or all that is left.
@@ -173,22 +150,21 @@ fn take_turn<F: Read>(
     to: &mut Stream,
     error: Stderr,
     file: &mut F,
-    style: u8,
+    style: Style,
     s: State,
     held: &mut [u8; 65536],
-    text: &mut [u8; 4096],
 ) -> State {
     let p = s.place;
     if !s.ended & (window::left(p) < LONGEST) {
         return read_on(error, file, s, held);
     }
-    show_one(to, style, s, octets::part(held, p.at, p.end), text)
+    show_one(to, style, s, octets::part(held, p.at, p.end))
 }
 
 // Writes what waits, and says how it ended: which record was refused, counted from 1, how many octets lie before its mark and what was found
 // there; and what was shown.
-fn finish(to: &mut Stream, error: Stderr, s: State, text: &[u8; 4096]) {
-    if !out::write_out(to, text, s.waiting) {
+fn finish(to: &mut Stream, error: Stderr, s: State) {
+    if to.flush().is_err() {
         setup::fail_output(error, b"show", to);
         return;
     }
@@ -204,22 +180,20 @@ fn finish(to: &mut Stream, error: Stderr, s: State, text: &[u8; 4096]) {
 }
 
 // A proved loop has to end, and nothing says that a file does. So it counts its turns down, from a number that no run uses up.
-fn run<F: Read>(to: &mut Stream, error: Stderr, file: &mut F, style: u8) {
+fn run<F: Read>(to: &mut Stream, error: Stderr, file: &mut F, style: Style) {
     let mut held = [0u8; 65536];
-    let mut text = [0u8; 4096];
     let mut s = State {
         place: window::START,
         records: 0,
-        waiting: 0,
         ended: false,
         turn: GOING,
     };
     let mut turns = u64::MAX;
     while turns > 0 && s.turn == GOING {
-        s = take_turn(to, error, file, style, s, &mut held, &mut text);
+        s = take_turn(to, error, file, style, s, &mut held);
         turns -= 1;
     }
-    finish(to, error, s, &text);
+    finish(to, error, s);
 }
 
 // The list that an argument names.
@@ -228,7 +202,7 @@ pub fn show_file<R: Env + Files>(
     output: Stdout,
     error: Stderr,
     argument: usize,
-    style: u8,
+    style: Style,
 ) {
     if let Some(mut file) = setup::open(rt, error, b"show", argument) {
         let mut to = out::to_output(output);
@@ -240,11 +214,11 @@ pub fn main<R: Env + Files>(rt: &R, output: Stdout, error: Stderr) {
     let count = setup::arg_count(rt);
     let json = setup::is_word(rt, 2, b"--json");
     if (count == 3) & !json {
-        show_file(rt, output, error, 2, TEXT);
+        show_file(rt, output, error, 2, Style::Text);
         return;
     }
     if (count == 4) & json {
-        show_file(rt, output, error, 3, JSON);
+        show_file(rt, output, error, 3, Style::Json);
         return;
     }
     setup::say_line(error, b"usage: show [--json] RECORDS\n");

@@ -1,5 +1,10 @@
 -- One character behind those that wait to be written.
-use Rattle.std.specs.Prelude.{◌≡◌, Bool, cond, List, ℕ, ◌+◌, ltb, set}
+use Rattle.std.specs.Prelude.{◌≡◌, Bool, cond, List, ℕ, ◌+◌, ltb, set, min, Result, Ok, Err}
+
+-- How many wait; 4,097 says that a write failed.
+abbrev pub count_of : {E : Type 0} → Result ℕ E → ℕ
+count_of (Ok n) = min n 4096
+count_of (Err _) = 4097
 
 -- The text, of which w characters wait, and how many wait then. Where there is room the character stands behind them. Where all 4,096 wait they are
 -- written first: if that went well the character alone waits, and else the text is as it was, and 4,097 says that a write failed. Once that is said,

@@ -1,186 +1,88 @@
-// Characters on their way to standard output: they wait in a buffer, which is written where it is full, and at the end.
+// Characters on their way to standard output or standard error: they wait in a buffer, which is written where it is full, and by `flush`.
 //
-// No contract can say what is written: of one character it says what waits then, as the write went; each other function that puts
-// something is proved safe and ending. It puts it behind the characters that wait, and answers how many wait then: 4097 once a write has
-// failed. Why it failed, the stream knows.
+// No contract can say what is written: `put` says what waits after one character, as the write went, and all else puts characters by it.
 #![tactic(auto)]
 
-ghost use Rattle.out.specs.Put.{PutsOne};
+ghost use Rattle.std.specs.Prelude.{◌≡◌, IfOk};
+ghost use Rattle.out.specs.Put.{PutsOne, count_of};
 
-use itoa::Buffer;
 use std::io;
-use std::io::{Stderr, Stdout};
+use std::io::{Stderr, Stdout, Write};
 
-#[derive(Clone, Copy)]
-enum End {
-    Output(Stdout),
-    Error(Stderr),
-}
+// How many characters the buffer has room for.
+pub const ROOM: usize = 4096;
 
-// Where characters go: standard output or standard error; and why the last write there that failed did.
-#[derive(Clone, Copy)]
-pub struct Stream {
-    end: End,
-    pub failed: Option<io::Error>,
+// Where characters go, with those that wait.
+#[derive(Drop)]
+pub struct Stream<W = Stdout> {
+    end: W,
+    text: [u8; ROOM],
+    // how many wait; or why a write failed, after which nothing is written
+    waiting: io::Result<usize>,
 }
 
 pub fn to_output(output: Stdout) -> Stream {
-    Stream {
-        end: End::Output(output),
-        failed: None,
-    }
+    Stream::new(output)
 }
 
-pub fn to_error(error: Stderr) -> Stream {
-    Stream {
-        end: End::Error(error),
-        failed: None,
-    }
+pub fn to_error(error: Stderr) -> Stream<Stderr> {
+    Stream::new(error)
 }
 
 // Writes octets at once, and answers whether all were written.
-pub fn write_all(to: &mut Stream, octets: &[u8]) -> bool {
-    let done = match to.end {
-        End::Output(output) => output.write_all(octets),
-        End::Error(error) => error.write_all(octets),
-    };
-    match done {
-        Ok(()) => true,
-        Err(e) => {
-            to.failed = Some(e);
-            false
+pub fn write_all<W: Write>(to: &mut Stream<W>, octets: &[u8]) -> bool {
+    to.write_all(octets).is_ok() && to.flush().is_ok()
+}
+
+impl<W: Write> Stream<W> {
+    pub fn new(end: W) -> Stream<W> {
+        Stream {
+            end,
+            text: [0; ROOM],
+            waiting: Ok(0),
+        }
+    }
+
+    // Why a write failed, if one did.
+    pub fn failed(&self) -> Option<io::Error> {
+        self.waiting.err()
+    }
+
+    // Puts one character behind those that wait.
+    pub fn put(&mut self, x: u8) -> io::Result<()>
+        ensures { PutsOne self.old.text (count_of self.old.waiting) x self.new.text (count_of self.new.waiting) }
+    {
+        if let Ok(ROOM..) = self.waiting {
+            self.write_out();
+        }
+        let n = self.waiting?;
+        self.text[n] = x;
+        self.waiting = Ok(n + 1);
+        Ok(())
+    }
+
+    // Writes what waits.
+    fn write_out(&mut self)
+        ensures text { self.new.text ≡ self.old.text }
+        ensures none { IfOk self.new.waiting (λ n. n ≡ 0) }
+    {
+        if let Ok(n) = self.waiting {
+            let done = self.end.write_all(octets::front(&self.text, n));
+            self.waiting = done.map(|_| 0);
         }
     }
 }
 
-// How an octet is put. As the character that it is, for people.
-pub const TEXT: u8 = 0;
-
-// As a character of a string in JSON, which escapes two.
-pub const JSON: u8 = 1;
-
-// As two digits of sixteen. So two decimal digits in an octet are a number.
-pub const PLAIN: u8 = 2;
-
-// As two digits of an IMSI, the low half of the octet first.
-pub const DIGITS: u8 = 3;
-
-// As two digits of sixteen after a space.
-pub const APART: u8 = 4;
-
-// One character.
-pub fn put(to: &mut Stream, text: &mut [u8; 4096], waiting: usize, x: u8) -> usize
-    ensures { PutsOne text.old waiting x text.new result }
-{
-    if waiting < 4096 {
-        text[waiting] = x;
-        return waiting + 1;
+impl<W: Write> Write for Stream<W> {
+    fn write(&mut self, octets: &[u8]) -> io::Result<usize> {
+        for x in octets {
+            self.put(*x)?;
+        }
+        Ok(octets.len())
     }
-    if 4096 < waiting {
-        return waiting;
+
+    fn flush(&mut self) -> io::Result<()> {
+        self.write_out();
+        self.waiting.map(|_| ())
     }
-    if !write_all(to, text) {
-        return 4097;
-    }
-    text[0] = x;
-    1
-}
-
-// The octets of s, each in a style.
-pub fn put_all(
-    to: &mut Stream,
-    text: &mut [u8; 4096],
-    waiting: usize,
-    style: u8,
-    s: &[u8],
-) -> usize {
-    let mut w = waiting;
-    let mut i: usize = 0;
-    while i < s.len() {
-        w = put_one(to, text, w, style, s[i]);
-        i += 1;
-    }
-    w
-}
-
-// One octet in a style.
-pub fn put_one(to: &mut Stream, text: &mut [u8; 4096], waiting: usize, style: u8, x: u8) -> usize {
-    match style {
-        JSON => put_escaped(to, text, waiting, x),
-        PLAIN => put_octet(to, text, waiting, x),
-        DIGITS => put_digits(to, text, waiting, x),
-        APART => put_apart(to, text, waiting, x),
-        _ => put(to, text, waiting, x),
-    }
-}
-
-// A number at the right of a column, which is at most 32 wide.
-pub fn put_right(
-    to: &mut Stream,
-    text: &mut [u8; 4096],
-    waiting: usize,
-    n: u64,
-    width: usize,
-) -> usize {
-    let mut buffer = Buffer::new();
-    let digits = buffer.format(n).as_bytes();
-    let spaces = octets::front(
-        b"                                ",
-        gap(width, digits.len()),
-    );
-    let w = put_all(to, text, waiting, TEXT, spaces);
-    put_all(to, text, w, TEXT, digits)
-}
-
-// How far a word of k characters stands from the left of a column.
-fn gap(width: usize, k: usize) -> usize {
-    if k < width {
-        return width - k;
-    }
-    0
-}
-
-// One digit of sixteen, as a character.
-fn digit(n: u8) -> u8 {
-    let d = n % 16;
-    if d < 10 { b'0' + d } else { b'A' + (d - 10) }
-}
-
-fn put_octet(to: &mut Stream, text: &mut [u8; 4096], waiting: usize, x: u8) -> usize {
-    let w = put(to, text, waiting, digit(x / 16));
-    put(to, text, w, digit(x % 16))
-}
-
-fn put_apart(to: &mut Stream, text: &mut [u8; 4096], waiting: usize, x: u8) -> usize {
-    let w = put(to, text, waiting, b' ');
-    put_octet(to, text, w, x)
-}
-
-fn put_escaped(to: &mut Stream, text: &mut [u8; 4096], waiting: usize, x: u8) -> usize {
-    if (x == b'"') | (x == b'\\') {
-        let w = put(to, text, waiting, b'\\');
-        return put(to, text, w, x);
-    }
-    put(to, text, waiting, x)
-}
-
-fn put_digits(to: &mut Stream, text: &mut [u8; 4096], waiting: usize, x: u8) -> usize {
-    let w = put_digit(to, text, waiting, x % 16);
-    put_digit(to, text, w, x / 16)
-}
-
-// A decimal digit; nothing for the F that fills an octet.
-fn put_digit(to: &mut Stream, text: &mut [u8; 4096], waiting: usize, d: u8) -> usize {
-    if d < 10 {
-        return put(to, text, waiting, b'0' + d);
-    }
-    waiting
-}
-
-// Writes what waits, to standard output (or elsewhere, if it never was too long for the buffer). Answers whether all was written.
-pub fn write_out(to: &mut Stream, text: &[u8; 4096], waiting: usize) -> bool {
-    if 4096 < waiting {
-        return false;
-    }
-    write_all(to, octets::front(text, waiting))
 }

@@ -57,7 +57,7 @@ pub fn fail(error: Stderr, command: &[u8], what: &[u8], why: io::Error) {
 
 // The same of standard output, where a write failed.
 pub fn fail_output(error: Stderr, command: &[u8], output: &Stream) {
-    if let Some(why) = output.failed {
+    if let Some(why) = output.failed() {
         fail(error, command, b"standard output", why);
     }
 }

@@ -11,10 +11,11 @@
 pub mod block;
 
 use crate::lent;
-use out::{PLAIN, Stream};
+use out::Stream;
 use setup::is_word;
+use shown::Shown;
 use std::env::Env;
-use std::io::{Read, Stderr};
+use std::io::{Read, Stderr, Write};
 use std::rt::Files;
 use template::four;
 
@@ -59,10 +60,8 @@ fn read_one(to: &mut Stream, s: &[u8]) {
         line(to, r.answer, b"");
         return;
     }
-    let cdr = r.cdr;
-    let mut text = [0u8; 4096];
-    let w = shown::put_record(to, &mut text, 0, PLAIN, cdr, 0, 0, 0);
-    out::write_out(to, &text, w);
+    let _ = write!(to, "{}", Shown::plain(&r.cdr));
+    let _ = to.flush();
 }
 
 // One block of an M-CDR, in the same way.
@@ -86,10 +85,8 @@ fn read_one_mm(to: &mut Stream, s: &[u8]) {
         line(to, r.answer, b"");
         return;
     }
-    let cdr = r.cdr;
-    let mut text = [0u8; 4096];
-    let w = shown::mm::put_record(to, &mut text, 0, PLAIN, cdr, 0, 0, 0);
-    out::write_out(to, &text, w);
+    let _ = write!(to, "{}", Shown::plain(&r.cdr));
+    let _ = to.flush();
 }
 
 // How many octets a block has: of an M-CDR, or of an S-CDR.

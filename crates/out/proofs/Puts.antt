@@ -1,0 +1,30 @@
+-- The ways in which one character is put. r says how many wait before, s how many then.
+use Rattle.std.proofs.Common.{◌≡◌, ℕ, ◌+◌, ◌<◌, ◌≤◌, List, set, true, false, lt-ltb, min, Result, Ok, Err, arith}
+use Rattle.out.specs.Put.{PutsOne, put_of, count_of}
+
+-- there is room
+pub in_room : {E : Type 0} → (text after : List ℕ) → (r s : Result ℕ E) → (x n : ℕ) → s ≡ r → s ≡ Ok n → n < 4096 → after ≡ text → PutsOne text (count_of r) x (set after n x) (min (n + 1) 4096)
+unfolding put_of
+in_room text after r s x n kept is lt same =
+    let a : min n 4096 ≡ n = omega arith in
+    let b : min (n + 1) 4096 ≡ n + 1 = omega arith in
+    record { wrote = true; is = rw (← kept, is, a, b, lt-ltb n 4096 lt, same) }
+
+-- all wait, and are written
+pub alone : {E : Type 0} → (text after : List ℕ) → (r : Result ℕ E) → (x n m : ℕ) → r ≡ Ok n → 4096 ≤ n → m ≡ 0 → after ≡ text → PutsOne text (count_of r) x (set after m x) (min (m + 1) 4096)
+unfolding put_of
+alone text after r x n m is le none same =
+    let a : min n 4096 ≡ 4096 = omega arith in
+    record { wrote = true; is = rw (is, a, none, same) }
+
+-- all wait, and the write fails
+pub lost : {E : Type 0} → (text after : List ℕ) → (r s : Result ℕ E) → (x n : ℕ) → (e : E) → r ≡ Ok n → 4096 ≤ n → s ≡ Err e → after ≡ text → PutsOne text (count_of r) x after (count_of s)
+unfolding put_of
+lost text after r s x n e is le failed same =
+    let a : min n 4096 ≡ 4096 = omega arith in
+    record { wrote = false; is = rw (is, failed, a, same) }
+
+-- a write failed before
+pub told : {E : Type 0} → (text after : List ℕ) → (r s : Result ℕ E) → (x : ℕ) → (e : E) → s ≡ r → s ≡ Err e → after ≡ text → PutsOne text (count_of r) x after (count_of s)
+unfolding put_of
+told text after r s x e kept failed same = record { wrote = false; is = rw (← kept, failed, same) }
