@@ -1,4 +1,3 @@
 pub mod Context
 pub mod Sound
 pub mod Slots
-pub mod Private

@@ -1,5 +1,6 @@
 -- When a slot is as it must be: 01's "A sound node", what it says of each context.
-use Rattle.std.specs.Prelude.{Bool, true, cond, ◌&&◌, List, [], ◌∷◌, ℕ, leb, ltb, eqb}
+use Rattle.std.specs.Prelude.{Bool, cond, ◌&&◌, List, ℕ, leb, ltb, eqb}
+use Rattle.std.specs.List.{list_all}
 use Rattle.ber.specs.Imsi.{imsi_ok}
 use Rattle.container.specs.Open.{sound_open, blank_open}
 use Rattle.octets.specs.Chars.{all_of, is_zero}
@@ -31,6 +32,5 @@ unfoldable pub slot_ok : ℕ → ℕ → ℕ → ℕ → Context → Bool
 slot_ok count zone clock accepted c = cond (eqb c.active 1) (context_ok count zone clock accepted c) (zero_ok c)
 
 -- every slot of the table
-unfoldable pub slots_ok : ℕ → ℕ → ℕ → ℕ → List Context → Bool
-slots_ok count zone clock accepted [] = true
-slots_ok count zone clock accepted (c ∷ cs) = slot_ok count zone clock accepted c && slots_ok count zone clock accepted cs
+abbrev pub slots_ok : ℕ → ℕ → ℕ → ℕ → List Context → Bool
+slots_ok count zone clock accepted cs = list_all (slot_ok count zone clock accepted) cs

@@ -9,80 +9,65 @@ use limits::sets;
 use octets::{chars, names};
 
 // Are the stored fields in range, and the octets zero that they do not use?
-pub fn fields_ok(c: Context) -> bool
-    ensures { result ≡ fields_ok c }
+pub fn fields_ok(c: &Context) -> bool
+    ensures { result ≡ fields_ok c.now }
 {
-    let digits = c.imsi;
-    let apn = c.apn;
-    let a = imsi::imsi_size(&digits) != 0;
-    let b = names::apn_ok(apn, c.apnlen);
-    (c.flags <= 3) & a & b
+    c.flags <= 3 && imsi::imsi_size(&c.imsi) != 0 && names::apn_ok(c.apn, c.apnlen)
 }
 
 // Are there fewer closed records than accepted events?
-pub fn closed_ok(accepted: u64, c: Context) -> bool
-    ensures { result ≡ closed_ok accepted c }
+#[tactic(auto, unfolding(crate::specs::Sound::closed_ok))]
+pub fn closed_ok(accepted: u64, c: &Context) -> bool
+    ensures { result ≡ closed_ok accepted c.now }
 {
     c.closed < accepted
 }
 
 // Is an active context as it must be, in a node that has so many sets of limits?
-pub fn context_ok(count: usize, zone: u16, clock: u32, accepted: u64, c: Context) -> bool
-    ensures { result ≡ context_ok count zone clock accepted c }
+#[tactic(auto, unfolding(crate::specs::Sound::context_ok))]
+pub fn context_ok(count: usize, zone: u16, clock: u32, accepted: u64, c: &Context) -> bool
+    ensures { result ≡ context_ok count zone clock accepted c.now }
 {
-    let o = c.current;
-    let a = fields_ok(c);
-    let s = sets::has(count, c.set);
-    let b = closed_ok(accepted, c);
-    let d = open::is_sound(o, zone, clock);
-    a & s & b & d
+    fields_ok(c)
+        && sets::has(count, c.set)
+        && closed_ok(accepted, c)
+        && open::is_sound(c.current, zone, clock)
 }
 
 // Is every field of a slot zero?
-pub fn zero_ok(c: Context) -> bool
-    ensures { result ≡ zero_ok c }
+#[tactic(auto, unfolding(crate::specs::Sound::zero_ok))]
+pub fn zero_ok(c: &Context) -> bool
+    ensures { result ≡ zero_ok c.now }
 {
-    let digits = c.imsi;
-    let apn = c.apn;
-    let o = c.current;
-    let a = chars::zeros(&digits);
-    let b = chars::zeros(&apn);
-    let d = open::is_blank(o);
-    (c.active == 0)
-        & (c.flags == 0)
-        & (c.set == 0)
-        & (c.name.id == 0)
-        & (c.name.ggsn == 0)
-        & a
-        & b
-        & (c.apnlen == 0)
-        & (c.pdptype == 0)
-        & (c.address == 0)
-        & d
-        & (c.closed == 0)
+    c.active == 0
+        && c.flags == 0
+        && c.set == 0
+        && c.name.id == 0
+        && c.name.ggsn == 0
+        && chars::zeros(&c.imsi)
+        && chars::zeros(&c.apn)
+        && c.apnlen == 0
+        && c.pdptype == 0
+        && c.address == 0
+        && open::is_blank(c.current)
+        && c.closed == 0
 }
 
 // Is a slot as it must be: an active context, or a free one?
-pub fn slot_ok(count: usize, zone: u16, clock: u32, accepted: u64, c: Context) -> bool
-    ensures { result ≡ slot_ok count zone clock accepted c }
+#[tactic(auto, unfolding(crate::specs::Sound::slot_ok))]
+pub fn slot_ok(count: usize, zone: u16, clock: u32, accepted: u64, c: &Context) -> bool
+    ensures { result ≡ slot_ok count zone clock accepted c.now }
 {
     if c.active == 1 {
-        return context_ok(count, zone, clock, accepted, c);
+        context_ok(count, zone, clock, accepted, c)
+    } else {
+        zero_ok(c)
     }
-    zero_ok(c)
 }
 
 // Is every slot of the table?
-pub fn slots_ok(count: usize, zone: u16, clock: u32, accepted: u64, cs: [Context; 16]) -> bool
-    ensures { result ≡ slots_ok count zone clock accepted cs }
+pub fn slots_ok(count: usize, zone: u16, clock: u32, accepted: u64, cs: &[Context]) -> bool
+    ensures { result ≡ slots_ok count zone clock accepted cs.now }
 {
-    let mut i: usize = 0;
-    while i < 16 {
-        let c = cs[i];
-        if !slot_ok(count, zone, clock, accepted, c) {
-            return false;
-        }
-        i += 1;
-    }
-    true
+    cs.iter().all(|c| slot_ok(count, zone, clock, accepted, c))
 }

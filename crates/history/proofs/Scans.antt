@@ -1,44 +1,28 @@
--- Loops over an array of slots: what is left to look at decides, the first place that passes a test, what is copied so far.
+-- An array of slots looked at: a test of each, the first place that passes one, what is read off each.
 use mathlib.Core.Path.{◌≡◌, refl, sym, ap, ◌∙◌}
-use mathlib.Core.Bool.{Bool, true, false, not, ◌&&◌, ◌||◌}
+use mathlib.Core.Bool.{Bool, true, false, ◌&&◌}
 use mathlib.Core.List.{List, [], ◌∷◌, ◌++◌, map}
-use Rattle.std.specs.Prelude.{None, Some}
+use Rattle.std.specs.Prelude.{None, Some, position, is_none}
+use Rattle.std.specs.List.{position_from}
+use Rattle.std.specs.Array.{IsMapOf}
+use Rattle.std.proofs.lemmas.List.{ext_get_or}
+use Rattle.std.specs.Fn.{Mut, Called}
+use Rattle.std.proofs.lemmas.Iterator.Adapters.{position_from-zero}
 use Prim.Native.Nat.{ℕ, zero, suc, ◌+◌, ◌≤◌, ◌<◌}
 use native.Mathlib.Numerals.{add-one}
 use native.Mathlib.Omega.{arith}
 use lib.ListN.{length, take, drop, get_or, set, length-map, length-set, drop_of_length-le, get_or-map}
 use lib.Seq.{drop-cons, take-suc, take-suc-set, take_all}
 use Rattle.history.specs.Lists.{All}
-use Rattle.history.specs.Slots.{first_from, Naming, bears, none_bears, distinct, through}
+use Rattle.history.specs.Slots.{Naming, bears, none_bears, distinct, through}
 use Rattle.history.proofs.Lists.{by, both, none≢some}
 
 -- ---- a rule of a list that looks at one element after another
-
--- come to i, the rule of what is left is the rule of all from a place on
-pub record Rest {A : Type 0} (rule : List A → Bool) (l : List A) (from i : ℕ) : Type 0 where
-  pub same : rule (drop i l) ≡ rule (drop from l)
-
-pub rest_all : {A : Type 0} {rule : List A → Bool} {l : List A} {from : ℕ} → Rest rule l from from
-rest_all = record { same = refl }
 
 -- of an element, with those after it, the rule asks p; of nothing, nothing
 pub record Asks {A : Type 0} (rule : List A → Bool) (p : A → List A → Bool) : Type 0 where
   pub step : (x : A) (xs : List A) → rule (x ∷ xs) ≡ (p x xs && rule xs)
   pub none : rule [] ≡ true
-
-module _ {A : Type 0} {rule : List A → Bool} {p : A → List A → Bool} (k : Asks rule p) {l : List A} {from i : ℕ} (s : Rest rule l from i) where
-  module _ (d : A) (h : i < length l) where
-    here_asks : rule (drop i l) ≡ (p (get_or l i d) (drop (i + 1) l) && rule (drop (i + 1) l))
-    here_asks = rw (drop-cons l i d h, add-one) (k.step (get_or l i d) (drop (suc i) l))
-
-    pub rest_no : {r : Bool} → r ≡ p (get_or l i d) (drop (i + 1) l) → r ≡ false → false ≡ rule (drop from l)
-    rest_no e t = sym (here_asks ∙ rw (sym e ∙ t)) ∙ s.same
-
-    pub rest_next : {r : Bool} → r ≡ p (get_or l i d) (drop (i + 1) l) → r ≡ true → Rest rule l from (i + 1)
-    rest_next e t = record { same = sym (here_asks ∙ rw (sym e ∙ t)) ∙ s.same }
-
-  pub rest_end : length l ≤ i → true ≡ rule (drop from l)
-  rest_end h = sym k.none ∙ ap rule (sym (drop_of_length-le l h)) ∙ s.same
 
 -- a rule that asks the same of each element
 module _ {A : Type 0} {rule : List A → Bool} {p : A → Bool} (k : Asks rule (λ x xs. p x)) where
@@ -55,55 +39,7 @@ module _ {A : Type 0} {rule : List A → Bool} {p : A → Bool} (k : Asks rule (
   asks_at (x ∷ xs) zero d e h = (asks_all (x ∷ xs) e).0
   asks_at (x ∷ xs) (suc i) d e h = asks_at xs i d (both (p x) (rule xs) (sym (k.step x xs) ∙ e)).1 (omega arith)
 
--- ---- names that are distinct: what two loops, one in the other, ask
-
-module _ {N A : Type 0} (D : Naming N A) where
-  -- a slot that is free, or has a name that none of some others bears
-  abbrev pub alone : A → List A → Bool
-  alone a rest = not (D.active a) || none_bears D (D.name a) rest
-
-  -- two active slots with one name
-  abbrev pub clashes : A → A → Bool
-  clashes a b = D.active a && bears D (D.name a) b
-
-  pub alone_asks : (a : A) → Asks (alone a) (λ b rest. not (clashes a b))
-  unfolding none_bears
-  alone_asks a = record { step = λ b rest. one (D.active a) (bears D (D.name a) b) (none_bears D (D.name a) rest); none = nil (D.active a) }
-    where
-      one : (a b x : Bool) → (not a || (not b && x)) ≡ (not (a && b) && (not a || x))
-      one true b x = refl
-      one false b x = refl
-
-      nil : (a : Bool) → (not a || true) ≡ true
-      nil true = refl
-      nil false = refl
-
-  pub distinct_asks : Asks (distinct D) alone
-  unfolding distinct
-  distinct_asks = record { step = λ a rest. refl; none = refl }
-
 -- ---- the first place that passes a test
-
--- come to i, it is the first from i on
-pub record Scan {A : Type 0} (p : A → Bool) (l : List A) (i : ℕ) : Type 0 where
-  pub same : first_from p 0 l ≡ first_from p i (drop i l)
-
-pub scan_all : {A : Type 0} {p : A → Bool} {l : List A} → Scan p l 0
-scan_all = record { same = refl }
-
-module _ {A : Type 0} {p : A → Bool} {l : List A} {i : ℕ} (s : Scan p l i) where
-  module _ (d : A) (h : i < length l) {r : Bool} (e : r ≡ p (get_or l i d)) where
-    pub scan_here : r ≡ true → Some i ≡ first_from p 0 l
-    unfolding first_from
-    scan_here t = sym (s.same ∙ rw (drop-cons l i d h) (rw (sym e ∙ t)))
-
-    pub scan_next : r ≡ false → Scan p l (i + 1)
-    unfolding first_from
-    scan_next t = record { same = s.same ∙ rw (drop-cons l i d h, add-one) (rw (sym e ∙ t)) }
-
-  pub scan_end : length l ≤ i → None ≡ first_from p 0 l
-  unfolding first_from
-  scan_end h = sym (s.same ∙ rw (drop_of_length-le l h))
 
 -- the first element that passes stands at i
 pub data First {A : Type 0} (q : A → Bool) : List A → ℕ → Type 0 where
@@ -124,8 +60,7 @@ module _ {A : Type 0} (p : A → Bool) where
     place : j ≡ k + i
     first : First p l i
 
-  first_at : (k : ℕ) (l : List A) {j : ℕ} → first_from p k l ≡ Some j → FirstAt k j l
-  unfolding first_from
+  first_at : (k : ℕ) (l : List A) {j : ℕ} → position_from p k l ≡ Some j → FirstAt k j l
   first_at k [] {j} e = absurd (none≢some e)
   first_at k (a ∷ rest) {j} e =
       by (p a)
@@ -134,31 +69,45 @@ module _ {A : Type 0} (p : A → Bool) where
       let z : k ≡ j = cc in
       record { i = 0; place = omega arith; first = here y })
       (λ n.
-      let r = first_at (suc k) rest (rw n at e) in
+      let r = first_at (k + 1) rest (rw n at e) in
       record { i = suc r.i; place = omega (arith, r.place); first = there n r.first })
 
-  none_from : (k : ℕ) (l : List A) → first_from p k l ≡ None → All (λ a. p a ≡ false) l
-  unfolding first_from
+  none_from : (k : ℕ) (l : List A) → position_from p k l ≡ None → All (λ a. p a ≡ false) l
   none_from k [] e = tt
   none_from k (a ∷ rest) e =
       by (p a)
       (λ y. let f : Some k ≡ None = rw y at e in absurd (none≢some (sym f)))
-      (λ n. (n, none_from (suc k) rest (rw n at e)))
+      (λ n. (n, none_from (k + 1) rest (rw n at e)))
 
   -- looked for from the start of the table: the first place, or none passes
-  pub first_is : (l : List A) {j : ℕ} → first_from p 0 l ≡ Some j → First p l j
-  first_is l {j} e = let f = first_at 0 l e in let z : f.i ≡ j = omega (arith, f.place) in rw z at f.first
+  pub first_is : (l : List A) {j : ℕ} → position p l ≡ Some j → First p l j
+  first_is l {j} e =
+      let f = first_at 0 l (sym (position_from-zero p l) ∙ e) in
+      let z : f.i ≡ j = omega (arith, f.place) in rw z at f.first
 
-  pub none_is : (l : List A) → first_from p 0 l ≡ None → All (λ a. p a ≡ false) l
-  none_is l e = none_from 0 l e
+  pub none_is : (l : List A) → position p l ≡ None → All (λ a. p a ≡ false) l
+  none_is l e = none_from 0 l (sym (position_from-zero p l) ∙ e)
+
+-- ---- a name that none bears, looked for
+
+module _ {N A : Type 0} (D : Naming N A) (n : N) where
+  none_found_from : (k : ℕ) (l : List A) → none_bears D n l ≡ is_none (position_from (bears D n) k l)
+  unfolding none_bears
+  none_found_from k [] = refl
+  none_found_from k (a ∷ rest) = by (bears D n a) (λ y. rw y) (λ e. rw e (none_found_from (k + 1) rest))
+
+  pub none_found : (l : List A) → none_bears D n l ≡ is_none (position (bears D n) l)
+  none_found l = none_found_from 0 l ∙ ap is_none (sym (position_from-zero (bears D n) l))
 
 -- ---- what f reads off the slots, looked at in their place
 
 module _ {A C : Type 0} (f : C → A) where
-  pub first_through : (p : A → Bool) (k : ℕ) (cs : List C) → first_from p k (map f cs) ≡ first_from (λ c. p (f c)) k cs
-  unfolding first_from
-  first_through p k [] = refl
-  first_through p k (c ∷ cs) = rw (first_through p (suc k) cs)
+  from_through : (p : A → Bool) (k : ℕ) (cs : List C) → position_from p k (map f cs) ≡ position_from (λ c. p (f c)) k cs
+  from_through p k [] = refl
+  from_through p k (c ∷ cs) = rw (from_through p (k + 1) cs)
+
+  pub position_through : (p : A → Bool) (cs : List C) → position p (map f cs) ≡ position (λ c. p (f c)) cs
+  position_through p cs = position_from-zero p (map f cs) ∙ from_through p 0 cs ∙ sym (position_from-zero (λ c. p (f c)) cs)
 
   module _ {N : Type 0} (D : Naming N A) where
     pub none_through : (n : N) (cs : List C) → none_bears D n (map f cs) ≡ none_bears (through D f) n cs
@@ -170,6 +119,15 @@ module _ {A C : Type 0} (f : C → A) where
     unfolding distinct
     distinct_through [] = refl
     distinct_through (c ∷ cs) = rw (none_through (D.name (f c)) cs, distinct_through cs)
+
+-- ---- an array that `map` made
+
+-- each call gave what f reads off the slot
+pub mapped : {F A C : Type 0} {g : Mut F (C × Unit {0}) A} {k : F} (f : C → A) (d : C) {cs : List C} {xs : List A} {n : ℕ}
+    → IsMapOf g k cs xs n → length cs ≡ n → ((p : F) (c : C) (x : A) (q : F) → Called g p (c, tt) x q → x ≡ f c) → xs ≡ map f cs
+mapped f d {cs} {xs} m e gives =
+    ext_get_or (f d) xs (map f cs) (omega (arith, m.long, length-map cs f))
+    (λ i h. let w = m.at i d (f d) (omega (arith, m.long)) in gives w.0 _ _ w.1 w.2 ∙ sym (get_or-map f cs i d))
 
 -- ---- what f reads off the first i slots is copied
 

@@ -1,13 +1,7 @@
 -- A table of slots as a node stores it: an array of one kind of subject, in which each slot is active or free. Which slot bears a name,
 -- whether names are distinct, and what each slot does; said once for every kind of subject.
-use Rattle.std.specs.Prelude.{Bool, true, not, cond, ◌&&◌, ◌||◌, List, [], ◌∷◌, ◌++◌, ℕ, zero, suc}
-use Rattle.std.specs.Prelude.{Option, None, Some}
+use Rattle.std.specs.Prelude.{Bool, true, not, cond, ◌&&◌, ◌||◌, List, [], ◌∷◌, ◌++◌, ℕ, zero, suc, Option, None, Some}
 use Rattle.history.specs.Table.{Handling}
-
--- The first place at which a test passes, where the list begins at place i.
-unfoldable pub first_from : {A : Type 0} → (A → Bool) → ℕ → List A → Option ℕ
-first_from p i [] = None
-first_from p i (a ∷ rest) = cond (p a) (Some i) (first_from p (suc i) rest)
 
 -- ---- names
 

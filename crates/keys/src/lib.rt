@@ -1,95 +1,66 @@
-// The names of a table's 16 slots: looked for, and told apart. A name here is a number, whatever the kind of subject: the one that a
-// subscriber's IMSI spells. (The names of contexts are two numbers, and stand in `context`.)
+// The names of a table's slots: looked for, and told apart, whatever a name is.
 //
 // No public function has a `requires`: each answers for every input.
 #![tactic(auto)]
 
-ghost use Rattle.std.specs.Prelude.{◌≡◌};
-ghost use Rattle.keys.specs.Slots.{is_free, bears, first_from, distinct};
-ghost use Rattle.keys.specs.Private.Clash.{clash};
+ghost use Rattle.std.specs.Prelude.{◌≡◌, not, ◌||◌, position};
+ghost use Rattle.history.specs.Slots.{none_bears};
+ghost use Rattle.keys.specs.Slots.{is_active, is_free, naming, bears, distinct};
 
-// What names a slot: its first field is 1 where it is active.
+// What names a slot.
 #[derive(Clone, Copy)]
-pub struct Slot {
+pub struct Slot<K> {
+    // 1 where a subject stands in it
     pub active: u8,
-    pub key: u64,
+    pub key: K,
 }
 
-// A place of the table.
-#[derive(Clone, Copy)]
-pub enum Found {
-    At(usize),
-    Nothing,
-}
+impl<K: PartialEq> Slot<K> {
+    fn is_active(&self) -> bool
+        ensures { result ≡ is_active self.now }
+    {
+        self.active == 1
+    }
 
-// Is a slot active, with this name?
-fn bears(key: u64, s: Slot) -> bool
-    ensures { result ≡ bears key s }
-{
-    (s.active == 1) & (key == s.key)
-}
+    // Is it active, with this name?
+    fn bears(&self, key: &K) -> bool
+        ensures { result ≡ bears K.eq key.now self.now }
+    {
+        self.is_active() && *key == self.key
+    }
 
-fn is_free(s: Slot) -> bool
-    ensures { result ≡ is_free s }
-{
-    s.active != 1
+    // Is it free, or does none of the others bear its name?
+    fn stands_alone(&self, others: &[Slot<K>]) -> bool
+        ensures { result ≡ (not (is_active self.now) || none_bears (naming K.eq) self.now.key others.now) }
+    {
+        !self.is_active() || find(others, &self.key).is_none()
+    }
 }
 
 // The slot of the active subject with this name.
-pub fn find(slots: [Slot; 16], key: u64) -> Found
-    ensures { result ≡ first_from (bears key) 0 slots }
+pub fn find<K: PartialEq>(slots: &[Slot<K>], key: &K) -> Option<usize>
+    ensures { result ≡ position (bears K.eq key.now) slots.now }
 {
-    let mut i: usize = 0;
-    while i < 16 {
-        let s = slots[i];
-        if bears(key, s) {
-            return Found::At(i);
-        }
-        i += 1;
-    }
-    Found::Nothing
+    slots.iter().position(|s| s.bears(key))
 }
 
 // The slot that the next subject fills.
-pub fn lowest_free(slots: [Slot; 16]) -> Found
-    ensures { result ≡ first_from is_free 0 slots }
+pub fn lowest_free<K: PartialEq>(slots: &[Slot<K>]) -> Option<usize>
+    ensures { result ≡ position is_free slots.now }
 {
-    let mut i: usize = 0;
-    while i < 16 {
-        let s = slots[i];
-        if is_free(s) {
-            return Found::At(i);
-        }
-        i += 1;
-    }
-    Found::Nothing
+    slots.iter().position(|s| !s.is_active())
 }
 
-// Has each active slot a name of its own? Each is compared with those after it. Both loops stand here, so that the array is not
-// handed on, and copied, for each slot.
-pub fn all_distinct(slots: [Slot; 16]) -> bool
-    ensures { result ≡ distinct slots }
+// Has each active slot a name of its own? Each is compared with those after it.
+pub fn all_distinct<K: PartialEq>(slots: &[Slot<K>]) -> bool
+    ensures { result ≡ distinct K.eq slots.now }
 {
-    let mut i: usize = 0;
-    while i < 16 {
-        let s = slots[i];
-        let mut j = i + 1;
-        while j < 16 {
-            let t = slots[j];
-            if clash(s, t) {
-                return false;
-            }
-            j += 1;
+    let mut rest = slots;
+    while let Some((s, after)) = rest.split_first() {
+        if !s.stands_alone(after) {
+            return false;
         }
-        i += 1;
+        rest = after;
     }
     true
-}
-
-// Are two slots active, with the same name?
-fn clash(s: Slot, t: Slot) -> bool
-    ensures { result ≡ clash s t }
-{
-    let same = bears(s.key, t);
-    (s.active == 1) & same
 }

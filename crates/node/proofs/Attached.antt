@@ -9,14 +9,11 @@ use lib.Dec.{eqb}
 use borrow.Author.Tests.{eqb-true, eqb-false, eq-eqb}
 use Rattle.history.specs.Lists.{All}
 use Rattle.history.specs.Slots.{Naming, bears, distinct}
-use Rattle.history.specs.Slots as S
 use Rattle.history.proofs.Lists.{all_map, all_both}
-use Rattle.history.proofs.Scans.{First, first_is, none_is, first_through, distinct_through, asks_all}
+use Rattle.history.proofs.Scans.{First, first_is, none_is, position_through, distinct_through, asks_all}
 use Rattle.history.proofs.Slots as T
-use Rattle.keys.specs.declared.Found.TheVariants.{At, Nothing}
+use Rattle.std.specs.Prelude.{None, Some, position}
 use Rattle.keys.specs.Slots as keys
-use Rattle.keys.specs.Slots.{is_active, is_free, first_from}
-use Rattle.keys.proofs.Scans.{found_at_lem, found_none}
 use Rattle.subscriber.specs.declared.Subscriber.{Subscriber}
 use Rattle.subscriber.specs.Subscriber.{name_of, slot_of, taken, no_subscriber}
 use Rattle.subscriber.specs.Sound.{slot_ok, slots_ok}
@@ -38,26 +35,21 @@ vacant s = not (taken s)
 pub exactly : (a b : ℕ) → (eqb a b ≡ true) ↔ (a ≡ b)
 exactly a b = (eqb-true a b, eq-eqb a b)
 
-pub apart : (ss : List Subscriber) → keys.distinct (map slot_of ss) ≡ distinct subscribers ss
-unfolding is_active
-apart ss = distinct_through slot_of keys.naming ss
+pub apart : (ss : List Subscriber) → keys.distinct eqb (map slot_of ss) ≡ distinct subscribers ss
+apart ss = distinct_through slot_of (keys.naming eqb) ss
 
 module _ (ss : List Subscriber) where
-  pub bearing_at : (k : ℕ) {i : ℕ} → first_from (keys.bears k) 0 (map slot_of ss) ≡ At i → First (bearing k) ss i
-  unfolding keys.bears is_active
-  bearing_at k e = first_is (bearing k) ss (sym (first_through slot_of (keys.bears k) 0 ss) ∙ found_at_lem (S.first_from (keys.bears k) 0 (map slot_of ss)) e)
+  pub bearing_at : (k : ℕ) {i : ℕ} → position (keys.bears eqb k) (map slot_of ss) ≡ Some i → First (bearing k) ss i
+  bearing_at k e = first_is (bearing k) ss (sym (position_through slot_of (keys.bears eqb k) ss) ∙ e)
 
-  pub none_bearing : (k : ℕ) → first_from (keys.bears k) 0 (map slot_of ss) ≡ Nothing → All (λ s. bearing k s ≡ false) ss
-  unfolding keys.bears is_active
-  none_bearing k e = none_is (bearing k) ss (sym (first_through slot_of (keys.bears k) 0 ss) ∙ found_none (S.first_from (keys.bears k) 0 (map slot_of ss)) e)
+  pub none_bearing : (k : ℕ) → position (keys.bears eqb k) (map slot_of ss) ≡ None → All (λ s. bearing k s ≡ false) ss
+  none_bearing k e = none_is (bearing k) ss (sym (position_through slot_of (keys.bears eqb k) ss) ∙ e)
 
-  pub vacant_at_lem : {i : ℕ} → first_from is_free 0 (map slot_of ss) ≡ At i → First vacant ss i
-  unfolding is_free is_active
-  vacant_at_lem e = first_is vacant ss (sym (first_through slot_of is_free 0 ss) ∙ found_at_lem (S.first_from is_free 0 (map slot_of ss)) e)
+  pub vacant_at_lem : {i : ℕ} → position keys.is_free (map slot_of ss) ≡ Some i → First vacant ss i
+  vacant_at_lem e = first_is vacant ss (sym (position_through slot_of keys.is_free ss) ∙ e)
 
-  pub none_vacant : first_from is_free 0 (map slot_of ss) ≡ Nothing → All (λ s. vacant s ≡ false) ss
-  unfolding is_free is_active
-  none_vacant e = none_is vacant ss (sym (first_through slot_of is_free 0 ss) ∙ found_none (S.first_from is_free 0 (map slot_of ss)) e)
+  pub none_vacant : position keys.is_free (map slot_of ss) ≡ None → All (λ s. vacant s ≡ false) ss
+  none_vacant e = none_is vacant ss (sym (position_through slot_of keys.is_free ss) ∙ e)
 
 -- ---- a free slot holds nobody
 

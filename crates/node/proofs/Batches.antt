@@ -4,6 +4,7 @@ use mathlib.Core.Bool.{Bool, true, false, ◌&&◌, ◌||◌}
 use mathlib.Core.List.{List, [], ◌∷◌, map}
 use Prim.Native.Nat.{ℕ, zero, suc, ◌+◌, ◌%◌, ◌^◌, ◌≤◌, ◌<◌}
 use native.Mathlib.Omega.{arith}
+use Rattle.std.specs.Prelude.{Option, None, Some, position}
 use lib.Dec.{leb, ltb, eqb}
 use lib.ListN.{length, get_or}
 use lib.Seq.{set-get_or}
@@ -17,10 +18,7 @@ use Rattle.event.specs.Rows.{first_fit}
 use Rattle.event.specs.Traffic.{traffic_event}
 use Rattle.event.proofs.Traffics.{traffic_said}
 use Rattle.context.specs.declared.Context.{Context}
-use Rattle.context.specs.declared.slots.Slot.{Slot}
-use Rattle.context.specs.declared.slots.Found.{Found}
-use Rattle.context.specs.declared.slots.Found.TheVariants as F
-use Rattle.context.specs.Slots.{slot_of, bears, first_from, distinct}
+use Rattle.context.specs.Slots.{slot_of, bears, distinct}
 use Rattle.context.specs.Sound.{slots_ok}
 use Rattle.context.proofs.Scans.{slots_ask}
 use Rattle.context.proofs.Sounds.{slot_active}
@@ -28,7 +26,7 @@ use Rattle.history.specs.Lists.{All}
 use Rattle.history.proofs.Lists.{all_at}
 use Rattle.history.proofs.Scans.{first_passes, first_below, asks_at}
 use Rattle.history.proofs.Slots.{neither}
-use Rattle.keys.specs.declared.Slot as N
+use Rattle.keys.specs.declared.Slot.{Slot}
 use Rattle.keys.specs.Slots as keys
 use Rattle.subscriber.specs.Subscriber.{slot_of as imsiSlot}
 use Rattle.subscriber.specs.Sound.{slots_ok as subscribersOk}
@@ -98,7 +96,7 @@ module _ (n : Node) (m : Name) (t : ℕ) (vs b : List ℕ) (h : Held n) (tl : Wo
     pub until : t ≤ latest
     pub since : n.clock ≤ t
     pub few : n.accepted < most_accepted
-    pub found : first_from (bears m) 0 (map slot_of n.contexts) ≡ F.At i
+    pub found : position (bears m) (map slot_of n.contexts) ≡ Some i
 
   abbrev pub Means : Reports → Type 0
   Means (Refuse j) = batch_of n m t vs b ≡ still j
@@ -137,9 +135,9 @@ module _ (n : Node) (m : Name) (t : ℕ) (vs b : List ℕ) (h : Held n) (tl : Wo
           many x = refused (λ i. omega arith) (λ u d k l. (task u d k l ok).done ∙ rw (y, x))
 
           module _ (x : leb most_accepted n.accepted ≡ false) where
-            looked : (f : Found) → first_from (bears m) 0 (map slot_of n.contexts) ≡ f → Means (tell_at f)
+            looked : (f : Option ℕ) → position (bears m) (map slot_of n.contexts) ≡ f → Means (tell_at f)
             unfolding timely_task task_of named_task done_by
-            looked (F.At i) q =
+            looked (Some i) q =
                 let v = neither (ltb latest t) (ltb t n.clock) y in
                 record {
                   sound = ok;
@@ -149,7 +147,7 @@ module _ (n : Node) (m : Name) (t : ℕ) (vs b : List ℕ) (h : Held n) (tl : Wo
                   few = leb-false most_accepted n.accepted x;
                   found = q;
                 }
-            looked F.Nothing q = refused (λ i. omega arith) (λ u d k l. (task u d k l ok).done ∙ rw (y, x, q))
+            looked None q = refused (λ i. omega arith) (λ u d k l. (task u d k l ok).done ∙ rw (y, x, q))
 
   pub means : (ok : Bool) → sound n ≡ ok → Means (reports_for ok n.clock n.accepted (map slot_of n.contexts) m t (length vs))
   unfolding reports_for first_pair
@@ -159,7 +157,7 @@ module _ (n : Node) (m : Name) (t : ℕ) (vs b : List ℕ) (h : Held n) (tl : Wo
       by (eqb (length vs) 0) (λ z. rw (o, z) (none e o (eqb-true (length vs) 0 z))) (λ z.
       by (ltb latest t || ltb t n.clock) (λ y. rw (o, z, y) (late e o z y)) (λ y.
       by (leb most_accepted n.accepted) (λ x. rw (o, z, y, x) (many e o z y x)) (λ x.
-      rw (o, z, y, x) (looked e o z y x (first_from (bears m) 0 (map slot_of n.contexts)) refl)))))
+      rw (o, z, y, x) (looked e o z y x (position (bears m) (map slot_of n.contexts)) refl)))))
 
 -- ---- the context that is told
 
@@ -234,10 +232,10 @@ module _ {n : Node} {m : Name} {t : ℕ} {vs b : List ℕ} {h : Held n} {tl : Wo
 -- ---- as the code finds it out
 
 pub means_by : (n : Node) (m : Name) (t : ℕ) (vs b : List ℕ) (h : Held n) (tl : Word t) (id : Word m.id) (ggsn : Word m.ggsn) (w : All Word vs)
-    {names : List Slot} {imsis : List N.Slot} {good fine ok : Bool} {k : Reports}
+    {names : List (Slot Name)} {imsis : List (Slot ℕ)} {good fine ok : Bool} {k : Reports}
     → (names ≡ map slot_of n.contexts) × (good ≡ slots_ok n.profile.sets n.profile.zone n.clock n.accepted n.contexts)
     → (imsis ≡ map imsiSlot n.subscribers) × (fine ≡ subscribersOk n.profile.zone n.clock n.accepted n.subscribers)
-    → ok ≡ (profile_ok n.profile && sets_ok n.profile.sets n.settings.sets && leb n.clock latest && leb n.accepted most_accepted && distinct names && good && keys.distinct imsis && fine)
+    → ok ≡ (profile_ok n.profile && sets_ok n.profile.sets n.settings.sets && leb n.clock latest && leb n.accepted most_accepted && distinct names && good && keys.distinct eqb imsis && fine)
     → k ≡ reports_for ok n.clock n.accepted names m t (length vs) → Means n m t vs b h tl id ggsn w k
 means_by n m t vs b h tl id ggsn w {ok = ok} looked noted e q =
     let s : sound n ≡ ok = is_sound n looked noted e in

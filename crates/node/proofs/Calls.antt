@@ -4,7 +4,7 @@ use mathlib.Core.Bool.{Bool, true, false, ◌&&◌}
 use mathlib.Core.List.{List, ◌++◌, map}
 use Prim.Native.Nat.{ℕ, ◌≤◌, ◌<◌}
 use native.Mathlib.Omega.{arith}
-use lib.Dec.{leb}
+use lib.Dec.{leb, eqb}
 use borrow.Author.Tests.{le-leb, lt-leb, le-ltb, lt-ltb}
 use Rattle.event.specs.declared.Event.{Event}
 use Rattle.std.specs.Prelude.{Ok, Err}
@@ -16,10 +16,10 @@ use Rattle.event.proofs.Saying.{none_fits, row_fits, numbered}
 use Rattle.event.proofs.Theorems.{heard}
 use Rattle.profile.specs.Profile.{profile_ok}
 use Rattle.limits.specs.Sets.{sets_ok}
-use Rattle.context.specs.declared.slots.Slot.{Slot}
+use Rattle.event.specs.declared.Name.{Name}
 use Rattle.context.specs.Sound.{slots_ok}
 use Rattle.context.specs.Slots.{slot_of, distinct}
-use Rattle.keys.specs.declared.Slot as named
+use Rattle.keys.specs.declared.Slot.{Slot}
 use Rattle.keys.specs.Slots as keys
 use Rattle.subscriber.specs.Subscriber.{slot_of as imsiSlot}
 use Rattle.subscriber.specs.Sound.{slots_ok as subscribersOk}
@@ -82,10 +82,10 @@ module _ (n : Node) (s b : List ℕ) where
         record { is = rw f (rw (h.time, h.event) at o.is) }
 
 -- the node's rules are those that the code tested
-pub is_sound : (n : Node) {names : List Slot} {imsis : List named.Slot} {good fine r : Bool}
+pub is_sound : (n : Node) {names : List (Slot Name)} {imsis : List (Slot ℕ)} {good fine r : Bool}
     → (names ≡ map slot_of n.contexts) × (good ≡ slots_ok n.profile.sets n.profile.zone n.clock n.accepted n.contexts)
     → (imsis ≡ map imsiSlot n.subscribers) × (fine ≡ subscribersOk n.profile.zone n.clock n.accepted n.subscribers)
-    → r ≡ (profile_ok n.profile && sets_ok n.profile.sets n.settings.sets && leb n.clock latest && leb n.accepted most_accepted && distinct names && good && keys.distinct imsis && fine)
+    → r ≡ (profile_ok n.profile && sets_ok n.profile.sets n.settings.sets && leb n.clock latest && leb n.accepted most_accepted && distinct names && good && keys.distinct eqb imsis && fine)
     → sound n ≡ r
 unfolding sound
 is_sound n e f k = rw (k, e.0, e.1, f.0, f.1)

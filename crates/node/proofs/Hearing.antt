@@ -36,7 +36,6 @@ use Rattle.node.proofs.Found.{contexts, named}
 -- ---- names are told apart
 
 pub same_name_lem : (a b : Name) → same_name a b ≡ true → a ≡ b
-unfolding same_name
 same_name_lem a b e =
     let w = both (eqb a.id b.id) (eqb a.ggsn b.ggsn) e in
     let x = eqb-true a.id b.id w.0 in
@@ -44,7 +43,6 @@ same_name_lem a b e =
     λ i. record { id = x i; ggsn = y i }
 
 pub same_exactly : (a b : Name) → (same_name a b ≡ true) ↔ (a ≡ b)
-unfolding same_name
 same_exactly a b = (
   (λ e. same_name_lem a b e),
   (λ e. rw (ap (λ (n : Name). n.id) e, ap (λ (n : Name). n.ggsn) e, eq-eqb b.id b.id refl, eq-eqb b.ggsn b.ggsn refl)),

@@ -25,14 +25,12 @@ use Rattle.event.specs.Sample.{activate, traffic, released}
 use Rattle.limits.specs.Limits.{limits_ok, blank_limits}
 use Rattle.limits.specs.Sets.{has_set, first_editions, set_ok, blank_set, used_ok, sets_ok, set_at, limits_of}
 use Rattle.profile.specs.Profile.{profile_ok}
-use Rattle.context.specs.Sound.{fields_ok as storedOk, closed_ok, context_ok, zero_ok, slot_ok, slots_ok}
-use Rattle.context.specs.Slots.{same_name, is_active, is_free, bears}
+use Rattle.context.specs.Sound.{fields_ok as storedOk, closed_ok, context_ok, zero_ok, slot_ok}
 use Rattle.history.specs.Slots.{none_bears, distinct}
 use Rattle.history.specs.Table.{not_active, is_active as wasActive, all_taken}
-use Rattle.keys.specs.Slots as keys
 use Rattle.mcdr.specs.Change.{same_place}
 use Rattle.mcdr.specs.Changes.{no_changes, is_blank as isUnused, blanks as allUnused}
-use Rattle.subscriber.specs.Sound.{zero_ok as nobodyOk, slot_ok as place_ok, slots_ok as placesOk}
+use Rattle.subscriber.specs.Sound.{zero_ok as nobodyOk, slot_ok as place_ok}
 use Rattle.subscriber.specs.Tell.{octets_of as mmOctetsOf}
 use Rattle.node.specs.Hear.{reported, qos_after, change_of, limit_met, closing, number_for, record_of, goes_on, closed_by, after_closing, hear_with, hear}
 use Rattle.node.specs.Sound.{sound}
@@ -59,9 +57,9 @@ unfolding int_enc lowest len_enc tlv_enc halves leading all_f imsi_ok imsi_enc m
     is_new told each_ok one_offset no_containers is_blank blanks midway times_to qos_run open_ok volume_of is_apn lowered lower all_of apn_char node_char apn_ok node_ok
     release releases last_time duration body fill_to of_record fields_of inside scdr printed spelt octets_from number_in kinds kind_in whole_of activate_ok fields_ok
     first_fit marked known measured event_of activate traffic released limits_ok blank_limits has_set first_editions set_ok blank_set used_ok sets_ok set_at limits_of profile_ok unknown_set other_edition settled_by storedOk unused_ok closed_ok count_ok containers_ok
-    volume_ok sound_open blank_open context_ok zero_ok slot_ok slots_ok same_name is_active is_free bears none_bears distinct reported qos_after change_of limit_met closing
+    volume_ok sound_open blank_open context_ok zero_ok slot_ok none_bears distinct reported qos_after change_of limit_met closing
     number_for record_of goes_on closed_by after_closing hear_with hear sound activated marked_octets octets_of node_after records_of
-    mm_records_of mmOctetsOf no_changes same_place isUnused allUnused nobodyOk place_ok placesOk keys.is_active
+    mm_records_of mmOctetsOf no_changes same_place isUnused allUnused nobodyOk place_ok
     output not_active wasActive all_taken refusals outcome step_of answers containers container qos
 one_session = refl
 
@@ -73,8 +71,8 @@ unfolding first second third int_enc lowest len_enc tlv_enc halves leading all_f
     same_qos container_ok is_new told each_ok one_offset no_containers is_blank blanks midway times_to qos_run open_ok volume_of is_apn lowered lower all_of apn_char node_char
     apn_ok node_ok release releases last_time duration body fill_to of_record fields_of inside scdr spelt octets_from number_in kinds kind_in whole_of activate_ok
     fields_ok first_fit marked known measured event_of activate traffic limits_ok blank_limits has_set first_editions set_ok blank_set used_ok sets_ok set_at limits_of profile_ok unknown_set other_edition settled_by storedOk unused_ok closed_ok count_ok containers_ok
-    volume_ok sound_open blank_open context_ok zero_ok slot_ok slots_ok same_name is_active is_free bears none_bears distinct reported qos_after change_of limit_met closing
+    volume_ok sound_open blank_open context_ok zero_ok slot_ok none_bears distinct reported qos_after change_of limit_met closing
     number_for record_of goes_on closed_by after_closing hear_with hear sound activated marked_octets octets_of node_after records_of
-    mm_records_of mmOctetsOf no_changes same_place isUnused allUnused nobodyOk place_ok placesOk keys.is_active
+    mm_records_of mmOctetsOf no_changes same_place isUnused allUnused nobodyOk place_ok
     output not_active wasActive all_taken refusals outcome step_of answers containers container qos
 other_session = refl

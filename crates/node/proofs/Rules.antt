@@ -2,7 +2,7 @@
 use mathlib.Core.Path.{◌≡◌}
 use mathlib.Core.Bool.{true, ◌&&◌}
 use mathlib.Core.List.{map}
-use lib.Dec.{leb}
+use lib.Dec.{leb, eqb}
 use Rattle.format.proofs.Tests.{both}
 use Rattle.profile.specs.Profile.{profile_ok}
 use Rattle.limits.specs.Sets.{sets_ok}
@@ -19,7 +19,7 @@ pub record Rules (n : Node) : Type 0 where
   pub sets : sets_ok n.profile.sets n.settings.sets ≡ true
   pub names : distinct (map slot_of n.contexts) ≡ true
   pub slots : slots_ok n.profile.sets n.profile.zone n.clock n.accepted n.contexts ≡ true
-  pub imsis : named.distinct (map imsiSlot n.subscribers) ≡ true
+  pub imsis : named.distinct eqb (map imsiSlot n.subscribers) ≡ true
   pub places : subscribersOk n.profile.zone n.clock n.accepted n.subscribers ≡ true
 
 pub rules : (n : Node) → sound n ≡ true → Rules n
@@ -31,7 +31,7 @@ rules n s =
     let c = leb n.accepted most_accepted in
     let d = distinct (map slot_of n.contexts) in
     let e = slots_ok n.profile.sets n.profile.zone n.clock n.accepted n.contexts in
-    let f = named.distinct (map imsiSlot n.subscribers) in
+    let f = named.distinct eqb (map imsiSlot n.subscribers) in
     let u = both (a && b && c && d && e && f) (subscribersOk n.profile.zone n.clock n.accepted n.subscribers) s in
     let v = both (a && b && c && d && e) f u.0 in
     let w = both (a && b && c && d) e v.0 in

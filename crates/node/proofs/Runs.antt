@@ -2,6 +2,7 @@
 use mathlib.Core.Path.{◌≡◌, refl, sym, ◌∙◌}
 use mathlib.Core.Bool.{true, false}
 use mathlib.Core.List.{List, [], ◌∷◌, map}
+use lib.Dec.{eqb}
 use Prim.Native.Nat.{ℕ, zero, suc}
 use lib.ListN.{replicate, length-replicate}
 use Rattle.limits.specs.Sets.{first_editions, sets_ok}
@@ -12,7 +13,7 @@ use Rattle.event.specs.declared.Name.{Name}
 use Rattle.event.specs.Fields.{time_of}
 use Rattle.context.specs.Context.{no_context}
 use Rattle.context.specs.Sound.{slots_ok}
-use Rattle.context.specs.Slots.{slot_of, is_active, distinct}
+use Rattle.context.specs.Slots.{slot_of, distinct}
 use Rattle.history.specs.Slots as S
 use Rattle.history.specs.Lists.{All}
 use Rattle.keys.specs.Slots as keys
@@ -39,23 +40,21 @@ use Rattle.node.proofs.BatchKept.{batch_kept, batch_not_13}
 
 module _ (l z clock accepted : ℕ) where
   free_slots : (k : ℕ) → slots_ok l z clock accepted (replicate k no_context) ≡ true
-  unfolding slots_ok
   free_slots zero = refl
   free_slots (suc k) = rw (nothing_ok l z clock accepted, free_slots k)
 
 free_distinct : (k : ℕ) → distinct (map slot_of (replicate k no_context)) ≡ true
-unfolding S.distinct is_active
+unfolding S.distinct
 free_distinct zero = refl
 free_distinct (suc k) = rw (free_distinct k)
 
 -- the same of subscribers
 nobody : (zone clock accepted k : ℕ) → subscribersOk zone clock accepted (replicate k no_subscriber) ≡ true
-unfolding subscribersOk
 nobody zone clock accepted zero = refl
 nobody zone clock accepted (suc k) = rw (blank_ok zone clock accepted, nobody zone clock accepted k)
 
-nobody_distinct : (k : ℕ) → keys.distinct (map imsiSlot (replicate k no_subscriber)) ≡ true
-unfolding S.distinct keys.is_active
+nobody_distinct : (k : ℕ) → keys.distinct eqb (map imsiSlot (replicate k no_subscriber)) ≡ true
+unfolding S.distinct
 nobody_distinct zero = refl
 nobody_distinct (suc k) = rw (nobody_distinct k)
 

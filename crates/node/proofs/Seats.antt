@@ -2,7 +2,7 @@
 use mathlib.Core.Path.{◌≡◌, refl, sym, ap, ◌∙◌}
 use mathlib.Core.Bool.{true, cond}
 use mathlib.Core.List.{List, map}
-use Rattle.std.specs.Prelude.{Option, None, Some}
+use Rattle.std.specs.Prelude.{Option, None, Some, position}
 use Prim.Native.Nat.{ℕ, ◌+◌, ◌^◌, ◌≤◌, ◌<◌}
 use native.Mathlib.Omega.{arith}
 use lib.Dec.{leb, eqb}
@@ -18,8 +18,7 @@ use Rattle.event.specs.Traffic.{traffic_event}
 use Rattle.event.proofs.Traffics.{traffic_said}
 use Rattle.profile.specs.declared.Profile.{Profile}
 use Rattle.context.specs.declared.Context.{Context}
-use Rattle.context.specs.declared.slots.Found.TheVariants.{At}
-use Rattle.context.specs.Slots.{slot_of, bears, first_from}
+use Rattle.context.specs.Slots.{slot_of, bears}
 use Rattle.node.specs.declared.Node.{Node}
 use Rattle.node.specs.declared.Message.{Message}
 use Rattle.node.specs.declared.Settings.{Settings}
@@ -56,7 +55,7 @@ module _ (p : Profile) (gs : Settings) (t up down : ℕ) (c : Context) where
 -- ---- one report
 
 module _ (n : Node) (i t : ℕ) (d : Context) (m : Name) (until : t ≤ latest) (id : m.id < 256 ^ 4) (ggsn : m.ggsn < 256 ^ 4) (size : i < length n.contexts)
-    (found : first_from (bears m) 0 (map slot_of n.contexts) ≡ At i) where
+    (found : position (bears m) (map slot_of n.contexts) ≡ Some i) where
   abbrev N : Seat → Node
   N s = seated n i s
 

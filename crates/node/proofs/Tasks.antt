@@ -2,7 +2,7 @@
 use mathlib.Core.Path.{◌≡◌, refl, sym, ap, ◌∙◌}
 use mathlib.Core.Bool.{Bool, true, false, cond, ◌&&◌}
 use mathlib.Core.List.{List, [], ◌∷◌, ◌++◌, map}
-use Rattle.std.specs.Prelude.{None, Some}
+use Rattle.std.specs.Prelude.{Option, None, Some, position}
 use Prim.Native.Nat.{ℕ, zero, suc, ◌+◌, ◌≤◌, ◌<◌}
 use native.Mathlib.Omega.{arith}
 use lib.Dec.{leb, eqb}
@@ -24,19 +24,14 @@ use Rattle.event.specs.Private.Activated.{Activated}
 use Rattle.event.specs.Fields.{subscriber_imsi}
 use Rattle.event.proofs.Theorems.{activated as activate-in, attached as attach-in}
 use Rattle.context.specs.declared.Context.{Context}
-use Rattle.context.specs.declared.slots.Slot.{Slot}
-use Rattle.context.specs.declared.slots.Found.{Found}
-use Rattle.context.specs.declared.slots.Found.TheVariants.{At, Nothing}
 use Rattle.context.specs.Sound.{slots_ok}
-use Rattle.context.specs.Slots.{slot_of, is_free, bears, first_from, distinct}
+use Rattle.context.specs.Slots.{slot_of, bears, distinct}
 use Rattle.history.specs.Slots.{across, along}
 use Rattle.history.proofs.Scans.{first_below}
 use Rattle.history.proofs.Ranges.{across_one, along_one}
 use Rattle.history.specs.Log.{activates, tells, tells_all}
 use Rattle.mcdr.specs.declared.Place.{Place}
-use Rattle.keys.specs.declared.Slot as N
-use Rattle.keys.specs.declared.Found as G
-use Rattle.keys.specs.declared.Found.TheVariants as F
+use Rattle.keys.specs.declared.Slot.{Slot}
 use Rattle.keys.specs.Slots as keys
 use Rattle.subscriber.specs.declared.Subscriber.{Subscriber}
 use Rattle.subscriber.specs.declared.Notice.{Notice}
@@ -167,23 +162,23 @@ module _ (n : Node) (s b : List ℕ) (z : Held n) where
   refused_task w = record { done = sym w.is; fit = tt }
 
   module _ (t : ℕ) (so : Sounding n t) where
-    abbrev names : List Slot
+    abbrev names : List (Slot Name)
     names = map slot_of n.contexts
 
-    abbrev imsis : List N.Slot
+    abbrev imsis : List (Slot ℕ)
     imsis = map imsiSlot n.subscribers
 
     module _ (w : Words)
         (conv : (b' : List ℕ) (a k : ℕ) (r : Node) → Outs (table_rows n t w b) n t w b b' a r k → Steps n s b b' a r k) where
-      tell_task : (m : Name) (h : Message) → w ≡ to_contexts None (tells m h) → (f : Found) → first_from (bears m) 0 names ≡ f → Tasked n s b (one_at t h f)
+      tell_task : (m : Name) (h : Message) → w ≡ to_contexts None (tells m h) → (f : Option ℕ) → position (bears m) names ≡ f → Tasked n s b (one_at t h f)
       unfolding done_by
-      tell_task m h e (At i) q =
+      tell_task m h e (Some i) q =
           let f = named_at n.contexts m q in
           let r = served_of n i (i + 1) t h b in
           let v : Serves n i (i + 1) t h b r.1.1.1 r.0 r.1.0 r.1.1.0 = record { is = refl } in
           let o : Outs (table_rows n t w b) n t w b r.1.1.1 r.0 r.1.0 r.1.1.0 = rw e (outs_tell n t b so z m h f v) in
           record { done = sym (conv _ _ _ _ o).is; fit = (omega (arith, first_below f, z.size), so) }
-      tell_task m h e Nothing q = refused_task (conv _ _ _ _ (rw e (outs_8 n t b m refl refl h (none_named n.contexts m q) refl)))
+      tell_task m h e None q = refused_task (conv _ _ _ _ (rw e (outs_8 n t b m refl refl h (none_named n.contexts m q) refl)))
 
       all_task : (h : Message) → w ≡ to_contexts None (tells_all h) → Tasked n s b (K.All t h)
       unfolding done_by
@@ -194,44 +189,44 @@ module _ (n : Node) (s b : List ℕ) (z : Held n) where
           record { done = sym (conv _ _ _ _ o).is; fit = so }
 
       open_task_lem : (a : Activation) → w ≡ to_contexts (Some a.set) (activates a.name (λ g. brought_by g a s)) → has_set n.profile.sets a.set ≡ true → Activated s a
-          → (f g : Found) → first_from (bears a.name) 0 names ≡ f
-          → first_from is_free 0 names ≡ g
+          → (f g : Option ℕ) → position (bears a.name) names ≡ f
+          → position keys.is_free names ≡ g
           → Tasked n s b (open_at t a f g)
       unfolding done_by
-      open_task_lem a e have x (At i) g q r =
+      open_task_lem a e have x (Some i) g q r =
           refused_task (conv _ _ _ _ (rw e (outs_9 n t b a.name refl refl (λ g. brought_by g a s) a.set have (named_at n.contexts a.name q) refl)))
-      open_task_lem a e have x Nothing (At i) q r =
+      open_task_lem a e have x None (Some i) q r =
           let f = free_at_lem n.contexts r in
           let new = activated n.profile t a.name (brought_by n.settings a s) in
           let o = outs_activate n t b so z a.name (λ g. brought_by g a s) a.set have (none_named n.contexts a.name q) f {c = new} refl refl refl refl in
           record { done = sym (conv _ _ _ _ (rw e o)).is; fit = (omega (arith, first_below f, z.size), (so, x)) }
-      open_task_lem a e have x Nothing Nothing q r =
+      open_task_lem a e have x None None q r =
           refused_task (conv _ _ _ _ (rw e
           (outs_10 n t b a.name refl refl (λ g. brought_by g a s) a.set have (none_named n.contexts a.name q) (all_taken_lem n.contexts r) refl)))
 
       unknown_task : (j : ℕ) → w.set ≡ Some j → has_set n.profile.sets j ≡ false → Tasked n s b (K.Refuse 18)
       unknown_task j e have = refused_task (conv _ _ _ _ (outs_18 n t w b j e have))
 
-      notify_task_lem : (k : ℕ) (m : Notice) → w ≡ to_subscribers (tells k m) → notice_ok m ≡ true → (f : G.Found) → keys.first_from (keys.bears k) 0 imsis ≡ f
+      notify_task_lem : (k : ℕ) (m : Notice) → w ≡ to_subscribers (tells k m) → notice_ok m ≡ true → (f : Option ℕ) → position (keys.bears eqb k) imsis ≡ f
           → Tasked n s b (notify_at t m f)
       unfolding done_by
-      notify_task_lem k m e right (F.At i) q =
+      notify_task_lem k m e right (Some i) q =
           let f = bearing_at n.subscribers k q in
           let r = notified_of n i t m b in
           let o : Outs (table_rows n t w b) n t w b r.1.1.1 r.0 r.1.0 r.1.1.0 = rw e (outs_notify n t b so z k m right f r refl) in
           record { done = sym (conv _ _ _ _ o).is; fit = (omega (arith, first_below f, z.places), so) }
-      notify_task_lem k m e right F.Nothing q = refused_task (conv _ _ _ _ (rw e (outs_16 n t b k m (none_bearing n.subscribers k q))))
+      notify_task_lem k m e right None q = refused_task (conv _ _ _ _ (rw e (outs_16 n t b k m (none_bearing n.subscribers k q))))
 
       attach_task_lem : (k : ℕ) (q : Place) → w ≡ to_subscribers (activates k (λ g. record { imsi = subscriber_imsi s; place = q })) → length s ≡ 18
-          → (f g : G.Found) → keys.first_from (keys.bears k) 0 imsis ≡ f → keys.first_from keys.is_free 0 imsis ≡ g → Tasked n s b (attach_at t q f g)
+          → (f g : Option ℕ) → position (keys.bears eqb k) imsis ≡ f → position keys.is_free imsis ≡ g → Tasked n s b (attach_at t q f g)
       unfolding done_by
-      attach_task_lem k q e x (F.At i) g y r =
+      attach_task_lem k q e x (Some i) g y r =
           refused_task (conv _ _ _ _ (rw e (outs_15 n t b k (λ g. record { imsi = subscriber_imsi s; place = q }) (bearing_at n.subscribers k y))))
-      attach_task_lem k q e x F.Nothing (F.At i) y r =
+      attach_task_lem k q e x None (Some i) y r =
           let f = vacant_at_lem n.subscribers r in
           let o = outs_attach n t b so z k (λ g. record { imsi = subscriber_imsi s; place = q }) (none_bearing n.subscribers k y) f in
           record { done = sym (conv _ _ _ _ (rw e o)).is; fit = (omega (arith, first_below f, z.places), (so, x)) }
-      attach_task_lem k q e x F.Nothing F.Nothing y r =
+      attach_task_lem k q e x None None y r =
           refused_task (conv _ _ _ _ (rw e
           (outs_17 n t b k (λ g. record { imsi = subscriber_imsi s; place = q }) (none_bearing n.subscribers k y) (none_vacant n.subscribers r))))
 
@@ -263,13 +258,13 @@ module _ (n : Node) (s b : List ℕ) (z : Held n) where
           go (W.Opens a) x conv =
               by (has_set n.profile.sets a.set)
               (λ have. rw have
-              (open_task_lem (saying (W.Opens a) s) conv a refl have x (first_from (bears a.name) 0 names) (first_from is_free 0 names) refl refl))
+              (open_task_lem (saying (W.Opens a) s) conv a refl have x (position (bears a.name) names) (position keys.is_free names) refl refl))
               (λ have. rw have (unknown_task (saying (W.Opens a) s) conv a.set refl have))
-          go (W.Tells m h) x conv = tell_task (saying (W.Tells m h) s) conv m h refl (first_from (bears m) 0 names) refl
+          go (W.Tells m h) x conv = tell_task (saying (W.Tells m h) s) conv m h refl (position (bears m) names) refl
           go (W.TellsAll h) x conv = all_task (saying (W.TellsAll h) s) conv h refl
           go (W.Attaches k q) x conv =
-              attach_task_lem (saying (W.Attaches k q) s) conv k q refl x (keys.first_from (keys.bears k) 0 imsis) (keys.first_from keys.is_free 0 imsis) refl refl
-          go (W.Notifies k m) x conv = notify_task_lem (saying (W.Notifies k m) s) conv k m refl x (keys.first_from (keys.bears k) 0 imsis) refl
+              attach_task_lem (saying (W.Attaches k q) s) conv k q refl x (position (keys.bears eqb k) imsis) (position keys.is_free imsis) refl refl
+          go (W.Notifies k m) x conv = notify_task_lem (saying (W.Notifies k m) s) conv k m refl x (position (keys.bears eqb k) imsis) refl
           go (W.Replaces r) x conv = replace_task_lem r conv
 
   module _ (ok : sound n ≡ true) (t : ℕ) (e : Event) (q : decoded s ≡ Ok (t, e)) where
@@ -302,10 +297,10 @@ module _ (n : Node) (s b : List ℕ) (z : Held n) where
   tasked true e = said_task e (decoded s) refl
 
 -- as the code finds it out
-pub tasked_by : (n : Node) (s b : List ℕ) → Held n → {names : List Slot} {imsis : List N.Slot} {good fine ok : Bool} {k : Task}
+pub tasked_by : (n : Node) (s b : List ℕ) → Held n → {names : List (Slot Name)} {imsis : List (Slot ℕ)} {good fine ok : Bool} {k : Task}
     → (names ≡ map slot_of n.contexts) × (good ≡ slots_ok n.profile.sets n.profile.zone n.clock n.accepted n.contexts)
     → (imsis ≡ map imsiSlot n.subscribers) × (fine ≡ subscribersOk n.profile.zone n.clock n.accepted n.subscribers)
-    → ok ≡ (profile_ok n.profile && sets_ok n.profile.sets n.settings.sets && leb n.clock latest && leb n.accepted most_accepted && distinct names && good && keys.distinct imsis && fine)
+    → ok ≡ (profile_ok n.profile && sets_ok n.profile.sets n.settings.sets && leb n.clock latest && leb n.accepted most_accepted && distinct names && good && keys.distinct eqb imsis && fine)
     → k ≡ task_for ok n.profile.sets n.settings n.clock n.accepted names imsis (decoded s) → Tasked n s b k
 tasked_by n s b z {ok = ok} looked noted e q =
     let w : sound n ≡ ok = is_sound n looked noted e in

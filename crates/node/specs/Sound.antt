@@ -1,5 +1,5 @@
 -- "A sound node" (01), and a fresh one.
-use Rattle.std.specs.Prelude.{◌≡◌, Bool, cond, ◌&&◌, map, ℕ, ◌^◌, leb, replicate}
+use Rattle.std.specs.Prelude.{◌≡◌, Bool, cond, ◌&&◌, map, ℕ, ◌^◌, eqb, leb, replicate}
 use Rattle.profile.specs.declared.Profile.{Profile}
 use Rattle.profile.specs.Profile.{profile_ok, no_profile}
 use Rattle.limits.specs.Sets.{first_editions, sets_ok}
@@ -29,7 +29,7 @@ sound n =
     && leb n.accepted most_accepted
     && distinct (map slot_of n.contexts)
     && slots_ok n.profile.sets n.profile.zone n.clock n.accepted n.contexts
-    && named.distinct (map imsiSlot n.subscribers)
+    && named.distinct eqb (map imsiSlot n.subscribers)
     && subscribersOk n.profile.zone n.clock n.accepted n.subscribers
 
 -- "Fresh node: clock 0, no contexts, no accepted events", no subscribers, and the profile's sets of limits, each with edition 1 (02, W6)

@@ -7,8 +7,9 @@ ghost use Rattle.node.specs.Private.Pairs.{first_pair, reports_for, moved};
 use crate::pairs::Told;
 use crate::{Node, pairs, sound};
 use context::slots;
-use context::slots::{Found, Slot};
 use event::Name;
+use keys::Slot;
+use subscriber::name;
 
 // The answer, how many pairs were applied, the node, and how many octets were written.
 #[derive(Clone, Copy)]
@@ -31,8 +32,8 @@ pub enum Reports {
 }
 
 // 6, 7 and 8 of the first pair. The time and the name are those of every pair, so no later one is refused with 6 or 8.
-fn first_pair(clock: u32, accepted: u64, names: [Slot; 16], name: Name, t: u32) -> Reports
-    ensures { result ≡ first_pair clock accepted names name t }
+fn first_pair(clock: u32, accepted: u64, names: &[Slot<Name>], name: Name, t: u32) -> Reports
+    ensures { result ≡ first_pair clock accepted names.now name t }
 {
     if 3155759999 < t {
         return Reports::Refuse(6);
@@ -43,10 +44,9 @@ fn first_pair(clock: u32, accepted: u64, names: [Slot; 16], name: Name, t: u32) 
     if 1000000000000000 <= accepted {
         return Reports::Refuse(7);
     }
-    let found = slots::find(names, name);
-    match found {
-        Found::At(i) => Reports::Tell(i),
-        Found::Nothing => Reports::Refuse(8),
+    match keys::find(names, &name) {
+        Some(i) => Reports::Tell(i),
+        None => Reports::Refuse(8),
     }
 }
 
@@ -55,12 +55,12 @@ fn reports_for(
     sound: bool,
     clock: u32,
     accepted: u64,
-    names: [Slot; 16],
+    names: &[Slot<Name>],
     name: Name,
     t: u32,
     count: usize,
 ) -> Reports
-    ensures { result ≡ reports_for sound clock accepted names name t count }
+    ensures { result ≡ reports_for sound clock accepted names.now name t count }
 {
     if !sound {
         return Reports::Refuse(13);
@@ -127,44 +127,30 @@ pub fn batch(node: Node, id: u32, ggsn: u32, t: u32, volumes: &[u32], out: &mut 
 {
     let p = node.profile;
     let g = node.settings;
+    let clock = node.clock;
+    let accepted = node.accepted;
     let none = Slot {
         active: 0,
-        name: Name { id: 0, ggsn: 0 },
+        key: Name { id: 0, ggsn: 0 },
     };
     let mut names = [none; 16];
     let mut good = true;
-    let nobody = keys::Slot { active: 0, key: 0 };
+    let nobody = Slot { active: 0, key: 0 };
     let mut imsis = [nobody; 16];
     let mut fine = true;
     let mut i: usize = 0;
     while i < 16 {
-        let c = node.contexts[i];
-        good = good & context::sound::slot_ok(p.sets, p.zone, node.clock, node.accepted, c);
-        let name = c.name;
-        names[i] = Slot {
-            active: c.active,
-            name,
-        };
-        let s = node.subscribers[i];
-        fine = fine & subscriber::sound::slot_ok(p.zone, node.clock, node.accepted, s);
-        let imsi = s.imsi;
-        imsis[i] = keys::Slot {
-            active: s.active,
-            key: subscriber::name::name_of(imsi),
-        };
+        let c = &node.contexts[i];
+        good = good & context::sound::slot_ok(p.sets, p.zone, clock, accepted, c);
+        names[i] = slots::slot_of(c);
+        let s = &node.subscribers[i];
+        fine = fine & subscriber::sound::slot_ok(p.zone, clock, accepted, s);
+        imsis[i] = name::slot_of(s);
         i += 1;
     }
-    let sound = sound::keeps_rules(p, g, node.clock, node.accepted, names, good, imsis, fine);
+    let sound = sound::keeps_rules(p, g, clock, accepted, &names, good, &imsis, fine);
     let name = Name { id, ggsn };
-    let k = reports_for(
-        sound,
-        node.clock,
-        node.accepted,
-        names,
-        name,
-        t,
-        volumes.len(),
-    );
+    let k = reports_for(sound, clock, accepted, &names, name, t, volumes.len());
     match k {
         Reports::Refuse(answer) => unmoved(node, answer),
         Reports::Nothing => unmoved(node, 0),

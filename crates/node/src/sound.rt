@@ -1,5 +1,5 @@
 // A sound node, and a fresh one.
-ghost use Rattle.std.specs.Prelude.{◌≡◌, ◌&&◌, leb};
+ghost use Rattle.std.specs.Prelude.{◌≡◌, ◌&&◌, eqb, leb};
 ghost use Rattle.profile.specs.Profile.{profile_ok};
 ghost use Rattle.limits.specs.Sets.{sets_ok};
 ghost use Rattle.context.specs.Slots.{distinct};
@@ -7,8 +7,9 @@ ghost use Rattle.keys.specs.Slots as named;
 ghost use Rattle.node.specs.Sound.{sound, latest, most_accepted, fresh_node, no_node, Makes};
 
 use crate::{Node, Settings};
-use context::slots::Slot;
 use context::{slots, sound};
+use event::Name;
+use keys::Slot;
 use limits::sets;
 use profile::Profile;
 
@@ -19,18 +20,18 @@ pub fn keeps_rules(
     g: Settings,
     clock: u32,
     accepted: u64,
-    names: [Slot; 16],
+    names: &[Slot<Name>],
     contexts: bool,
-    imsis: [keys::Slot; 16],
+    imsis: &[Slot<u64>],
     subscribers: bool,
 ) -> bool
-    ensures { result ≡ (profile_ok p && sets_ok p.sets g.sets && leb clock latest && leb accepted most_accepted && distinct names && contexts
-        && named.distinct imsis && subscribers) }
+    ensures { result ≡ (profile_ok p && sets_ok p.sets g.sets && leb clock latest && leb accepted most_accepted && distinct names.now && contexts
+        && named.distinct eqb imsis.now && subscribers) }
 {
     let sets = g.sets;
     let a = profile::profile_ok(p);
     let s = sets::sets_ok(sets, p.sets);
-    let b = slots::all_distinct(names);
+    let b = keys::all_distinct(names);
     let c = keys::all_distinct(imsis);
     a & s & (clock <= 3155759999) & (accepted <= 1000000000000000) & b & contexts & c & subscribers
 }
@@ -41,20 +42,23 @@ pub fn is_sound(node: Node) -> bool
 {
     let p = node.profile;
     let g = node.settings;
-    let cs = node.contexts;
-    let names = slots::slots_of(cs);
-    let contexts = sound::slots_ok(p.sets, p.zone, node.clock, node.accepted, cs);
-    let ss = node.subscribers;
-    let imsis = subscriber::name::slots_of(ss);
-    let subscribers = subscriber::sound::slots_ok(p.zone, node.clock, node.accepted, ss);
+    let names = slots::slots_of(&node.contexts);
+    let contexts = sound::slots_ok(p.sets, p.zone, node.clock, node.accepted, &node.contexts);
+    let imsis = subscriber::name::slots_of(&node.subscribers);
+    let subscribers = subscriber::sound::slots_ok(
+        p.zone,
+        node.clock,
+        node.accepted,
+        &node.subscribers,
+    );
     keeps_rules(
         p,
         g,
         node.clock,
         node.accepted,
-        names,
+        &names,
         contexts,
-        imsis,
+        &imsis,
         subscribers,
     )
 }

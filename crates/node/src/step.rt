@@ -13,15 +13,15 @@ use crate::task::Task;
 use crate::{Message, Node, Settings, emit, sound, table, task};
 use calendar::Stamp;
 use container::open;
-use context::Context;
-use context::slots::Slot;
+use context::{Context, slots};
 use event::{Activation, Name, Replacement};
+use keys::Slot;
 use limits::sets;
 use mcdr::Place;
 use octets::names;
 use profile::Profile;
 use subscriber::tell::Told;
-use subscriber::{hear, tell};
+use subscriber::{hear, name, tell};
 
 // The answer, the node, and how many octets were written.
 #[derive(Clone, Copy)]
@@ -222,44 +222,29 @@ pub fn step(node: Node, event: &[u8], out: &mut [u8]) -> Stepped
 {
     let p = node.profile;
     let g = node.settings;
+    let clock = node.clock;
+    let accepted = node.accepted;
     let none = Slot {
         active: 0,
-        name: Name { id: 0, ggsn: 0 },
+        key: Name { id: 0, ggsn: 0 },
     };
     let mut names = [none; 16];
     let mut good = true;
-    let nobody = keys::Slot { active: 0, key: 0 };
+    let nobody = Slot { active: 0, key: 0 };
     let mut imsis = [nobody; 16];
     let mut fine = true;
     let mut i: usize = 0;
     while i < 16 {
-        let c = node.contexts[i];
-        good = good & context::sound::slot_ok(p.sets, p.zone, node.clock, node.accepted, c);
-        let name = c.name;
-        names[i] = Slot {
-            active: c.active,
-            name,
-        };
-        let s = node.subscribers[i];
-        fine = fine & subscriber::sound::slot_ok(p.zone, node.clock, node.accepted, s);
-        let imsi = s.imsi;
-        imsis[i] = keys::Slot {
-            active: s.active,
-            key: subscriber::name::name_of(imsi),
-        };
+        let c = &node.contexts[i];
+        good = good & context::sound::slot_ok(p.sets, p.zone, clock, accepted, c);
+        names[i] = slots::slot_of(c);
+        let s = &node.subscribers[i];
+        fine = fine & subscriber::sound::slot_ok(p.zone, clock, accepted, s);
+        imsis[i] = name::slot_of(s);
         i += 1;
     }
-    let sound = sound::keeps_rules(p, g, node.clock, node.accepted, names, good, imsis, fine);
-    let k = task::task_for(
-        sound,
-        p.sets,
-        g,
-        node.clock,
-        node.accepted,
-        names,
-        imsis,
-        event,
-    );
+    let sound = sound::keeps_rules(p, g, clock, accepted, &names, good, &imsis, fine);
+    let k = task::task_for(sound, p.sets, g, clock, accepted, &names, &imsis, event);
     match k {
         Task::Refuse(answer) => refused(node, answer),
         Task::One(at, t, m) => {

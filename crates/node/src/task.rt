@@ -9,9 +9,8 @@ ghost use Rattle.node.specs.Private.Task.{named_task, open_task, replace_task, n
 
 use crate::meaning::Meaning;
 use crate::{Message, Settings, meaning};
-use context::slots;
-use context::slots::{Found, Slot};
 use event::{Activation, Event, Name, Replacement};
+use keys::Slot;
 use limits::sets;
 use mcdr::Place;
 use subscriber::Notice;
@@ -35,32 +34,29 @@ pub enum Task {
 }
 
 // The context of a name hears m.
-fn named(names: [Slot; 16], t: u32, name: Name, m: Message) -> Task
+fn named(names: &[Slot<Name>], t: u32, name: Name, m: Message) -> Task
     requires { InRange m }
-    ensures { (result ≡ named_task names t name m) × TaskInRange result }
+    ensures { (result ≡ named_task names.now t name m) × TaskInRange result }
 {
-    let found = slots::find(names, name);
-    match found {
-        Found::At(i) => Task::One(i, t, m),
-        Found::Nothing => Task::Refuse(8),
+    match keys::find(names, &name) {
+        Some(i) => Task::One(i, t, m),
+        None => Task::Refuse(8),
     }
 }
 
 // An activation takes the lowest free slot. Its set must be one of so many.
-fn open(count: usize, names: [Slot; 16], t: u32, a: Activation) -> Task
-    ensures { (result ≡ open_task count names t a) × TaskInRange result }
+fn open(count: usize, names: &[Slot<Name>], t: u32, a: Activation) -> Task
+    ensures { (result ≡ open_task count names.now t a) × TaskInRange result }
 {
     if !sets::has(count, a.set) {
         return Task::Refuse(18);
     }
-    let name = a.name;
-    if let Found::At(_) = slots::find(names, name) {
+    if keys::find(names, &a.name).is_some() {
         return Task::Refuse(9);
     }
-    let free = slots::lowest_free(names);
-    match free {
-        Found::At(i) => Task::Open(i, t, a),
-        Found::Nothing => Task::Refuse(10),
+    match keys::lowest_free(names) {
+        Some(i) => Task::Open(i, t, a),
+        None => Task::Refuse(10),
     }
 }
 
@@ -79,28 +75,26 @@ fn replace(count: usize, g: Settings, t: u32, r: Replacement) -> Task
 }
 
 // The subscriber of a name hears m.
-fn notify(imsis: [keys::Slot; 16], t: u32, imsi: u64, m: Notice) -> Task
+fn notify(imsis: &[Slot<u64>], t: u32, imsi: u64, m: Notice) -> Task
     requires { notice_ok m ≡ true }
-    ensures { (result ≡ notify_task imsis t imsi m) × TaskInRange result }
+    ensures { (result ≡ notify_task imsis.now t imsi m) × TaskInRange result }
 {
-    let found = keys::find(imsis, imsi);
-    match found {
-        keys::Found::At(i) => Task::Notify(i, t, m),
-        keys::Found::Nothing => Task::Refuse(16),
+    match keys::find(imsis, &imsi) {
+        Some(i) => Task::Notify(i, t, m),
+        None => Task::Refuse(16),
     }
 }
 
 // An attach takes the lowest free slot.
-fn attach(imsis: [keys::Slot; 16], t: u32, imsi: u64, place: Place) -> Task
-    ensures { (result ≡ attach_task imsis t imsi place) × TaskInRange result }
+fn attach(imsis: &[Slot<u64>], t: u32, imsi: u64, place: Place) -> Task
+    ensures { (result ≡ attach_task imsis.now t imsi place) × TaskInRange result }
 {
-    if let keys::Found::At(_) = keys::find(imsis, imsi) {
+    if keys::find(imsis, &imsi).is_some() {
         return Task::Refuse(15);
     }
-    let free = keys::lowest_free(imsis);
-    match free {
-        keys::Found::At(i) => Task::Attach(i, t, place),
-        keys::Found::Nothing => Task::Refuse(17),
+    match keys::lowest_free(imsis) {
+        Some(i) => Task::Attach(i, t, place),
+        None => Task::Refuse(17),
     }
 }
 
@@ -108,13 +102,13 @@ fn attach(imsis: [keys::Slot; 16], t: u32, imsi: u64, place: Place) -> Task
 fn task_of(
     count: usize,
     g: Settings,
-    names: [Slot; 16],
-    imsis: [keys::Slot; 16],
+    names: &[Slot<Name>],
+    imsis: &[Slot<u64>],
     t: u32,
     w: Meaning,
 ) -> Task
     requires { MeaningInRange w }
-    ensures { (result ≡ task_of count g names imsis t w) × TaskInRange result }
+    ensures { (result ≡ task_of count g names.now imsis.now t w) × TaskInRange result }
 {
     match w {
         Meaning::Opens(a) => open(count, names, t, a),
@@ -132,13 +126,13 @@ fn timely(
     g: Settings,
     clock: u32,
     accepted: u64,
-    names: [Slot; 16],
-    imsis: [keys::Slot; 16],
+    names: &[Slot<Name>],
+    imsis: &[Slot<u64>],
     t: u32,
     e: Event,
 ) -> Task
     requires { MeaningInRange (meaning_of e) }
-    ensures { (result ≡ timely_task count g clock accepted names imsis t e) × TaskInRange result }
+    ensures { (result ≡ timely_task count g clock accepted names.now imsis.now t e) × TaskInRange result }
 {
     if 3155759999 < t {
         return Task::Refuse(6);
@@ -160,11 +154,11 @@ pub fn task_for(
     g: Settings,
     clock: u32,
     accepted: u64,
-    names: [Slot; 16],
-    imsis: [keys::Slot; 16],
+    names: &[Slot<Name>],
+    imsis: &[Slot<u64>],
     event: &[u8],
 ) -> Task
-    ensures { (result ≡ task_for sound count g clock accepted names imsis (decoded event.now)) × TaskInRange result }
+    ensures { (result ≡ task_for sound count g clock accepted names.now imsis.now (decoded event.now)) × TaskInRange result }
 {
     if !sound {
         return Task::Refuse(13);

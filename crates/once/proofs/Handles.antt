@@ -147,11 +147,9 @@ module _ (p : Profile) where
 
   -- the node says and hears the same
   pub same_alike : (m : Name) (c : Context) → same_name m c.name ≡ same m c.name
-  unfolding same_name
   same_alike m c = refl
 
   pub same_too : (c : Context) (m : Name) → same_name c.name m ≡ same c.name m
-  unfolding same_name
   same_too c m = refl
 
   -- a context that hears nothing is as it was
@@ -251,7 +249,6 @@ module _ (p : Profile) where
   -- ---- the kind is sound
 
   same_exactly : (m n : Name) → (same m n ≡ true) ↔ (m ≡ n)
-  unfolding same_name
   same_exactly m n = heards.same_exactly m n
 
   pub sound : Sound rules meaning (forms p) K sight.name_of (λ s. s.settings)

@@ -39,16 +39,13 @@ use Rattle.event.specs.Rows as rows
 use Rattle.event.specs.Rows.{first_fit, known, measured}
 use Rattle.event.specs.Event.{event_of}
 use Rattle.context.specs.Sound as context
-use Rattle.context.specs.Sound.{closed_ok, context_ok, zero_ok, slot_ok, slots_ok}
-use Rattle.context.specs.Slots as slots
-use Rattle.context.specs.Slots.{same_name, is_free, bears}
+use Rattle.context.specs.Sound.{closed_ok, context_ok, zero_ok, slot_ok}
 use Rattle.history.specs.Slots.{none_bears, distinct}
 use Rattle.history.specs.Table.{not_active, is_active, all_taken}
 use Rattle.cdrs.specs.Cdr.{pdp}
-use Rattle.keys.specs.Slots as keys
 use Rattle.mcdr.specs.Change.{same_place}
 use Rattle.mcdr.specs.Changes.{no_changes, is_blank as isUnused, blanks as allUnused}
-use Rattle.subscriber.specs.Sound.{zero_ok as nobodyOk, slot_ok as place_ok, slots_ok as placesOk}
+use Rattle.subscriber.specs.Sound.{zero_ok as nobodyOk, slot_ok as place_ok}
 use Rattle.subscriber.specs.Tell.{octets_of as mmOctetsOf}
 use Rattle.history.specs.History.{History, start, ◌▸◌∶◌}
 use Rattle.history.specs.Records.{Rules, records}
@@ -188,13 +185,13 @@ pub record SessionRun : Type 0 where
 pub session_run : SessionRun
 unfolding activate traffic released printed says spelt octets_from number_in fill_to no_containers
     step.step_of step.outcome step.refusals not_active is_active all_taken step.mm_records_of mmOctetsOf
-    no_changes same_place isUnused allUnused nobodyOk place_ok placesOk keys.is_active
+    no_changes same_place isUnused allUnused nobodyOk place_ok
     step.output step.records_of step.octets_of step.marked_octets
     step.node_after step.activated batch_of batch_by list_refusals pairs_of one_by_one and_then traffic_event after_one after
     first_fit rows.marked known measured kinds kind_in whole_of rows.fields_ok activate_ok event_of
     imsi_ok halves leading all_f qos_ok is_apn lowered lower all_of apn_char release fields.release node_char
-    sound profile_ok limits_ok blank_limits has_set first_editions set_ok blank_set used_ok sets_ok set_at limits_of step.settled_by step.unknown_set step.other_edition node_ok apn_ok stamp_ok distinct slots.is_active is_free bears none_bears same_name
-    context.fields_ok unused_ok closed_ok count_ok containers_ok volume_ok sound_open blank_open context_ok zero_ok slot_ok slots_ok open_ok each_ok midway one_offset
+    sound profile_ok limits_ok blank_limits has_set first_editions set_ok blank_set used_ok sets_ok set_at limits_of step.settled_by step.unknown_set step.other_edition node_ok apn_ok stamp_ok distinct none_bears
+    context.fields_ok unused_ok closed_ok count_ok containers_ok volume_ok sound_open blank_open context_ok zero_ok slot_ok open_ok each_ok midway one_offset
     times_to qos_run volume_of is_blank blanks same_qos
     reported qos_after change_of limit_met closing number_for record_of goes_on closed_by after_closing hear_with hear
     layout.scdr layout.inside layout.body layout.of_record layout.fields_of duration last_time tlv_enc len_enc int_enc lowest imsi_enc stamp_enc month_day seek

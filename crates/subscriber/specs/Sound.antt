@@ -1,5 +1,6 @@
 -- When a slot is as it must be: what 02's W4 says of each subscriber of a sound node.
-use Rattle.std.specs.Prelude.{Bool, true, cond, ◌&&◌, List, [], ◌∷◌, ℕ, leb, ltb, eqb, drop}
+use Rattle.std.specs.Prelude.{Bool, cond, ◌&&◌, List, ℕ, leb, ltb, eqb, drop}
+use Rattle.std.specs.List.{list_all}
 use Rattle.ber.specs.Imsi.{imsi_ok}
 use Rattle.octets.specs.Chars.{all_of, is_zero}
 use Rattle.mcdr.specs.Changes.{changes_ok, last_time, blanks}
@@ -30,6 +31,5 @@ unfoldable pub slot_ok : ℕ → ℕ → ℕ → Subscriber → Bool
 slot_ok zone clock accepted s = cond (eqb s.active 1) (subscriber_ok zone clock accepted s) (zero_ok s)
 
 -- every slot of the table
-unfoldable pub slots_ok : ℕ → ℕ → ℕ → List Subscriber → Bool
-slots_ok zone clock accepted [] = true
-slots_ok zone clock accepted (s ∷ ss) = slot_ok zone clock accepted s && slots_ok zone clock accepted ss
+abbrev pub slots_ok : ℕ → ℕ → ℕ → List Subscriber → Bool
+slots_ok zone clock accepted ss = list_all (slot_ok zone clock accepted) ss

@@ -23,7 +23,7 @@ abbrev pub name_of : Subscriber → ℕ
 name_of s = spelt 0 s.imsi
 
 -- what names a slot
-abbrev pub slot_of : Subscriber → Slot
+abbrev pub slot_of : Subscriber → Slot ℕ
 slot_of s = record { active = s.active; key = name_of s }
 
 -- an attached subscriber stands in the slot

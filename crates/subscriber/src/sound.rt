@@ -8,68 +8,55 @@ use mcdr::changes;
 use octets::chars;
 
 // Is the open record as it must be, with the node's offset, at the node's clock?
-pub fn open_ok(zone: u16, clock: u32, s: Subscriber) -> bool
-    ensures { result ≡ open_ok zone clock s }
+#[tactic(auto, unfolding(crate::specs::Sound::open_ok))]
+pub fn open_ok(zone: u16, clock: u32, s: &Subscriber) -> bool
+    ensures { result ≡ open_ok zone clock s.now }
 {
-    let v = s.changes;
-    let opening = s.opening;
-    let place = s.place;
-    let right = changes::changes_ok(v, s.count, opening, place);
-    let last = changes::last_time(v, s.count, opening.seconds);
-    let rest = changes::unused_blank(v, s.count);
-    (opening.zone == zone) & (s.count <= 14) & right & (last <= clock) & rest
+    s.opening.zone == zone
+        && s.count <= 14
+        && changes::changes_ok(s.changes, s.count, s.opening, s.place)
+        && changes::last_time(s.changes, s.count, s.opening.seconds) <= clock
+        && changes::unused_blank(s.changes, s.count)
 }
 
 // Is an attached subscriber as it must be?
-pub fn subscriber_ok(zone: u16, clock: u32, accepted: u64, s: Subscriber) -> bool
-    ensures { result ≡ subscriber_ok zone clock accepted s }
+pub fn subscriber_ok(zone: u16, clock: u32, accepted: u64, s: &Subscriber) -> bool
+    ensures { result ≡ subscriber_ok zone clock accepted s.now }
 {
-    let digits = s.imsi;
-    let named = imsi::imsi_size(&digits) != 0;
-    let open = open_ok(zone, clock, s);
-    named & (s.closed < accepted) & open
+    imsi::imsi_size(&s.imsi) != 0 && s.closed < accepted && open_ok(zone, clock, s)
 }
 
 // Is every field of a slot zero?
-pub fn zero_ok(s: Subscriber) -> bool
-    ensures { result ≡ zero_ok s }
+#[tactic(auto, unfolding(crate::specs::Sound::zero_ok))]
+pub fn zero_ok(s: &Subscriber) -> bool
+    ensures { result ≡ zero_ok s.now }
 {
-    let digits = s.imsi;
-    let v = s.changes;
-    let a = chars::zeros(&digits);
-    let b = changes::unused_blank(v, 0);
-    (s.active == 0)
-        & a
-        & (s.place.lac == 0)
-        & (s.place.rac == 0)
-        & (s.opening.seconds == 0)
-        & (s.opening.zone == 0)
-        & b
-        & (s.count == 0)
-        & (s.closed == 0)
+    s.active == 0
+        && chars::zeros(&s.imsi)
+        && s.place.lac == 0
+        && s.place.rac == 0
+        && s.opening.seconds == 0
+        && s.opening.zone == 0
+        && changes::unused_blank(s.changes, 0)
+        && s.count == 0
+        && s.closed == 0
 }
 
 // Is a slot as it must be: an attached subscriber, or a free one?
-pub fn slot_ok(zone: u16, clock: u32, accepted: u64, s: Subscriber) -> bool
-    ensures { result ≡ slot_ok zone clock accepted s }
+#[tactic(auto, unfolding(crate::specs::Sound::slot_ok))]
+pub fn slot_ok(zone: u16, clock: u32, accepted: u64, s: &Subscriber) -> bool
+    ensures { result ≡ slot_ok zone clock accepted s.now }
 {
     if s.active == 1 {
-        return subscriber_ok(zone, clock, accepted, s);
+        subscriber_ok(zone, clock, accepted, s)
+    } else {
+        zero_ok(s)
     }
-    zero_ok(s)
 }
 
 // Is every slot of the table?
-pub fn slots_ok(zone: u16, clock: u32, accepted: u64, ss: [Subscriber; 16]) -> bool
-    ensures { result ≡ slots_ok zone clock accepted ss }
+pub fn slots_ok(zone: u16, clock: u32, accepted: u64, ss: &[Subscriber]) -> bool
+    ensures { result ≡ slots_ok zone clock accepted ss.now }
 {
-    let mut i: usize = 0;
-    while i < 16 {
-        let s = ss[i];
-        if !slot_ok(zone, clock, accepted, s) {
-            return false;
-        }
-        i += 1;
-    }
-    true
+    ss.iter().all(|s| slot_ok(zone, clock, accepted, s))
 }

@@ -1,17 +1,10 @@
--- `keys::all_distinct` meets its contract. Both loops' invariant: what is left to look at decides.
-use Prim.Native.Nat.{◌+◌, ◌-◌}
-use Rattle.history.proofs.Scans.{Rest, alone}
-use Rattle.keys.specs.Slots.{naming, distinct}
+-- `keys::all_distinct` meets its contract. The loop's invariant: what is left to look at decides.
+use Rattle.std.proofs.Common.{◌≡◌, length}
+use Rattle.keys.specs.Slots.{distinct}
 use Rattle.keys.proofs.all_distinct.Given as goal
 
-abbrev pub invariant-loop-j : goal.invariant-loop-j
-invariant-loop-j l = Rest (alone naming l.s) l.slots (l.i + 1) l.j
+abbrev pub invariant-loop-s : goal.invariant-loop-s
+invariant-loop-s g l = distinct g.K.PartialEq.eq l.slots ≡ distinct g.K.PartialEq.eq l.rest
 
-abbrev pub decreases-loop-j : goal.decreases-loop-j
-decreases-loop-j l = 16 - l.j
-
-abbrev pub invariant-loop-i : goal.invariant-loop-i
-invariant-loop-i l = Rest distinct l.slots 0 l.i
-
-abbrev pub decreases-loop-i : goal.decreases-loop-i
-decreases-loop-i l = 16 - l.i
+abbrev pub decreases-loop-s : goal.decreases-loop-s
+decreases-loop-s g l = length l.rest

@@ -1,16 +1,14 @@
 -- The slot that a list of reports names, by itself: what the reports do to it, pair by pair; and what a list is to do.
-use Rattle.std.specs.Prelude.{◌≡◌, Bool, true, false, cond, ◌||◌, List, ℕ, ◌+◌, ◌%◌, ◌≤◌, leb, ltb, eqb, set}
+use Rattle.std.specs.Prelude.{◌≡◌, Bool, true, false, cond, ◌||◌, List, ℕ, ◌+◌, ◌%◌, ◌≤◌, leb, ltb, eqb, set, Option, None, Some, position}
 use Rattle.container.specs.Open as O
 use Rattle.profile.specs.declared.Profile.{Profile}
 use Rattle.profile.specs.Profile.{profile_ok}
 use Rattle.limits.specs.Sets.{sets_ok}
 use Rattle.event.specs.declared.Name.{Name}
 use Rattle.context.specs.declared.Context.{Context}
-use Rattle.context.specs.declared.slots.Slot.{Slot}
-use Rattle.context.specs.declared.slots.Found.{Found}
-use Rattle.context.specs.declared.slots.Found.TheVariants as F
-use Rattle.context.specs.Slots.{bears, first_from}
+use Rattle.context.specs.Slots.{bears}
 use Rattle.context.specs.Sound.{context_ok}
+use Rattle.keys.specs.declared.Slot.{Slot}
 use Rattle.node.specs.declared.Node.{Node}
 use Rattle.node.specs.declared.Settings.{Settings}
 use Rattle.node.specs.declared.batch.Reports.{Reports}
@@ -84,16 +82,16 @@ pub record Tells (p : Profile) (g : Settings) (clock accepted : ℕ) (c : Contex
 
 -- ---- what a list of k numbers is to do
 
-abbrev pub tell_at : Found → Reports
-tell_at (F.At i) = Tell i
-tell_at F.Nothing = Refuse 8
+abbrev pub tell_at : Option ℕ → Reports
+tell_at (Some i) = Tell i
+tell_at None = Refuse 8
 
 -- 6, 7 and 8 of the first pair
-unfoldable pub first_pair : ℕ → ℕ → List Slot → Name → ℕ → Reports
+unfoldable pub first_pair : ℕ → ℕ → List (Slot Name) → Name → ℕ → Reports
 first_pair clock accepted names m t =
-    cond (ltb latest t || ltb t clock) (Refuse 6) (cond (leb most_accepted accepted) (Refuse 7) (tell_at (first_from (bears m) 0 names)))
+    cond (ltb latest t || ltb t clock) (Refuse 6) (cond (leb most_accepted accepted) (Refuse 7) (tell_at (position (bears m) names)))
 
 -- 13, then 14, then an empty list
-unfoldable pub reports_for : Bool → ℕ → ℕ → List Slot → Name → ℕ → ℕ → Reports
+unfoldable pub reports_for : Bool → ℕ → ℕ → List (Slot Name) → Name → ℕ → ℕ → Reports
 reports_for false clock accepted names m t k = Refuse 13
 reports_for true clock accepted names m t k = cond (eqb (k % 2) 1) (Refuse 14) (cond (eqb k 0) Nothing (first_pair clock accepted names m t))

@@ -1,5 +1,5 @@
 -- What a call is to do, by the names of the slots and the event; and what is answered then.
-use Rattle.std.specs.Prelude.{◌≡◌, Bool, true, false, cond, ◌||◌, List, ℕ, ◌+◌, leb, ltb, set, Result, Ok, Err}
+use Rattle.std.specs.Prelude.{◌≡◌, Bool, true, false, cond, ◌||◌, List, ℕ, ◌+◌, leb, ltb, eqb, set, Option, None, Some, Result, Ok, Err, position}
 use Rattle.event.specs.declared.Name.{Name}
 use Rattle.event.specs.declared.Activation.{Activation}
 use Rattle.event.specs.declared.Event.{Event}
@@ -7,15 +7,11 @@ use Rattle.event.specs.declared.Replacement.{Replacement}
 use Rattle.limits.specs.Sets.{has_set, is_next}
 use Rattle.event.specs.declared.Refusal as octets
 use Rattle.event.specs.Rows.{number_of}
-use Rattle.context.specs.declared.slots.Slot.{Slot}
-use Rattle.context.specs.declared.slots.Found.{Found}
-use Rattle.context.specs.declared.slots.Found.TheVariants.{At, Nothing}
-use Rattle.context.specs.Slots.{is_free, bears, first_from}
+use Rattle.context.specs.Slots.{bears}
 use Rattle.event.specs.Fields.{subscriber_imsi}
 use Rattle.mcdr.specs.declared.Place.{Place}
-use Rattle.keys.specs.declared.Slot as N
-use Rattle.keys.specs.declared.Found as G
-use Rattle.keys.specs.declared.Found.TheVariants as F
+use Rattle.keys.specs.declared.Slot.{Slot}
+use Rattle.keys.specs.Slots.{is_free}
 use Rattle.keys.specs.Slots as named
 use Rattle.subscriber.specs.declared.Notice.{Notice}
 use Rattle.subscriber.specs.Hear as subscriber
@@ -36,25 +32,25 @@ use Rattle.node.specs.Private.Range.{advanced, served_of, enrolled, notified_of,
 -- ---- what is to be done
 
 -- 8, or the slot of the name
-abbrev pub one_at : ℕ → Message → Found → Task
-one_at t h (At i) = One i t h
-one_at t h Nothing = Refuse 8
+abbrev pub one_at : ℕ → Message → Option ℕ → Task
+one_at t h (Some i) = One i t h
+one_at t h None = Refuse 8
 
-unfoldable pub named_task : List Slot → ℕ → Name → Message → Task
-named_task names t m h = one_at t h (first_from (bears m) 0 names)
+unfoldable pub named_task : List (Slot Name) → ℕ → Name → Message → Task
+named_task names t m h = one_at t h (position (bears m) names)
 
 -- 18, then 9, then 10, or the lowest free slot
-abbrev pub free_at : ℕ → Activation → Found → Task
-free_at t a (At i) = Open i t a
-free_at t a Nothing = Refuse 10
+abbrev pub free_at : ℕ → Activation → Option ℕ → Task
+free_at t a (Some i) = Open i t a
+free_at t a None = Refuse 10
 
-abbrev pub open_at : ℕ → Activation → Found → Found → Task
-open_at t a (At i) free = Refuse 9
-open_at t a Nothing free = free_at t a free
+abbrev pub open_at : ℕ → Activation → Option ℕ → Option ℕ → Task
+open_at t a (Some i) free = Refuse 9
+open_at t a None free = free_at t a free
 
-unfoldable pub open_task : ℕ → List Slot → ℕ → Activation → Task
+unfoldable pub open_task : ℕ → List (Slot Name) → ℕ → Activation → Task
 open_task count names t a =
-    cond (has_set count a.set) (open_at t a (first_from (bears a.name) 0 names) (first_from is_free 0 names)) (Refuse 18)
+    cond (has_set count a.set) (open_at t a (position (bears a.name) names) (position is_free names)) (Refuse 18)
 
 -- 18, then 19, or the set is replaced
 unfoldable pub replace_task : ℕ → Settings → ℕ → Replacement → Task
@@ -62,26 +58,26 @@ replace_task count g t r =
     cond (has_set count r.set) (cond (is_next r.set r.edition g.sets) (Replace t r) (Refuse 19)) (Refuse 18)
 
 -- of subscribers: 16, or the slot of the name
-abbrev pub notify_at : ℕ → Notice → G.Found → Task
-notify_at t m (F.At i) = Notify i t m
-notify_at t m F.Nothing = Refuse 16
+abbrev pub notify_at : ℕ → Notice → Option ℕ → Task
+notify_at t m (Some i) = Notify i t m
+notify_at t m None = Refuse 16
 
-unfoldable pub notify_task : List N.Slot → ℕ → ℕ → Notice → Task
-notify_task imsis t k m = notify_at t m (named.first_from (named.bears k) 0 imsis)
+unfoldable pub notify_task : List (Slot ℕ) → ℕ → ℕ → Notice → Task
+notify_task imsis t k m = notify_at t m (position (named.bears eqb k) imsis)
 
 -- 15, then 17, or the lowest free slot
-abbrev pub vacant_at : ℕ → Place → G.Found → Task
-vacant_at t q (F.At i) = Attach i t q
-vacant_at t q F.Nothing = Refuse 17
+abbrev pub vacant_at : ℕ → Place → Option ℕ → Task
+vacant_at t q (Some i) = Attach i t q
+vacant_at t q None = Refuse 17
 
-abbrev pub attach_at : ℕ → Place → G.Found → G.Found → Task
-attach_at t q (F.At i) free = Refuse 15
-attach_at t q F.Nothing free = vacant_at t q free
+abbrev pub attach_at : ℕ → Place → Option ℕ → Option ℕ → Task
+attach_at t q (Some i) free = Refuse 15
+attach_at t q None free = vacant_at t q free
 
-unfoldable pub attach_task : List N.Slot → ℕ → ℕ → Place → Task
-attach_task imsis t k q = attach_at t q (named.first_from (named.bears k) 0 imsis) (named.first_from named.is_free 0 imsis)
+unfoldable pub attach_task : List (Slot ℕ) → ℕ → ℕ → Place → Task
+attach_task imsis t k q = attach_at t q (position (named.bears eqb k) imsis) (position is_free imsis)
 
-unfoldable pub task_of : ℕ → Settings → List Slot → List N.Slot → ℕ → Meaning → Task
+unfoldable pub task_of : ℕ → Settings → List (Slot Name) → List (Slot ℕ) → ℕ → Meaning → Task
 task_of count g names imsis t (W.Opens a) = open_task count names t a
 task_of count g names imsis t (W.Tells n m) = named_task names t n m
 task_of count g names imsis t (W.TellsAll m) = All t m
@@ -90,12 +86,12 @@ task_of count g names imsis t (W.Notifies k m) = notify_task imsis t k m
 task_of count g names imsis t (W.Replaces r) = replace_task count g t r
 
 -- 6, then 7
-unfoldable pub timely_task : ℕ → Settings → ℕ → ℕ → List Slot → List N.Slot → ℕ → Event → Task
+unfoldable pub timely_task : ℕ → Settings → ℕ → ℕ → List (Slot Name) → List (Slot ℕ) → ℕ → Event → Task
 timely_task count g clock accepted names imsis t e =
     cond (ltb latest t || ltb t clock) (Refuse 6) (cond (leb most_accepted accepted) (Refuse 7) (task_of count g names imsis t (meaning_of e)))
 
 -- 13, then 1 to 5
-unfoldable pub task_for : Bool → ℕ → Settings → ℕ → ℕ → List Slot → List N.Slot → Result (ℕ × Event) octets.Refusal → Task
+unfoldable pub task_for : Bool → ℕ → Settings → ℕ → ℕ → List (Slot Name) → List (Slot ℕ) → Result (ℕ × Event) octets.Refusal → Task
 task_for false count g clock accepted names imsis d = Refuse 13
 task_for true count g clock accepted names imsis (Err r) = Refuse (number_of r)
 task_for true count g clock accepted names imsis (Ok x) = timely_task count g clock accepted names imsis x.0 x.1

@@ -23,24 +23,24 @@ returns-then-accepted-ge1000000000000000 c =
       le-leb most_accepted a.accepted c.if-accepted-ge1000000000000000.true,
     )
 
-pub returns-in-At : goal.returns-in-At
+pub returns-in-Some : goal.returns-in-Some
 unfolding first_pair
-returns-in-At c =
+returns-in-Some c =
     let a = c.args in
     rw (
       le-ltb latest a.t c.if-t-gt3155759999.false,
       le-ltb a.t a.clock c.if-t-clock.false,
       lt-leb most_accepted a.accepted c.if-accepted-ge1000000000000000.false,
-      sym c.find-found.ensures ∙ c.in-At.is,
+      sym c.find.ensures ∙ c.in-Some.is,
     )
 
-pub returns-in-Nothing : goal.returns-in-Nothing
+pub returns-in-None : goal.returns-in-None
 unfolding first_pair
-returns-in-Nothing c =
+returns-in-None c =
     let a = c.args in
     rw (
       le-ltb latest a.t c.if-t-gt3155759999.false,
       le-ltb a.t a.clock c.if-t-clock.false,
       lt-leb most_accepted a.accepted c.if-accepted-ge1000000000000000.false,
-      sym c.find-found.ensures ∙ c.in-Nothing.is,
+      sym c.find.ensures ∙ c.in-None.is,
     )

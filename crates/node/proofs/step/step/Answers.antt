@@ -24,9 +24,9 @@ loop-i-preserved c =
     held_is c.args.node _ c.well_formed.0 in
     let h = held in
     let v = c.loop-i.invariant in (
-      looking_more (slots_ask _ _ _ _) v.0 _ (omega (arith, h.size, c.loop-i-test.true))
-          c.slot_ok-good.ensures,
-      rw c.name_of.ensures
+      rw c.slot_of.ensures (looking_more (slots_ask _ _ _ _) v.0 _ (omega (arith, h.size, c.loop-i-test.true))
+          c.slot_ok-good.ensures),
+      rw c.slot_of-in-loop-i.ensures
           (looking_more (subscribers-ask _ _ _) v.1 _ (omega (arith, h.places, c.loop-i-test.true))
           c.slot_ok-fine.ensures),
     )

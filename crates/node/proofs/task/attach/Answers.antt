@@ -1,30 +1,17 @@
 -- `node::task::attach` meets its contract.
-use mathlib.Core.Path.{sym, ◌∙◌}
+use Rattle.std.proofs.Common.{arith}
+use Rattle.std.proofs.lemmas.Grind.{common_steps}
 use Rattle.node.specs.Private.Task.{attach_task}
 use Rattle.node.proofs.task.attach.Goals as goal
 
-pub returns-in-At : goal.returns-in-At
+pub returns-then-is_some : goal.returns-then-is_some
 unfolding attach_task
-returns-in-At c = (rw (sym c.find.ensures ∙ c.in-At.is), tt)
+returns-then-is_some c = grind (arith, common_steps)
 
-pub returns-in-At-free : goal.returns-in-At-free
+pub returns-in-Some : goal.returns-in-Some
 unfolding attach_task
-returns-in-At-free c = (
-  rw (
-    sym c.find.ensures
-        ∙ c.in_default.is,
-    sym c.lowest_free-free.ensures ∙ c.in-At-free.is,
-  ),
-  tt,
-)
+returns-in-Some c = grind (arith, common_steps)
 
-pub returns-in-Nothing : goal.returns-in-Nothing
+pub returns-in-None : goal.returns-in-None
 unfolding attach_task
-returns-in-Nothing c = (
-  rw (
-    sym c.find.ensures
-        ∙ c.in_default.is,
-    sym c.lowest_free-free.ensures ∙ c.in-Nothing.is,
-  ),
-  tt,
-)
+returns-in-None c = grind (arith, common_steps)

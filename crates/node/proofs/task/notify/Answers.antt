@@ -3,10 +3,10 @@ use mathlib.Core.Path.{sym, ◌∙◌}
 use Rattle.node.specs.Private.Task.{notify_task}
 use Rattle.node.proofs.task.notify.Goals as goal
 
-pub returns-in-At : goal.returns-in-At
+pub returns-in-Some : goal.returns-in-Some
 unfolding notify_task
-returns-in-At c = (rw (sym c.find-found.ensures ∙ c.in-At.is), c.requires)
+returns-in-Some c = (rw (sym c.find.ensures ∙ c.in-Some.is), c.requires)
 
-pub returns-in-Nothing : goal.returns-in-Nothing
+pub returns-in-None : goal.returns-in-None
 unfolding notify_task
-returns-in-Nothing c = (rw (sym c.find-found.ensures ∙ c.in-Nothing.is), tt)
+returns-in-None c = (rw (sym c.find.ensures ∙ c.in-None.is), tt)

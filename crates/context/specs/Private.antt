@@ -1,2 +1,0 @@
--- What private functions of this crate count on: no part of what a reader must believe.
-pub mod Clash

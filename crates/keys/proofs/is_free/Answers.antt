@@ -1,8 +1,0 @@
--- `keys::is_free` meets its contract: the code is the test.
-use mathlib.Core.Path.{refl}
-use Rattle.keys.specs.Slots.{is_active, is_free}
-use Rattle.keys.proofs.is_free.Goals as goal
-
-pub returns : goal.returns
-unfolding is_active is_free
-returns c = refl
