@@ -6,163 +6,128 @@
 // window; a file that is cut into windows gives what the whole gives). The record list goes to standard output, what was done and what is
 // wrong to standard error (docs/FORMATS.md).
 use crate::refusal;
+use charging::Charged;
+use node::Node;
 use profile::Profile;
-use setup::Begun;
+use setup::{Command, Turns};
 use std::env::Env;
 use std::io;
 use std::io::{Read, Stderr, Stdout};
-use std::num::{wrapping_add_u64, wrapping_sub_u64};
 use std::rt::Files;
 use template::{four, say};
-use window::Place;
+use window::Input;
 
-// Where the next event lies; whether the file has ended there or in the window; what was done: events accepted whose records are written,
-// these records, and their octets; and whether to go on. (The node is kept apart: what holds it is slow to prove.)
-#[derive(Clone, Copy)]
-struct State {
-    place: Place,
-    ended: bool,
+// The longest event.
+const LONGEST: usize = 292;
+
+// The most that one event can write.
+const MOST: usize = 16416;
+
+// A file of events through its window, and the node that they are charged on; what was done: events accepted whose records are written, these
+// records, and their octets.
+#[derive(Drop)]
+struct Charge<'a, F> {
+    command: Command,
+    output: Stdout,
+    input: Input<'a, F>,
+    node: Node,
     events: u64,
     records: u64,
     octets: u64,
-    going: bool,
 }
 
-// The longest event has 292 octets. Where fewer are in the window, more of the file is read, or its end.
-fn fed<F: Read>(error: Stderr, file: &mut F, s: State, held: &mut [u8; 4096]) -> State {
-    let p = s.place;
-    if s.ended | (292 <= window::left(p)) {
-        return s;
-    }
-    let f = setup::read_on(error, b"charge", b"the file of events", file, held, p);
-    let place = f.place;
-    State {
-        place,
-        ended: f.got == 0,
-        events: s.events,
-        records: s.records,
-        octets: s.octets,
-        going: 0 <= f.got,
+impl<'a, F: Read> Turns for Charge<'a, F> {
+    // Charges what is in the window, after more of the file was read, or its end, where less than an event may be there. Answers whether to go on.
+    fn turn(&mut self) -> bool {
+        let mut out = [0u8; MOST];
+        let read = !self.input.wants(LONGEST)
+            || self.command.read_on(b"the file of events", &mut self.input);
+        let r = charging::charge(self.node, self.input.here(), self.input.ended, &mut out);
+        self.node = r.node;
+        self.tell(&r, octets::front(&out, r.written)) && read
     }
 }
 
-// What lies in the window.
-fn in_hand(p: Place, held: &[u8; 4096]) -> &[u8] {
-    octets::part(held, p.at, p.end)
-}
+impl<'a, F: Read> Charge<'a, F> {
+    // What was charged, and what it wrote. There was room for what one event can write, and no more: so where an event writes, its records go
+    // out before the next is looked at, and where they could not be written, those before it had none. Answers whether more may follow.
+    fn tell(&mut self, r: &Charged, written: &[u8]) -> bool {
+        self.input.pass(r.came);
+        self.events = self.events.wrapping_add(r.events as u64);
+        if let Err(why) = self.output.write_all(written) {
+            self.say_unwritten(r.last, why);
+            self.events = self.events.wrapping_sub(1);
+            return false;
+        }
+        self.records = self
+            .records
+            .wrapping_add(entries::count::count(written) as u64);
+        self.octets = self.octets.wrapping_add(written.len() as u64);
+        if r.answer != 0 {
+            let next = self.events.wrapping_add(1);
+            refusal::say_refused(self.command.error, r.answer, next, self.input.place.offset);
+            return false;
+        }
+        !self.input.ended || r.came != 0
+    }
 
-// What was charged: so many octets of the file, so many events, of which the last has so many octets; and what they wrote. The buffer has
-// room for what one event can write, and no more: so where an event writes, its records go out before the next is looked at, and where
-// they could not be written, those before it had none.
-fn told(
-    output: Stdout,
-    error: Stderr,
-    s: State,
-    answer: u8,
-    came: usize,
-    events: usize,
-    last: usize,
-    written: &[u8],
-) -> State {
-    let p = s.place;
-    let place = window::after(p, came);
-    let number = wrapping_add_u64(s.events, events as u64);
-    if let Err(why) = output.write_all(written) {
-        say_unwritten(
-            error,
-            number,
-            wrapping_sub_u64(place.offset, last as u64),
-            why,
+    // An event's records could not be written, and why: the last event's, which has so many octets.
+    fn say_unwritten(&self, last: usize, why: io::Error) {
+        let offset = self.input.place.offset.wrapping_sub(last as u64);
+        say(
+            self.command.error,
+            b"charge: not written at event %k (octet %l): ",
+            &four(self.events, offset, 0, 0),
+            b"",
         );
-        return State {
-            place,
-            ended: s.ended,
-            events: wrapping_sub_u64(number, 1),
-            records: s.records,
-            octets: s.octets,
-            going: false,
-        };
+        setup::say_why(self.command.error, b"standard output", why);
     }
-    if answer != 0 {
-        refusal::say_refused(error, answer, wrapping_add_u64(number, 1), place.offset);
-    }
-    State {
-        place,
-        ended: s.ended,
-        events: number,
-        records: wrapping_add_u64(s.records, entries::count::count(written) as u64),
-        octets: wrapping_add_u64(s.octets, written.len() as u64),
-        going: s.going & (answer == 0) & !(s.ended & (came == 0)),
+
+    // The last line.
+    fn say_tally(&self) {
+        say(
+            self.command.error,
+            b"charge: %k events accepted, %l records, %m octets\n",
+            &four(self.events, self.records, self.octets, 0),
+            b"",
+        );
     }
 }
 
-// An event's records could not be written, and why: which event it is, counted from 1, and how many octets of the file lie before it.
-fn say_unwritten(error: Stderr, number: u64, offset: u64, why: io::Error) {
-    say(
-        error,
-        b"charge: not written at event %k (octet %l): ",
-        &four(number, offset, 0, 0),
-        b"",
-    );
-    setup::say_why(error, b"standard output", why);
-}
-
-// The last line.
-fn say_tally(error: Stderr, s: State) {
-    say(
-        error,
-        b"charge: %k events accepted, %l records, %m octets\n",
-        &four(s.events, s.records, s.octets, 0),
-        b"",
-    );
-}
-
-// A proved loop has to end, and nothing says that a file does. So it counts its turns down, from a number that no run uses up.
-fn run<F: Read>(output: Stdout, error: Stderr, file: &mut F, profile: Profile) {
+fn run<F: Read + Drop>(command: Command, output: Stdout, file: F, profile: Profile) {
     let mut held = [0u8; 4096];
-    let mut out = [0u8; 16416];
-    let mut now = setup::node_of(profile);
-    let mut s = State {
-        place: window::START,
-        ended: false,
+    let mut charge = Charge {
+        command,
+        output,
+        input: Input::new(file, &mut held),
+        node: setup::node_of(profile),
         events: 0,
         records: 0,
         octets: 0,
-        going: true,
     };
-    let mut turns = u64::MAX;
-    while turns > 0 && s.going {
-        turns -= 1;
-        s = fed(error, file, s, &mut held);
-        let p = s.place;
-        let r = charging::charge(now, in_hand(p, &held), s.ended, &mut out);
-        now = r.node;
-        s = told(
-            output,
-            error,
-            s,
-            r.answer,
-            r.came,
-            r.events,
-            r.last,
-            octets::front(&out, r.written),
-        );
+    setup::run(&mut charge);
+    charge.say_tally();
+}
+
+fn command(error: Stderr) -> Command {
+    Command {
+        name: b"charge",
+        error,
     }
-    say_tally(error, s);
 }
 
 // The events of the third argument, from a fresh node with the profile of the second.
 pub fn charge_file<R: Env + Files>(rt: &R, output: Stdout, error: Stderr) {
-    if let Some(begun) = setup::start(rt, error, b"charge", 3) {
-        let Begun { profile, mut file } = begun;
-        run(output, error, &mut file, profile);
+    let command = command(error);
+    if let Some((profile, file)) = command.start(rt, 3) {
+        run(command, output, file, profile);
     }
 }
 
 pub fn main<R: Env + Files>(rt: &R, output: Stdout, error: Stderr) {
-    if setup::arg_count(rt) != 4 {
+    if setup::arg_count(rt) == 4 {
+        charge_file(rt, output, error);
+    } else {
         setup::say_line(error, b"usage: charge PROFILE EVENTS\n");
-        return;
     }
-    charge_file(rt, output, error);
 }

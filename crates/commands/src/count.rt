@@ -7,169 +7,132 @@
 // list is refused: standard error says then what does not fit, and where (docs/FORMATS.md).
 use crate::refusal;
 use out::Stream;
+use profile::text::Fault;
 use profile::{address, number};
+use setup::{Command, Turns};
 use std::env::Env;
 use std::io::{Read, Stderr, Stdout};
-use std::num::{wrapping_add_usize, wrapping_sub_usize};
 use std::rt::Files;
 use tally::Tally;
 use template::four;
-use window::Place;
+use window::Input;
 
 // The longest record with its mark.
 const LONGEST: usize = 1026;
 
-// The largest charging ID.
-const LAST_ID: u64 = 4294967295;
-
-// Where the next record lies; what was counted up to there; whether the file has been read to its end; and whether to go on.
-#[derive(Clone, Copy)]
-struct State {
-    place: Place,
-    tally: Tally,
-    ended: bool,
-    going: bool,
-}
-
-// More of the file, or its end.
-fn read_on<F: Read>(error: Stderr, file: &mut F, s: State, held: &mut [u8; 65536]) -> State {
-    let p = s.place;
-    let f = setup::read_on(error, b"count", b"the record list", file, held, p);
-    let place = f.place;
-    let t = s.tally;
-    State {
-        place,
-        tally: t,
-        ended: f.got == 0,
-        going: 0 <= f.got,
-    }
-}
-
-// What is in the window is counted: all that is left of the file, or all but the last record that may go on behind it.
-fn count_on(s: State, id: u32, ggsn: u32, here: &[u8]) -> State {
-    let t = s.tally;
-    let u = tally::count::go_on(t, here, s.ended, id, ggsn);
-    let f = u.fault;
-    let p = s.place;
-    let place = window::after(p, wrapping_sub_usize(u.at, t.at));
-    State {
-        place,
-        tally: u,
-        ended: s.ended,
-        going: !s.ended & (tally::count::answer(f) == 0),
-    }
-}
-
-// Counts on, or reads more of the file: so that a whole record is in the window, or all that is left.
-fn take_turn<F: Read>(
-    error: Stderr,
-    file: &mut F,
+// A list through its window, of whose records those of a name are counted; and what was counted up to the next.
+#[derive(Drop)]
+struct Count<'a, F> {
+    command: Command,
+    input: Input<'a, F>,
     id: u32,
     ggsn: u32,
-    s: State,
-    held: &mut [u8; 65536],
-) -> State {
-    let p = s.place;
-    if !s.ended & (window::left(p) < LONGEST) {
-        return read_on(error, file, s, held);
+    tally: Tally,
+}
+
+impl<'a, F: Read> Turns for Count<'a, F> {
+    // Counts on, or reads more of the file: so that a whole record is in the window, or all that is left. Answers whether to go on.
+    fn turn(&mut self) -> bool {
+        if self.input.wants(LONGEST) {
+            return self.command.read_on(b"the record list", &mut self.input);
+        }
+        self.count_on()
     }
-    count_on(s, id, ggsn, octets::part(held, p.at, p.end))
+}
+
+impl<'a, F: Read> Count<'a, F> {
+    // What is in the window is counted: all that is left of the file, or all but the last record that may go on behind it.
+    fn count_on(&mut self) -> bool {
+        let ended = self.input.ended;
+        let tally = tally::count::go_on(self.tally, self.input.here(), ended, self.id, self.ggsn);
+        self.input.pass(tally.at.wrapping_sub(self.tally.at));
+        self.tally = tally;
+        !ended && tally::count::answer(tally.fault) == 0
+    }
+
+    // Says how it ended. Where the file could not be read, that has been said.
+    fn finish(&self, output: Stdout) {
+        let t = self.tally;
+        let answer = tally::count::answer(t.fault);
+        if answer != 0 {
+            refusal::say_unfit(self.command.error, answer, t.fault, t.at as u64);
+        } else if self.input.ended {
+            write_count(self.command, &mut out::to_output(output), t);
+        }
+    }
 }
 
 // The line: how many records there are, and the number of the last.
-fn write_count(to: &mut Stream, error: Stderr, t: Tally) {
+fn write_count(command: Command, to: &mut Stream, t: Tally) {
     let v = four(t.count as u64, t.number, (t.number != 0) as u64, 0);
     if !template::write(to, b"%k %M-%;%l%.\n", &v, b"") {
-        setup::fail_output(error, b"count", to);
+        command.fail_output(to);
     }
 }
 
-// Says how it ended. Where the file could not be read, that has been said.
-fn finish(output: Stdout, error: Stderr, s: State) {
-    let t = s.tally;
-    let f = t.fault;
-    let answer = tally::count::answer(f);
-    if answer != 0 {
-        refusal::say_unfit(error, answer, f, t.at as u64);
-        return;
-    }
-    if s.ended {
-        let mut to = out::to_output(output);
-        write_count(&mut to, error, t);
-    }
-}
-
-// A proved loop has to end, and nothing says that a file does. So it counts its turns down, from a number that no run uses up.
-fn run<F: Read>(output: Stdout, error: Stderr, file: &mut F, id: u32, ggsn: u32) {
+fn run<F: Read + Drop>(command: Command, output: Stdout, file: F, id: u32, ggsn: u32) {
     let mut held = [0u8; 65536];
-    let mut s = State {
-        place: window::START,
+    let mut count = Count {
+        command,
+        input: Input::new(file, &mut held),
+        id,
+        ggsn,
         tally: tally::count::START,
-        ended: false,
-        going: true,
     };
-    let mut turns = u64::MAX;
-    while turns > 0 && s.going {
-        s = take_turn(error, file, id, ggsn, s, &mut held);
-        turns -= 1;
-    }
-    finish(output, error, s);
+    setup::run(&mut count);
+    count.finish(output);
 }
 
-// The number that v spells; one above every charging ID where it spells none, or has zeros in front.
-fn number_in(v: &[u8]) -> u64 {
-    if let profile::text::Fault::None = number::number_fault(v) {
-        return number::number(v);
-    }
-    u64::MAX
-}
-
-// The number that an argument is. One that is longer than the longest ID by far counts as empty.
-fn number_of(rt: &impl Env, argument: usize) -> u64 {
+// The charging ID that an argument spells, without zeros in front. One that is longer than the longest ID by far counts as empty.
+fn id_of(rt: &impl Env, argument: usize) -> Option<u32> {
     let mut held = [0u8; 16];
-    number_in(setup::arg(rt, argument, &mut held))
-}
-
-// Is an argument an address?
-fn is_address(rt: &impl Env, argument: usize) -> bool {
-    let mut held = [0u8; 16];
-    address::address_ok(setup::arg(rt, argument, &mut held))
+    let text = setup::arg(rt, argument, &mut held);
+    match number::number_fault(text) {
+        Fault::None => u32::try_from(number::number(text)).ok(),
+        _ => None,
+    }
 }
 
 // The address that an argument is.
-fn address_of(rt: &impl Env, argument: usize) -> u32 {
+fn address_of(rt: &impl Env, argument: usize) -> Option<u32> {
     let mut held = [0u8; 16];
-    address::address(setup::arg(rt, argument, &mut held))
+    let text = setup::arg(rt, argument, &mut held);
+    address::address_ok(text).then(|| address::address(text))
 }
 
 // The list that an argument names, counted for the context that the two after it name.
 pub fn count_file<R: Env + Files>(rt: &R, output: Stdout, error: Stderr, argument: usize) {
-    let id = number_of(rt, wrapping_add_usize(argument, 1));
-    let ggsn = wrapping_add_usize(argument, 2);
-    if LAST_ID < id {
+    let command = command(error);
+    let Some(id) = id_of(rt, argument.wrapping_add(1)) else {
         setup::say_line(
             error,
             b"count: ID is a whole number of 0 to 4294967295 in decimal, without zeros in front\n",
         );
         return;
-    }
-    if !is_address(rt, ggsn) {
+    };
+    let Some(ggsn) = address_of(rt, argument.wrapping_add(2)) else {
         setup::say_line(
             error,
             b"count: GGSN is an address: four numbers of 0 to 255 with dots\n",
         );
         return;
+    };
+    if let Some(file) = command.open(rt, argument) {
+        run(command, output, file, id, ggsn);
     }
-    if let Some(mut file) = setup::open(rt, error, b"count", argument) {
-        let address = address_of(rt, ggsn);
-        run(output, error, &mut file, (id % 4294967296) as u32, address);
+}
+
+fn command(error: Stderr) -> Command {
+    Command {
+        name: b"count",
+        error,
     }
 }
 
 pub fn main<R: Env + Files>(rt: &R, output: Stdout, error: Stderr) {
-    if setup::arg_count(rt) != 5 {
+    if setup::arg_count(rt) == 5 {
+        count_file(rt, output, error, 2);
+    } else {
         setup::say_line(error, b"usage: count RECORDS ID GGSN\n");
-        return;
     }
-    count_file(rt, output, error, 2);
 }

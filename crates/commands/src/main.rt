@@ -17,28 +17,20 @@ mod show;
 fn main(rt: HostRuntime) {
     let output = rt.stdout();
     let error = rt.stderr();
-    if setup::is_word(&rt, 1, b"charge") {
-        charge::main(&rt, output, error);
-        return;
+    let mut held = [0u8; 16];
+    match setup::arg(&rt, 1, &mut held) {
+        b"charge" => charge::main(&rt, output, error),
+        b"show" => show::main(&rt, output, error),
+        b"count" => count::main(&rt, output, error),
+        b"both" => {
+            charge::charge_file(&rt, output, error);
+            show::show_file(&rt, output, error, 4, shown::Style::Text);
+        }
+        b"all" => {
+            charge::charge_file(&rt, output, error);
+            show::show_file(&rt, output, error, 4, shown::Style::Text);
+            count::count_file(&rt, output, error, 4);
+        }
+        _ => setup::say_line(error, b"usage: commands charge|show|count ARGUMENT..\n"),
     }
-    if setup::is_word(&rt, 1, b"show") {
-        show::main(&rt, output, error);
-        return;
-    }
-    if setup::is_word(&rt, 1, b"count") {
-        count::main(&rt, output, error);
-        return;
-    }
-    if setup::is_word(&rt, 1, b"both") {
-        charge::charge_file(&rt, output, error);
-        show::show_file(&rt, output, error, 4, shown::Style::Text);
-        return;
-    }
-    if setup::is_word(&rt, 1, b"all") {
-        charge::charge_file(&rt, output, error);
-        show::show_file(&rt, output, error, 4, shown::Style::Text);
-        count::count_file(&rt, output, error, 4);
-        return;
-    }
-    setup::say_line(error, b"usage: commands charge|show|count ARGUMENT..\n");
 }

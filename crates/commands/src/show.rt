@@ -7,193 +7,147 @@
 // been written then. The last line on standard error says how many records were shown, and how many octets of the file they take.
 // docs/FORMATS.md has both forms.
 use entries::Entry;
-use mcdr::MmRecord;
+use entries::read::ReadEntry;
 use out::Stream;
-use scdr::Record;
+use setup::{Command, Turns};
 use shown::{Shown, Style};
 use std::env::Env;
+use std::io;
 use std::io::{Read, Stderr, Stdout, Write};
-use std::num::{wrapping_add_u64, wrapping_sub_u64};
 use std::rt::Files;
 use template::{four, say};
-use window::Place;
+use window::Input;
 
 // The longest record with its mark.
 const LONGEST: usize = 1026;
 
-// How the program goes on: 0 on and on, 4 not at all; or what is wrong with the next record: 1 no mark stands there, 2 it is cut short, 3 it
-// is no record within the rules.
-const GOING: u64 = 0;
-
-const NO_MARK: u64 = 1;
-
-const CUT: u64 = 2;
-
-const NO_RECORD: u64 = 3;
-
-const OVER: u64 = 4;
-
-// Where the next record lies; how many were shown; whether the file has been read to its end; and how to go on.
+// What is wrong with the record at which it stopped.
 #[derive(Clone, Copy)]
-struct State {
-    place: Place,
-    records: u64,
-    ended: bool,
-    turn: u64,
+enum Wrong {
+    NoMark,
+    Cut,
+    NoRecord,
 }
 
-// More of the file, or its end.
-fn read_on<F: Read>(error: Stderr, file: &mut F, s: State, held: &mut [u8; 65536]) -> State {
-    let p = s.place;
-    let f = setup::read_on(error, b"show", b"the record list", file, held, p);
-    let place = f.place;
-    State {
-        place,
-        records: s.records,
-        ended: f.got == 0,
-        turn: over_if(f.got < 0),
-    }
-}
-
-fn over_if(over: bool) -> u64 {
-    if over {
-        return OVER;
-    }
-    GOING
-}
-
-// How to go on after what was found.
-fn turn_after(e: Entry, answer: u8) -> u64 {
-    match e {
-        Entry::Found(_, _) => {
-            if answer == 0 {
-                return GOING;
-            }
-            NO_RECORD
+impl Wrong {
+    fn words(self) -> &'static [u8] {
+        match self {
+            Wrong::NoMark => b"no mark",
+            Wrong::Cut => b"cut short",
+            Wrong::NoRecord => b"not a record within the rules",
         }
-        Entry::End => OVER,
-        Entry::NoMark(_) => NO_MARK,
-        Entry::Cut(_) => CUT,
-        Entry::NoValue(_) => NO_RECORD,
     }
 }
 
-// Where the record ends that was found at the front, counted from its mark on.
-fn end_of(e: Entry) -> usize {
-    if let Entry::Found(_, end) = e { end } else { 0 }
-}
-
-// The same state, with another word on how to go on.
-fn turned(s: State, turn: u64) -> State {
-    let mut t = s;
-    t.turn = turn;
-    t
-}
-
-// The state after a record that takes so many octets of the file. Nothing more is read once a write has failed.
-fn past_record(s: State, end: usize, written: bool) -> State {
-    let p = s.place;
-    let place = window::after(p, end);
-    State {
-        place,
-        records: wrapping_add_u64(s.records, 1),
-        ended: s.ended,
-        turn: over_if(!written),
-    }
-}
-
-// What lies at the front of the octets that are left: a record and more, or all that is left of the file.
-fn show_one(to: &mut Stream, style: Style, s: State, here: &[u8]) -> State {
-    let z = entries::read::read_entry(here, 0);
-    let e = z.entry;
-    let turn = turn_after(e, z.answer);
-    if turn != GOING {
-        return turned(s, turn);
-    }
-    let end = end_of(e);
-    if z.mm {
-        let cdr = z.mmcdr;
-        return show_mm(to, style, s, end, cdr);
-    }
-    let cdr = z.cdr;
-    show_cdr(to, style, s, end, cdr)
-}
-
-// An S-CDR, whose entry takes so many octets of the file.
-fn show_cdr(to: &mut Stream, style: Style, s: State, end: usize, cdr: Record) -> State {
-    let shown = Shown {
-        record: &cdr,
-        style,
-        which: wrapping_add_u64(s.records, 1),
-        before: s.place.offset,
-        size: wrapping_sub_u64(end as u64, 2),
-    };
-    let written = write!(to, "{shown}").is_ok();
-    past_record(s, end, written)
-}
-
-// An M-CDR, in the same way.
-fn show_mm(to: &mut Stream, style: Style, s: State, end: usize, cdr: MmRecord) -> State {
-    let shown = Shown {
-        record: &cdr,
-        style,
-        which: wrapping_add_u64(s.records, 1),
-        before: s.place.offset,
-        size: wrapping_sub_u64(end as u64, 2),
-    };
-    let written = write!(to, "{shown}").is_ok();
-    past_record(s, end, written)
-}
-
-// One record, or more of the file: so that a whole record is in the window, or all that is left.
-fn take_turn<F: Read>(
-    to: &mut Stream,
-    error: Stderr,
-    file: &mut F,
+// A list through its window, each record of which is shown in a style; how many were; and what is wrong with the next.
+#[derive(Drop)]
+struct Show<'a, F> {
+    command: Command,
+    to: Stream,
     style: Style,
-    s: State,
-    held: &mut [u8; 65536],
-) -> State {
-    let p = s.place;
-    if !s.ended & (window::left(p) < LONGEST) {
-        return read_on(error, file, s, held);
-    }
-    show_one(to, style, s, octets::part(held, p.at, p.end))
+    input: Input<'a, F>,
+    records: u64,
+    wrong: Option<Wrong>,
 }
 
-// Writes what waits, and says how it ended: which record was refused, counted from 1, how many octets lie before its mark and what was found
-// there; and what was shown.
-fn finish(to: &mut Stream, error: Stderr, s: State) {
-    if to.flush().is_err() {
-        setup::fail_output(error, b"show", to);
-        return;
+impl<'a, F: Read> Turns for Show<'a, F> {
+    // One record, or more of the file: so that a whole record is in the window, or all that is left. Answers whether to go on.
+    fn turn(&mut self) -> bool {
+        if self.input.wants(LONGEST) {
+            return self.command.read_on(b"the record list", &mut self.input);
+        }
+        self.show_next()
     }
-    let p = s.place;
-    let next = wrapping_add_u64(s.records, 1);
-    say(
-        error,
-        b"%K%;show: refused 20 at record %l (octet %m): no mark\n%;show: refused 20 at record %l (octet %m): cut short\n\
-%;show: refused 20 at record %l (octet %m): not a record within the rules\n%.show: %n records, %m octets\n",
-        &four(s.turn % OVER, next, p.offset, s.records),
-        b"",
-    );
 }
 
-// A proved loop has to end, and nothing says that a file does. So it counts its turns down, from a number that no run uses up.
-fn run<F: Read>(to: &mut Stream, error: Stderr, file: &mut F, style: Style) {
+impl<'a, F: Read> Show<'a, F> {
+    // What lies at the front of the octets that are left: a record and more, or all that is left of the file. Nothing more is shown once a
+    // write has failed.
+    fn show_next(&mut self) -> bool {
+        let r = entries::read::read_entry(self.input.here(), 0);
+        match r.entry {
+            Entry::Found(_, end) if r.answer == 0 => self.show(&r, end).is_ok(),
+            Entry::End => false,
+            Entry::NoMark(_) => self.stop(Wrong::NoMark),
+            Entry::Cut(_) => self.stop(Wrong::Cut),
+            Entry::Found(_, _) | Entry::NoValue(_) => self.stop(Wrong::NoRecord),
+        }
+    }
+
+    fn stop(&mut self, wrong: Wrong) -> bool {
+        self.wrong = Some(wrong);
+        false
+    }
+
+    // A record, whose entry takes so many octets of the file.
+    fn show(&mut self, r: &ReadEntry, end: usize) -> io::Result<()> {
+        let before = self.input.place.offset;
+        self.input.pass(end);
+        self.records = self.records.wrapping_add(1);
+        if r.mm {
+            let shown = self.shown(&r.mmcdr, before, end);
+            write!(self.to, "{shown}")
+        } else {
+            let shown = self.shown(&r.cdr, before, end);
+            write!(self.to, "{shown}")
+        }
+    }
+
+    // The record that is shown next, in the style, with what is said of it.
+    fn shown<'r, R>(&self, record: &'r R, before: u64, end: usize) -> Shown<'r, R> {
+        Shown {
+            record,
+            style: self.style,
+            which: self.records,
+            before,
+            size: (end as u64).wrapping_sub(2),
+        }
+    }
+
+    // Writes what waits, and says how it ended: which record was refused, counted from 1, how many octets lie before its mark and what was
+    // found there; and what was shown.
+    fn finish(&mut self) {
+        if self.to.flush().is_err() {
+            self.command.fail_output(&self.to);
+            return;
+        }
+        let offset = self.input.place.offset;
+        if let Some(wrong) = self.wrong {
+            say(
+                self.command.error,
+                b"show: refused 20 at record %l (octet %m): %a\n",
+                &four(0, self.records.wrapping_add(1), offset, 0),
+                wrong.words(),
+            );
+        }
+        say(
+            self.command.error,
+            b"show: %n records, %m octets\n",
+            &four(0, 0, offset, self.records),
+            b"",
+        );
+    }
+}
+
+fn run<F: Read + Drop>(command: Command, to: Stream, file: F, style: Style) {
     let mut held = [0u8; 65536];
-    let mut s = State {
-        place: window::START,
+    let mut show = Show {
+        command,
+        to,
+        style,
+        input: Input::new(file, &mut held),
         records: 0,
-        ended: false,
-        turn: GOING,
+        wrong: None,
     };
-    let mut turns = u64::MAX;
-    while turns > 0 && s.turn == GOING {
-        s = take_turn(to, error, file, style, s, &mut held);
-        turns -= 1;
+    setup::run(&mut show);
+    show.finish();
+}
+
+fn command(error: Stderr) -> Command {
+    Command {
+        name: b"show",
+        error,
     }
-    finish(to, error, s);
 }
 
 // The list that an argument names.
@@ -204,22 +158,17 @@ pub fn show_file<R: Env + Files>(
     argument: usize,
     style: Style,
 ) {
-    if let Some(mut file) = setup::open(rt, error, b"show", argument) {
-        let mut to = out::to_output(output);
-        run(&mut to, error, &mut file, style);
+    let command = command(error);
+    if let Some(file) = command.open(rt, argument) {
+        run(command, out::to_output(output), file, style);
     }
 }
 
 pub fn main<R: Env + Files>(rt: &R, output: Stdout, error: Stderr) {
-    let count = setup::arg_count(rt);
     let json = setup::is_word(rt, 2, b"--json");
-    if (count == 3) & !json {
-        show_file(rt, output, error, 2, Style::Text);
-        return;
+    match (setup::arg_count(rt), json) {
+        (3, false) => show_file(rt, output, error, 2, Style::Text),
+        (4, true) => show_file(rt, output, error, 3, Style::Json),
+        _ => setup::say_line(error, b"usage: show [--json] RECORDS\n"),
     }
-    if (count == 4) & json {
-        show_file(rt, output, error, 3, Style::Json);
-        return;
-    }
-    setup::say_line(error, b"usage: show [--json] RECORDS\n");
 }

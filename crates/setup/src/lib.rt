@@ -16,7 +16,7 @@ use std::io::{Cursor, ErrorKind, Read, Stderr, Write};
 use std::rt::Files;
 use std::{fs, io};
 use template::{four, say};
-use window::{Filled, Place};
+use window::Input;
 
 // The numbers that the system has for an argument that is missing, and for a name that is too long.
 const INVALID: i32 = 22;
@@ -25,12 +25,10 @@ const TOO_LONG: i32 = 36;
 
 // How many characters of what is said of an error are words, without the number that may stand behind them.
 fn words(s: &[u8]) -> usize {
-    for i in 0..s.len() {
-        if s[i..].starts_with(b" (os error ") {
-            return i;
-        }
-    }
-    s.len()
+    let number = b" (os error ".as_slice();
+    s.windows(number.len())
+        .position(|w| w == number)
+        .unwrap_or(s.len())
 }
 
 // Says what failed, and why.
@@ -45,21 +43,6 @@ pub fn say_why(error: Stderr, what: &[u8], why: io::Error) {
     out::write_all(&mut to, b": ");
     out::write_all(&mut to, octets::front(said, words(said)));
     out::write_all(&mut to, b"\n");
-}
-
-// The same, after the command's name.
-pub fn fail(error: Stderr, command: &[u8], what: &[u8], why: io::Error) {
-    let mut to = out::to_error(error);
-    out::write_all(&mut to, command);
-    out::write_all(&mut to, b": ");
-    say_why(error, what, why);
-}
-
-// The same of standard output, where a write failed.
-pub fn fail_output(error: Stderr, command: &[u8], output: &Stream) {
-    if let Some(why) = output.failed() {
-        fail(error, command, b"standard output", why);
-    }
 }
 
 // Says a line as it stands.
@@ -81,10 +64,8 @@ pub fn arg_count(rt: &impl Env) -> usize {
 
 // An argument, in a buffer that is lent; nothing where it is missing, or longer than the buffer.
 pub fn arg<'a>(rt: &impl Env, argument: usize, held: &'a mut [u8]) -> &'a [u8] {
-    match rt.arg(argument, held) {
-        Ok(n) => octets::front(held, n),
-        Err(_) => octets::front(held, 0),
-    }
+    let n = rt.arg(argument, held).unwrap_or(0);
+    octets::front(held, n)
 }
 
 // Is an argument this word?
@@ -93,39 +74,11 @@ pub fn is_word(rt: &impl Env, argument: usize, word: &[u8]) -> bool {
     arg(rt, argument, &mut held) == word
 }
 
-// Opens the file that an argument names, if it can.
-pub fn open<R: Env + Files>(
-    rt: &R,
-    error: Stderr,
-    command: &[u8],
-    argument: usize,
-) -> Option<R::File> {
-    let mut path = [0u8; 4096];
-    match rt.arg(argument, &mut path) {
-        Ok(n) => open_path(rt, error, command, octets::front(&path, n)),
-        Err(why) => {
-            fail(error, command, b"argument", error_of(why));
-            None
-        }
-    }
-}
-
-// What the system says of an argument that is missing, or too long for a name.
+// What the system says of an argument that is missing, or too long for a name. (Both types are std's, so no `From` can stand here.)
 fn error_of(why: FillError) -> io::Error {
     match why {
         FillError::NotPresent => io::Error::from_raw_os_error(INVALID),
         FillError::TooLong => io::Error::from_raw_os_error(TOO_LONG),
-    }
-}
-
-// Opens the file of a name.
-fn open_path<R: Files>(rt: &R, error: Stderr, command: &[u8], path: &[u8]) -> Option<R::File> {
-    match file_at(rt, path) {
-        Ok(file) => Some(file),
-        Err(why) => {
-            fail(error, command, path, why);
-            None
-        }
     }
 }
 
@@ -136,23 +89,152 @@ fn file_at<R: Files>(rt: &R, path: &[u8]) -> io::Result<R::File> {
     }
 }
 
-// Reads on in a file, behind what is left in the window. Where that fails it says so, with a word for the file.
-pub fn read_on<F: Read>(
-    error: Stderr,
-    command: &[u8],
-    what: &[u8],
-    file: &mut F,
-    held: &mut [u8],
-    p: Place,
-) -> Filled {
-    let f = window::fill(file, held, p);
-    if let Some(why) = f.failed {
-        fail(error, command, what, why);
-    }
-    f
+// What goes on in turns, as long as its input does.
+pub trait Turns {
+    // Takes a turn, and answers whether to go on.
+    fn turn(&mut self) -> bool;
 }
 
-// The number of a fault, for the form below.
+// Takes turns to the end. A proved loop has to end, and nothing says that a file does. So it counts them, up to a number that no run uses up.
+pub fn run<T: Turns>(turns: &mut T) {
+    for _ in 0..u64::MAX {
+        if !turns.turn() {
+            break;
+        }
+    }
+}
+
+// A command: its name, with which it says what is wrong, and standard error, where it does.
+#[derive(Clone, Copy)]
+pub struct Command {
+    pub name: &'static [u8],
+    pub error: Stderr,
+}
+
+impl Command {
+    // Says what failed, and why, after the command's name.
+    pub fn fail(self, what: &[u8], why: io::Error) {
+        let mut to = out::to_error(self.error);
+        out::write_all(&mut to, self.name);
+        out::write_all(&mut to, b": ");
+        say_why(self.error, what, why);
+    }
+
+    // The same of standard output, where a write failed.
+    pub fn fail_output(self, output: &Stream) {
+        if let Some(why) = output.failed() {
+            self.fail(b"standard output", why);
+        }
+    }
+
+    // Reads on in a file, behind what is left in its window, and answers whether it could. If not, it says so, with a word for the file.
+    pub fn read_on<F: Read>(self, what: &[u8], input: &mut Input<F>) -> bool {
+        match input.read_on() {
+            Ok(_) => true,
+            Err(why) => {
+                self.fail(what, why);
+                false
+            }
+        }
+    }
+
+    // Opens the file that an argument names, if it can.
+    pub fn open<R: Env + Files>(self, rt: &R, argument: usize) -> Option<R::File> {
+        let mut path = [0u8; 4096];
+        match rt.arg(argument, &mut path) {
+            Ok(n) => self.open_path(rt, octets::front(&path, n)),
+            Err(why) => {
+                self.fail(b"argument", error_of(why));
+                None
+            }
+        }
+    }
+
+    // Opens the file of a name.
+    fn open_path<R: Files>(self, rt: &R, path: &[u8]) -> Option<R::File> {
+        match file_at(rt, path) {
+            Ok(file) => Some(file),
+            Err(why) => {
+                self.fail(path, why);
+                None
+            }
+        }
+    }
+
+    // The profile in the file of an argument, which is in range; nothing after standard error has said what is wrong.
+    pub fn profile<R: Env + Files>(self, rt: &R, argument: usize) -> Option<Profile> {
+        let mut file = self.open(rt, argument)?;
+        self.profile_in(&mut file)
+    }
+
+    // The profile in a file.
+    fn profile_in<F: Read>(self, file: &mut F) -> Option<Profile> {
+        let mut text = [0u8; 4096];
+        match file.read(&mut text) {
+            Ok(n) => {
+                let more = window::read_full(file, &mut text[n..]);
+                self.profile_of_front(&text, n + more)
+            }
+            Err(why) => {
+                self.fail(b"the profile", why);
+                None
+            }
+        }
+    }
+
+    // The profile of the first n octets of text, if that is not all of it: a text that fills the buffer may go on.
+    fn profile_of_front(self, text: &[u8], n: usize) -> Option<Profile> {
+        if n < text.len() {
+            return self.profile_of_text(octets::front(text, n));
+        }
+        say(
+            self.error,
+            b"%a: the profile has more than 4,095 octets\n",
+            &four(0, 0, 0, 0),
+            self.name,
+        );
+        None
+    }
+
+    // The profile that a text has.
+    fn profile_of_text(self, s: &[u8]) -> Option<Profile> {
+        let r = profile::text::read_profile(s);
+        if !profile::profile_ok(r.profile) {
+            self.say_fault(r.line, number_of(r.fault));
+            return None;
+        }
+        Some(r.profile)
+    }
+
+    // How a command on a file starts: the profile of the second argument (the first is the command), and the file of another; nothing after
+    // standard error has said what is wrong.
+    pub fn start<R: Env + Files>(self, rt: &R, argument: usize) -> Option<(Profile, R::File)> {
+        let profile = self.profile(rt, 2)?;
+        let file = self.open(rt, argument)?;
+        Some((profile, file))
+    }
+
+    // Says what is wrong with a profile that is out of range, or has a fault in a line.
+    fn say_fault(self, line: u8, fault: u64) {
+        say(
+            self.error,
+            b"%a: %Mrefused 12: the profile is out of range: limits of 1 to 1000000000000 octets, 1 to 604800 seconds and \
+1 to 15 changes, offset -720 to 840, node-id of up to 20 characters from space to ~%;profile line %k: %.%L\
+%;the line is missing: write all lines (sgsn, one to eight times limits, offset, node-id)\
+%;no line feed at the end of the line\
+%;the line does not begin with its name: sgsn, limits (one to eight lines), offset, node-id stand in this order\
+%;one space must follow the name (and node-id stands alone where the node ID is empty)\
+%;the value is not a whole number: digits only (and limits has three, with one space between them)\
+%;a number begins with a zero\
+%;not an address: four numbers 0 to 255 with dots\
+%;something follows the last line%.\n",
+            &four(line as u64, fault, (line != 0) as u64, 0),
+            self.name,
+        );
+    }
+}
+
+// The number of a fault, for the form above.
 fn number_of(f: Fault) -> u64 {
     match f {
         Fault::None => 0,
@@ -164,111 +246,6 @@ fn number_of(f: Fault) -> u64 {
         Fault::Zero => 6,
         Fault::Address => 7,
         Fault::More => 8,
-    }
-}
-
-// Says what is wrong with a profile that is out of range, or has a fault in a line.
-fn say_fault(error: Stderr, command: &[u8], line: u8, fault: u64) {
-    say(
-        error,
-        b"%a: %Mrefused 12: the profile is out of range: limits of 1 to 1000000000000 octets, 1 to 604800 seconds and \
-1 to 15 changes, offset -720 to 840, node-id of up to 20 characters from space to ~%;profile line %k: %.%L\
-%;the line is missing: write all lines (sgsn, one to eight times limits, offset, node-id)\
-%;no line feed at the end of the line\
-%;the line does not begin with its name: sgsn, limits (one to eight lines), offset, node-id stand in this order\
-%;one space must follow the name (and node-id stands alone where the node ID is empty)\
-%;the value is not a whole number: digits only (and limits has three, with one space between them)\
-%;a number begins with a zero\
-%;not an address: four numbers 0 to 255 with dots\
-%;something follows the last line%.\n",
-        &four(line as u64, fault, (line != 0) as u64, 0),
-        command,
-    );
-}
-
-// The profile that a text has; one that is out of range after standard error has said what is wrong.
-fn profile_of_text(error: Stderr, command: &[u8], s: &[u8]) -> Profile {
-    let r = profile::text::read_profile(s);
-    let f = r.fault;
-    let p = r.profile;
-    if !profile::profile_ok(p) {
-        say_fault(error, command, r.line, number_of(f));
-    }
-    p
-}
-
-// The same of the first n octets of text, if that is not all of it: a text that fills the buffer may go on.
-fn profile_of_front(error: Stderr, command: &[u8], text: &[u8], n: usize) -> Profile {
-    if n < text.len() {
-        return profile_of_text(error, command, octets::front(text, n));
-    }
-    say(
-        error,
-        b"%a: the profile has more than 4,095 octets\n",
-        &four(0, 0, 0, 0),
-        command,
-    );
-    profile::no_profile()
-}
-
-// Reads on from a place, to the end of the file or of the buffer, and answers the place after the last octet.
-fn read_rest<F: Read>(file: &mut F, text: &mut [u8], n: usize) -> usize {
-    if n < text.len() {
-        let more = window::read_full(file, &mut text[n..]);
-        return std::num::wrapping_add_usize(n, more);
-    }
-    n
-}
-
-// The profile in a file.
-fn profile_in<F: Read>(error: Stderr, command: &[u8], file: &mut F) -> Profile {
-    let mut text = [0u8; 4096];
-    let f = read_on(
-        error,
-        command,
-        b"the profile",
-        file,
-        &mut text,
-        window::START,
-    );
-    if f.got < 0 {
-        return profile::no_profile();
-    }
-    let p = f.place;
-    let end = read_rest(file, &mut text, p.end);
-    profile_of_front(error, command, &text, end)
-}
-
-// The profile in the file of the second argument (the first is the command); one that is out of range after standard error has said what is
-// wrong.
-pub fn profile_of_file<R: Env + Files>(rt: &R, error: Stderr, command: &[u8]) -> Profile {
-    match open(rt, error, command, 2) {
-        Some(mut file) => profile_in(error, command, &mut file),
-        None => profile::no_profile(),
-    }
-}
-
-// How a command on a file starts: the profile, which is in range, and the file.
-#[derive(Drop)]
-pub struct Begun<F> {
-    pub profile: Profile,
-    pub file: F,
-}
-
-// The profile of the second argument, and the file of another; nothing after standard error has said what is wrong.
-pub fn start<R: Env + Files>(
-    rt: &R,
-    error: Stderr,
-    command: &[u8],
-    argument: usize,
-) -> Option<Begun<R::File>> {
-    let profile = profile_of_file(rt, error, command);
-    if !profile::profile_ok(profile) {
-        return None;
-    }
-    match open(rt, error, command, argument) {
-        Some(file) => Some(Begun { profile, file }),
-        None => None,
     }
 }
 

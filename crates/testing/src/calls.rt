@@ -11,269 +11,219 @@ use crate::records::block::two;
 use node::Node;
 use out::Stream;
 use profile::Profile;
-use setup::Begun;
+use setup::{Command, Turns};
 use std::env::Env;
-use std::io::{Read, Stderr};
-use std::num::{wrapping_add_u64, wrapping_add_usize};
+use std::io::{Read, Stderr, Stdout};
 use std::rt::Files;
 use template::{four, say};
-use window::Place;
+use window::Input;
 
-// Where the next call lies, and its number, from 1; whether it lies whole in the window, whether it is a list of reports, and its room and the
-// length of what it holds then, else 0; and whether to go on. (The node is kept apart: what holds it is slow to prove.)
+// The largest room, the longest event, and the longest list.
+const ROOM: usize = 20000;
+
+const EVENT: usize = 300;
+
+const LIST: usize = 1000;
+
+// A call that lies whole in the window: its room, and where what it holds ends, which is an event or a list of reports.
 #[derive(Clone, Copy)]
-struct State {
-    place: Place,
-    number: u64,
-    whole: bool,
-    batch: bool,
+struct Call {
     room: usize,
-    length: usize,
-    going: bool,
+    end: usize,
+    batch: bool,
 }
 
-// The same without a call.
-fn moved(s: State, place: Place, going: bool) -> State {
-    State {
-        place,
-        number: s.number,
-        whole: false,
-        batch: false,
-        room: 0,
-        length: 0,
-        going,
-    }
+// What is wrong with a call: the file ends within it, or its room, its event or its list is too large.
+#[derive(Clone, Copy)]
+enum Wrong {
+    Ends,
+    Room(usize),
+    Event(usize),
+    List(usize),
 }
 
-// Looks for a whole call in the window, or reads on.
-fn fed<F: Read>(error: Stderr, file: &mut F, s: State, held: &mut [u8; 4096]) -> State {
-    let p = s.place;
-    let here = window::left(p);
-    if here < 4 {
-        return read_on(error, file, s, held);
+// The call that octets begin with, if it is there whole.
+fn next_call(here: &[u8]) -> Result<Option<Call>, Wrong> {
+    if here.len() < 4 {
+        return Ok(None);
     }
-    let room = two(held, p.at);
-    let length = two(held, wrapping_add_usize(p.at, 2));
+    let room = two(here, 0);
+    let length = two(here, 2);
+    if room > ROOM {
+        return Err(Wrong::Room(room));
+    }
     if length == reports::LIST {
-        return fed_list(error, file, s, room, held);
+        return next_list(here, room);
     }
-    if (20000 < room) | (300 < length) {
-        say_large(error, s, room, length);
-        return moved(s, p, false);
+    if length > EVENT {
+        return Err(Wrong::Event(length));
     }
-    if here - 4 < length {
-        return read_on(error, file, s, held);
-    }
-    found(s, room, length, false)
+    Ok(whole(here, room, 4 + length, false))
 }
 
 // The same of a list of reports, whose room was read.
-fn fed_list<F: Read>(
-    error: Stderr,
-    file: &mut F,
-    s: State,
-    room: usize,
-    held: &mut [u8; 4096],
-) -> State {
-    let p = s.place;
-    let here = window::left(p);
-    if 20000 < room {
-        say_wrong(error, s, 1, room);
-        return moved(s, p, false);
+fn next_list(here: &[u8], room: usize) -> Result<Option<Call>, Wrong> {
+    if here.len() < 18 {
+        return Ok(None);
     }
-    if here < 18 {
-        return read_on(error, file, s, held);
+    let count = two(here, 16);
+    if count > LIST {
+        return Err(Wrong::List(count));
     }
-    let count = two(held, wrapping_add_usize(p.at, 16));
-    if 1000 < count {
-        say_wrong(error, s, 3, count);
-        return moved(s, p, false);
-    }
-    let length = 14 + 4 * count;
-    if here - 4 < length {
-        return read_on(error, file, s, held);
-    }
-    found(s, room, length, true)
+    Ok(whole(here, room, 18 + 4 * count, true))
 }
 
-// The next call lies whole in the window.
-fn found(s: State, room: usize, length: usize, batch: bool) -> State {
-    let place = s.place;
-    State {
-        place,
-        number: s.number,
-        whole: true,
-        batch,
-        room,
-        length,
-        going: true,
-    }
+// A call, if as much is there.
+fn whole(here: &[u8], room: usize, end: usize, batch: bool) -> Option<Call> {
+    (end <= here.len()).then_some(Call { room, end, batch })
 }
 
-// More of the file, or its end.
-fn read_on<F: Read>(error: Stderr, file: &mut F, s: State, held: &mut [u8; 4096]) -> State {
-    let p = s.place;
-    let f = setup::read_on(error, b"calls", b"the file of calls", file, held, p);
-    let q = f.place;
-    if (f.got == 0) & (0 < window::left(q)) {
-        say_wrong(error, s, 0, 0);
-    }
-    moved(s, q, 0 < f.got)
-}
-
-// Says what is wrong with the next call, which has a size: 0 the file ends within it, 1 its room is too large, 2 its event is, 3 its list is.
-fn say_wrong(error: Stderr, s: State, wrong: u64, size: usize) {
-    let p = s.place;
-    say(
-        error,
-        b"calls: call %k, at octet %l of the file: %Mthe file ends within the call%;a room of %n octets; at most 20000\
-%;an event of %n octets; at most 300%;a batch of %n numbers; at most 1000%.\n",
-        &four(s.number, p.offset, wrong, size as u64),
-        b"",
-    );
-}
-
-// What is too large.
-fn say_large(error: Stderr, s: State, room: usize, length: usize) {
-    if 20000 < room {
-        say_wrong(error, s, 1, room);
-        return;
-    }
-    say_wrong(error, s, 2, length);
-}
-
-// The event of a call.
-fn event_of(p: Place, length: usize, held: &[u8; 4096]) -> &[u8] {
-    let a = wrapping_add_usize(p.at, 4);
-    octets::part(held, a, wrapping_add_usize(a, length))
-}
-
-// What a call of either kind hands back; an event counts as no pair.
+// What a call of either kind hands back: of a list, how many pairs were applied.
 #[derive(Clone, Copy)]
 struct Called {
     answer: u8,
-    applied: usize,
+    applied: Option<usize>,
     node: Node,
     written: usize,
 }
 
-// The call that lies in the window. Where none lies there whole the step is asked nothing, which it refuses.
-fn call(now: Node, s: State, held: &[u8; 4096], out: &mut [u8]) -> Called {
-    let p = s.place;
-    if s.batch {
-        let l = reports::list_at(held, wrapping_add_usize(p.at, 4));
-        let r = reports::told(now, l, out);
-        let n = r.node;
-        return Called {
-            answer: r.answer,
-            applied: r.applied,
-            node: n,
-            written: r.written,
-        };
-    }
-    let r = node::step::step(now, event_of(p, s.length, held), out);
-    let n = r.node;
-    Called {
-        answer: r.answer,
-        applied: 0,
-        node: n,
-        written: r.written,
-    }
-}
-
-// What a call answered and wrote, if there was one.
-fn told(
-    to: &mut Stream,
-    error: Stderr,
-    s: State,
-    answer: u8,
-    applied: usize,
-    written: usize,
-    out: &[u8; 20000],
-) -> State {
-    if !s.whole {
-        return s;
-    }
-    let p = s.place;
-    let place = window::after(p, wrapping_add_usize(s.length, 4));
-    let going = write_line(
-        to,
-        s.batch,
-        answer,
-        applied,
-        written,
-        octets::front(out, written),
-    );
-    if !going {
-        setup::fail_output(error, b"calls", to);
-    }
-    State {
-        place,
-        number: wrapping_add_u64(s.number, 1),
-        whole: false,
-        batch: false,
-        room: 0,
-        length: 0,
-        going,
-    }
-}
-
-// Writes a line: the answer, of a list how many pairs were applied, how many octets were written, and these in hex. Answers whether it could be
-// written.
-fn write_line(
-    to: &mut Stream,
-    batch: bool,
-    answer: u8,
-    applied: usize,
-    written: usize,
-    octets: &[u8],
-) -> bool {
-    let v = four(answer as u64, written as u64, applied as u64, 0);
+// A call of the node, by the octets of an event or of a list.
+fn ask(node: Node, batch: bool, octets: &[u8], out: &mut [u8]) -> Called {
     if batch {
-        return template::write(to, b"batch %k %m %l %x\n", &v, octets);
+        let r = reports::told(node, octets, out);
+        Called {
+            answer: r.answer,
+            applied: Some(r.applied),
+            node: r.node,
+            written: r.written,
+        }
+    } else {
+        let r = node::step::step(node, octets, out);
+        Called {
+            answer: r.answer,
+            applied: None,
+            node: r.node,
+            written: r.written,
+        }
     }
-    template::write(to, b"%k %l %x\n", &v, octets)
 }
 
-// A proved loop has to end, and nothing says that a file does. So it counts its turns down, from a number that no run uses up.
-fn run<F: Read>(to: &mut Stream, error: Stderr, file: &mut F, profile: Profile) {
-    let mut held = [0u8; 4096];
-    let mut out = [0u8; 20000];
-    let mut now = setup::node_of(profile);
-    let mut s = State {
-        place: window::START,
-        number: 1,
-        whole: false,
-        batch: false,
-        room: 0,
-        length: 0,
-        going: true,
-    };
-    let mut turns = u64::MAX;
-    while s.going {
-        s = fed(error, file, s, &mut held);
-        let r = call(now, s, &held, crate::lent(&mut out, s.room));
-        now = r.node;
-        s = told(to, error, s, r.answer, r.applied, r.written, &out);
-        if turns == 0 {
-            return;
+// A file of calls through its window, the node that they are run on, and the number of the next, from 1.
+#[derive(Drop)]
+struct Calls<'a, F> {
+    command: Command,
+    to: Stream,
+    input: Input<'a, F>,
+    node: Node,
+    number: u64,
+}
+
+impl<'a, F: Read> Turns for Calls<'a, F> {
+    // Runs the next call, or reads more of the file: so that it lies whole in the window. Answers whether to go on.
+    fn turn(&mut self) -> bool {
+        match next_call(self.input.here()) {
+            Ok(Some(call)) => self.run(call),
+            Ok(None) => self.read_on(),
+            Err(wrong) => self.stop(wrong),
         }
-        turns -= 1;
     }
+}
+
+impl<'a, F: Read> Calls<'a, F> {
+    // More of the file, or its end.
+    fn read_on(&mut self) -> bool {
+        let read = self.command.read_on(b"the file of calls", &mut self.input);
+        if !self.input.ended {
+            return read;
+        }
+        if !self.input.here().is_empty() {
+            return self.stop(Wrong::Ends);
+        }
+        false
+    }
+
+    // Runs a call, and writes its line. Answers whether that could be written.
+    fn run(&mut self, call: Call) -> bool {
+        let mut out = [0u8; ROOM];
+        let octets = octets::part(self.input.here(), 4, call.end);
+        let r = ask(
+            self.node,
+            call.batch,
+            octets,
+            crate::lent(&mut out, call.room),
+        );
+        self.node = r.node;
+        self.number = self.number.wrapping_add(1);
+        self.input.pass(call.end);
+        self.write_line(&r, octets::front(&out, r.written))
+    }
+
+    // Writes a line: the answer, of a list how many pairs were applied, how many octets were written, and these in hex.
+    fn write_line(&mut self, r: &Called, octets: &[u8]) -> bool {
+        let v = four(
+            r.answer as u64,
+            r.written as u64,
+            r.applied.unwrap_or(0) as u64,
+            0,
+        );
+        let form = match r.applied {
+            Some(_) => b"batch %k %m %l %x\n".as_slice(),
+            None => b"%k %l %x\n".as_slice(),
+        };
+        let written = template::write(&mut self.to, form, &v, octets);
+        if !written {
+            self.command.fail_output(&self.to);
+        }
+        written
+    }
+
+    // Says what is wrong with the next call.
+    fn stop(&mut self, wrong: Wrong) -> bool {
+        let (form, size) = match wrong {
+            Wrong::Ends => (b"the file ends within the call\n".as_slice(), 0),
+            Wrong::Room(n) => (b"a room of %n octets; at most 20000\n".as_slice(), n),
+            Wrong::Event(n) => (b"an event of %n octets; at most 300\n".as_slice(), n),
+            Wrong::List(n) => (b"a batch of %n numbers; at most 1000\n".as_slice(), n),
+        };
+        let v = four(self.number, self.input.place.offset, 0, size as u64);
+        say(
+            self.command.error,
+            b"calls: call %k, at octet %l of the file: ",
+            &v,
+            b"",
+        );
+        say(self.command.error, form, &v, b"");
+        false
+    }
+}
+
+fn run<F: Read + Drop>(command: Command, output: Stdout, file: F, profile: Profile) {
+    let mut held = [0u8; 4096];
+    let mut calls = Calls {
+        command,
+        to: out::to_output(output),
+        input: Input::new(file, &mut held),
+        node: setup::node_of(profile),
+        number: 1,
+    };
+    setup::run(&mut calls);
 }
 
 // The file that an argument names, from a fresh node.
-pub fn run_file<R: Env + Files>(rt: &R, to: &mut Stream, error: Stderr, argument: usize) {
-    if let Some(begun) = setup::start(rt, error, b"calls", argument) {
-        let Begun { profile, mut file } = begun;
-        run(to, error, &mut file, profile);
+pub fn run_file<R: Env + Files>(rt: &R, output: Stdout, error: Stderr, argument: usize) {
+    let command = Command {
+        name: b"calls",
+        error,
+    };
+    if let Some((profile, file)) = command.start(rt, argument) {
+        run(command, output, file, profile);
     }
 }
 
-pub fn main<R: Env + Files>(rt: &R, to: &mut Stream, error: Stderr) {
-    if setup::arg_count(rt) != 4 {
+pub fn main<R: Env + Files>(rt: &R, output: Stdout, error: Stderr) {
+    if setup::arg_count(rt) == 4 {
+        run_file(rt, output, error, 3);
+    } else {
         setup::say_line(error, b"usage: calls PROFILE CALLS\n");
-        return;
     }
-    run_file(rt, to, error, 3);
 }

@@ -9,6 +9,7 @@
 use crate::lent;
 use crate::records::block;
 use out::Stream;
+use setup::Command;
 use std::env::Env;
 use std::io::{Read, Stderr};
 use std::num::wrapping_add_usize;
@@ -123,8 +124,15 @@ fn all<F: Read>(to: &mut Stream, error: Stderr, file: &mut F) {
 
 // The cases of the file that an argument names.
 pub fn count_file<R: Env + Files>(rt: &R, to: &mut Stream, error: Stderr, argument: usize) {
-    if let Some(mut file) = setup::open(rt, error, b"counts", argument) {
+    if let Some(mut file) = command(error).open(rt, argument) {
         all(to, error, &mut file);
+    }
+}
+
+fn command(error: Stderr) -> Command {
+    Command {
+        name: b"counts",
+        error,
     }
 }
 

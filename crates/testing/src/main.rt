@@ -21,77 +21,54 @@ mod records;
 mod table;
 mod tick;
 
-use out::Stream;
 use std::env::Env;
-use std::io::{Read, Stderr};
+use std::io::{Read, Stderr, Stdout};
 use std::rt::Files;
 
 // Each file of calls, from an argument on, from a fresh node.
 fn all<R: Env + Files, F: Read>(
     rt: &R,
-    to: &mut Stream,
+    output: Stdout,
     error: Stderr,
     input: &mut F,
     calls: usize,
 ) {
-    let count = setup::arg_count(rt);
-    let mut i = calls;
-    while i < count {
-        calls::run_file(rt, to, error, i);
-        i += 1;
+    for i in calls..setup::arg_count(rt) {
+        calls::run_file(rt, output, error, i);
     }
-    records::all(to, error, input, false, records::BOTH);
-    records::both_mm(rt, to, error, 3);
-    table::write_rows(to);
+    let mut to = out::to_output(output);
+    records::all(&mut to, error, input, false, records::BOTH);
+    records::both_mm(rt, &mut to, error, 3);
+    table::write_rows(&mut to);
 }
 
 // The first n octets of a buffer; all where there are fewer.
 fn lent(buffer: &mut [u8], n: usize) -> &mut [u8] {
-    if n < buffer.len() {
-        return &mut buffer[..n];
-    }
-    buffer
+    let n = n.min(buffer.len());
+    &mut buffer[..n]
 }
 
 fn main(rt: HostRuntime) {
-    let mut to = out::to_output(rt.stdout());
+    let output = rt.stdout();
+    let mut to = out::to_output(output);
     let mut input = rt.stdin();
     let error = rt.stderr();
-    if setup::is_word(&rt, 1, b"calls") {
-        calls::main(&rt, &mut to, error);
-        return;
+    let mut held = [0u8; 16];
+    match setup::arg(&rt, 1, &mut held) {
+        b"calls" => calls::main(&rt, output, error),
+        b"records" => records::main(&rt, &mut to, error, &mut input),
+        b"dates" => dates::main(&mut to, error, &mut input),
+        b"counts" => counts::main(&mut to, error, &mut input),
+        b"pace" => pace::main(&rt, &mut to, error),
+        b"tick" => tick::main(&rt, &mut to, error),
+        b"all" => all(&rt, output, error, &mut input, 4),
+        b"all-counted" => {
+            all(&rt, output, error, &mut input, 5);
+            counts::count_file(&rt, &mut to, error, 4);
+        }
+        _ => setup::say_line(
+            error,
+            b"usage: testing calls|records|dates|counts|pace|tick|all ARGUMENT..\n",
+        ),
     }
-    if setup::is_word(&rt, 1, b"records") {
-        records::main(&rt, &mut to, error, &mut input);
-        return;
-    }
-    if setup::is_word(&rt, 1, b"dates") {
-        dates::main(&mut to, error, &mut input);
-        return;
-    }
-    if setup::is_word(&rt, 1, b"counts") {
-        counts::main(&mut to, error, &mut input);
-        return;
-    }
-    if setup::is_word(&rt, 1, b"pace") {
-        pace::main(&rt, &mut to, error);
-        return;
-    }
-    if setup::is_word(&rt, 1, b"tick") {
-        tick::main(&rt, &mut to, error);
-        return;
-    }
-    if setup::is_word(&rt, 1, b"all") {
-        all(&rt, &mut to, error, &mut input, 4);
-        return;
-    }
-    if setup::is_word(&rt, 1, b"all-counted") {
-        all(&rt, &mut to, error, &mut input, 5);
-        counts::count_file(&rt, &mut to, error, 4);
-        return;
-    }
-    setup::say_line(
-        error,
-        b"usage: testing calls|records|dates|counts|pace|tick|all ARGUMENT..\n",
-    );
 }

@@ -14,6 +14,7 @@ use event::framing;
 use out::Stream;
 use profile::Profile;
 use scdr::Record;
+use setup::Command;
 use std::env::Env;
 use std::io::Stderr;
 use std::num::{wrapping_add_u64, wrapping_add_usize, wrapping_sub_u64};
@@ -221,12 +222,11 @@ pub fn say(rt: &impl CpuClock, to: &mut Stream, kind: &[u8], calls: u64, sum: u6
 // The file that an argument of a command names, from the start of a buffer: how many octets it has.
 pub fn load<R: Env + Files>(
     rt: &R,
-    error: Stderr,
-    command: &[u8],
+    command: Command,
     argument: usize,
     held: &mut [u8; 65536],
 ) -> usize {
-    match setup::open(rt, error, command, argument) {
+    match command.open(rt, argument) {
         Some(mut file) => window::read_full(&mut file, held),
         None => 0,
     }
@@ -236,9 +236,14 @@ pub fn in_file(held: &[u8; 65536], n: usize) -> &[u8] {
     octets::front(held, n)
 }
 
-fn pace_step<R: Env + Files + CpuClock>(rt: &R, to: &mut Stream, error: Stderr, profile: Profile) {
+fn pace_step<R: Env + Files + CpuClock>(
+    rt: &R,
+    to: &mut Stream,
+    command: Command,
+    profile: Profile,
+) {
     let mut held = [0u8; 65536];
-    let n = load(rt, error, b"pace", 3, &mut held);
+    let n = load(rt, command, 3, &mut held);
     let from = clock(rt);
     let sum = run_events(profile, in_file(&held, n));
     say(rt, to, b"step", 90000, sum, from);
@@ -265,9 +270,9 @@ fn pace_count(rt: &impl CpuClock, to: &mut Stream, kind: &[u8], list: &[u8], rea
     say(rt, to, kind, records % 65536 * COUNTS, sum, from);
 }
 
-fn pace_records<R: Env + Files + CpuClock>(rt: &R, to: &mut Stream, error: Stderr) {
+fn pace_records<R: Env + Files + CpuClock>(rt: &R, to: &mut Stream, command: Command) {
     let mut held = [0u8; 65536];
-    let n = load(rt, error, b"pace", 4, &mut held);
+    let n = load(rt, command, 4, &mut held);
     pace_list(rt, to, &held, n);
 }
 
@@ -284,10 +289,13 @@ pub fn main<R: Env + Files + CpuClock>(rt: &R, to: &mut Stream, error: Stderr) {
         setup::say_line(error, b"usage: pace PROFILE EVENTS RECORDS\n");
         return;
     }
-    let p = setup::profile_of_file(rt, error, b"pace");
-    if !profile::profile_ok(p) {
+    let command = Command {
+        name: b"pace",
+        error,
+    };
+    let Some(p) = command.profile(rt, 2) else {
         return;
-    }
-    pace_step(rt, to, error, p);
-    pace_records(rt, to, error);
+    };
+    pace_step(rt, to, command, p);
+    pace_records(rt, to, command);
 }

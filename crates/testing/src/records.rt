@@ -12,7 +12,7 @@ pub mod block;
 
 use crate::lent;
 use out::Stream;
-use setup::is_word;
+use setup::{Command, is_word};
 use shown::Shown;
 use std::env::Env;
 use std::io::{Read, Stderr, Write};
@@ -177,7 +177,7 @@ pub fn all<F: Read>(to: &mut Stream, error: Stderr, file: &mut F, mm: bool, task
 
 // The blocks of M-CDRs in the file that an argument names.
 pub fn both_mm<R: Env + Files>(rt: &R, to: &mut Stream, error: Stderr, argument: usize) {
-    if let Some(mut file) = setup::open(rt, error, b"records", argument) {
+    if let Some(mut file) = command(error).open(rt, argument) {
         all(to, error, &mut file, true, BOTH);
     }
 }
@@ -190,6 +190,13 @@ fn is_task(rt: &impl Env, word: &[u8], for_mm: &[u8]) -> bool {
 fn run<F: Read>(rt: &impl Env, to: &mut Stream, error: Stderr, input: &mut F, task: u8) {
     let mm = is_word(rt, 2, b"write-mm") | is_word(rt, 2, b"read-mm") | is_word(rt, 2, b"both-mm");
     all(to, error, input, mm, task);
+}
+
+fn command(error: Stderr) -> Command {
+    Command {
+        name: b"records",
+        error,
+    }
 }
 
 pub fn main<F: Read>(rt: &impl Env, to: &mut Stream, error: Stderr, input: &mut F) {

@@ -7,6 +7,7 @@
 use crate::pace::{after_event, clock, in_file, load, say};
 use out::Stream;
 use profile::Profile;
+use setup::Command;
 use std::env::Env;
 use std::io::Stderr;
 use std::num::wrapping_add_u64;
@@ -52,12 +53,15 @@ pub fn main<R: Env + Files + CpuClock>(rt: &R, to: &mut Stream, error: Stderr) {
         setup::say_line(error, b"usage: tick PROFILE EVENTS\n");
         return;
     }
-    let p = setup::profile_of_file(rt, error, b"tick");
-    if !profile::profile_ok(p) {
+    let command = Command {
+        name: b"tick",
+        error,
+    };
+    let Some(p) = command.profile(rt, 2) else {
         return;
-    }
+    };
     let mut held = [0u8; 65536];
-    let n = load(rt, error, b"tick", 3, &mut held);
+    let n = load(rt, command, 3, &mut held);
     let from = clock(rt);
     let ran = run_last(p, in_file(&held, n));
     say(rt, to, b"tick", ran.last, ran.sum, from);

@@ -1,3 +1,2 @@
 pub mod Moved
 pub mod Fill
-pub mod Private

@@ -3,14 +3,13 @@
 // What lies there is for the program to say. `fill` reads, so no contract can say what comes behind what was left.
 #![tactic(auto)]
 
-ghost use Rattle.std.specs.Prelude.{◌≡◌, ◌+◌, ◌-◌, ◌%◌, ◌^◌, ◌≤◌, length};
+ghost use Rattle.std.specs.Prelude.{◌≡◌, ◌+◌, ◌-◌, ◌%◌, ◌^◌, ◌<◌, ◌≤◌, ◌==◌, ◌↔◌, length, false, IsTrue, IfOk, OnErr};
+ghost use Rattle.octets.specs.Part.{part_of};
 ghost use Rattle.window.specs.Moved.{Moves};
 ghost use Rattle.window.specs.Fill.{Fills};
-ghost use Rattle.window.specs.Private.Again.{again_of};
 
 use std::io;
 use std::io::Read;
-use std::num::{wrapping_add_u64, wrapping_add_usize};
 
 // Where the next thing lies: in the window from `at` on, where octets of the file stand up to `end`; in the file after `offset` octets.
 #[derive(Clone, Copy)]
@@ -27,95 +26,107 @@ pub const START: Place = Place {
     offset: 0,
 };
 
-// A place in the window after a read, and what the read answered: how many octets came, 0 at the end of the file, less than 0 where it
-// failed; and then why.
-#[derive(Clone, Copy)]
-pub struct Filled {
+impl Place {
+    // How many octets of the window are left.
+    pub fn left(self) -> usize
+        ensures { result ≡ self.end - self.at }
+    {
+        self.end.saturating_sub(self.at)
+    }
+
+    // The place n octets on.
+    pub fn after(self, n: usize) -> Place
+        ensures { (result.at ≡ (self.at + n) % 2 ^ 64) × ((result.end ≡ self.end) × (result.offset ≡ (self.offset + n) % 2 ^ 64)) }
+    {
+        Place {
+            at: self.at.wrapping_add(n),
+            offset: self.offset.wrapping_add(n as u64),
+            ..self
+        }
+    }
+
+    // Moves what is left to the front of the window.
+    #[tactic(auto, using(crate::proofs::Moves::moved_copied, crate::proofs::Moves::moved_none))]
+    fn to_front(&mut self, window: &mut [u8])
+        ensures { Moves window.old window.new self.old self.new }
+    {
+        let end = self.end.min(window.len());
+        if self.at < end {
+            window.copy_within(self.at..end, 0);
+        }
+        self.end = self.left();
+        self.at = 0;
+    }
+
+    // Reads on, behind what is left, which it moves to the front of the window. Answers how many octets came, 0 at the end of the file.
+    pub fn fill<R: Read>(&mut self, file: &mut R, window: &mut [u8]) -> io::Result<usize>
+        ensures { Fills window.old window.new self.old self.new result }
+    {
+        self.to_front(window);
+        if window.len() <= self.end {
+            return Ok(0);
+        }
+        let more = file.read(&mut window[self.end..])?;
+        self.end += more;
+        Ok(more)
+    }
+}
+
+// A file that is read through a window: what is held of it, and where the next thing lies; and whether the file has ended in the window.
+#[derive(Drop)]
+pub struct Input<'a, F> {
+    pub file: F,
+    pub held: &'a mut [u8],
     pub place: Place,
-    pub got: isize,
-    pub failed: Option<io::Error>,
+    pub ended: bool,
 }
 
-// How many octets of the window are left.
-pub fn left(p: Place) -> usize
-    ensures { result ≡ p.end - p.at }
-{
-    if p.at < p.end {
-        return p.end - p.at;
-    }
-    0
-}
-
-// The place n octets on.
-pub fn after(p: Place, n: usize) -> Place
-    ensures { (result.at ≡ (p.at + n) % 2 ^ 64) × ((result.end ≡ p.end) × (result.offset ≡ (p.offset + n) % 2 ^ 64)) }
-{
-    Place {
-        at: wrapping_add_usize(p.at, n),
-        end: p.end,
-        offset: wrapping_add_u64(p.offset, n as u64),
-    }
-}
-
-// The octet at one place, at another too.
-fn again(window: &mut [u8], from: usize, to: usize)
-    ensures { window.new ≡ again_of from to window.old }
-{
-    if from < window.len() {
-        if to < window.len() {
-            window[to] = window[from];
+impl<'a, F: Read> Input<'a, F> {
+    // A file from its start, through a window that is lent.
+    pub fn new(file: F, held: &'a mut [u8]) -> Input<'a, F>
+        ensures { (result.place ≡ START) × (result.ended ≡ false) × (result.held.now ≡ held.old) }
+    {
+        Input {
+            file,
+            held,
+            place: START,
+            ended: false,
         }
     }
-}
 
-// Moves what is left to the front of the window.
-fn to_front(window: &mut [u8], p: Place) -> Place
-    ensures { Moves window.old window.new p result }
-{
-    let n = left(p);
-    let mut i: usize = 0;
-    while i < n {
-        again(window, wrapping_add_usize(p.at, i), i);
-        i += 1;
+    // What is left in the window.
+    pub fn here(&self) -> &[u8]
+        ensures { result.now ≡ part_of self.now.place.at self.now.place.end self.now.held.now }
+    {
+        octets::part(self.held, self.place.at, self.place.end)
     }
-    Place {
-        at: 0,
-        end: n,
-        offset: p.offset,
-    }
-}
 
-// Reads on, behind what is left.
-pub fn fill<R: Read>(file: &mut R, window: &mut [u8], p: Place) -> Filled
-    ensures { Fills window.old window.new p result }
-{
-    let q = to_front(window, p);
-    let n = q.end;
-    if window.len() <= n {
-        return Filled {
-            place: q,
-            got: 0,
-            failed: None,
-        };
+    // Are fewer than n octets left, and may more follow?
+    pub fn wants(&self, n: usize) -> bool
+        ensures { IsTrue result ↔ ((self.now.ended ≡ false) × (self.now.place.end - self.now.place.at < n)) }
+    {
+        !self.ended && self.place.left() < n
     }
-    match file.read(&mut window[n..]) {
-        Ok(more) => {
-            let place = Place {
-                at: 0,
-                end: wrapping_add_usize(n, more),
-                offset: q.offset,
-            };
-            Filled {
-                place,
-                got: more as isize,
-                failed: None,
-            }
-        }
-        Err(e) => Filled {
-            place: q,
-            got: -1,
-            failed: Some(e),
-        },
+
+    // Goes on by n octets.
+    pub fn pass(&mut self, n: usize)
+        ensures at { self.new.place.at ≡ (self.old.place.at + n) % 2 ^ 64 }
+        ensures end { self.new.place.end ≡ self.old.place.end }
+        ensures offset { self.new.place.offset ≡ (self.old.place.offset + n) % 2 ^ 64 }
+        ensures same { (self.new.held.now ≡ self.old.held.now) × (self.new.ended ≡ self.old.ended) }
+    {
+        self.place = self.place.after(n);
+    }
+
+    // Reads on, behind what is left, which it moves to the front of the window. Answers how many octets came, 0 at the end of the file.
+    pub fn read_on(&mut self) -> io::Result<usize>
+        ensures filled { Fills self.old.held.now self.new.held.now self.old.place self.new.place result }
+        ensures ended { IfOk result (λ n. self.new.ended ≡ (n == 0)) }
+        ensures failed { OnErr result (self.new.ended ≡ self.old.ended) }
+    {
+        let n = self.place.fill(&mut self.file, self.held)?;
+        self.ended = n == 0;
+        Ok(n)
     }
 }
 
@@ -123,12 +134,11 @@ pub fn fill<R: Read>(file: &mut R, window: &mut [u8], p: Place) -> Filled
 pub fn read_full<R: Read>(file: &mut R, buffer: &mut [u8]) -> usize
     ensures { result ≤ length buffer.new }
 {
-    let mut done: usize = 0;
+    let mut done = 0;
     while done < buffer.len() {
         match file.read(&mut buffer[done..]) {
-            Ok(0) => return done,
-            Ok(more) => done += more,
-            Err(_) => return done,
+            Ok(more) if more > 0 => done += more,
+            _ => break,
         }
     }
     done

@@ -1,5 +1,0 @@
--- `commands::charge::run` is safe and ends: the turns that are left fall.
-use Rattle.commands.proofs.charge.run.Given as goal
-
-abbrev pub decreases-loop-turns : goal.decreases-loop-turns
-decreases-loop-turns g l = l.turns

@@ -1,2 +1,0 @@
--- What private functions count on: no part of what a reader has to believe.
-pub mod Again
