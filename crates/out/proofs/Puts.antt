@@ -1,6 +1,6 @@
 -- The ways in which one character is put. r says how many wait before, s how many then.
-use Rattle.std.proofs.Common.{◌≡◌, ℕ, ◌+◌, ◌<◌, ◌≤◌, List, set, true, false, lt-ltb, min, Result, Ok, Err, arith}
-use Rattle.out.specs.Put.{PutsOne, put_of, count_of}
+use Rattle.std.proofs.Common.{refl, [], ◌∷◌, ◌++◌, ◌≡◌, ℕ, ◌+◌, ◌<◌, ◌≤◌, List, set, true, false, lt-ltb, min, Result, Ok, Err, arith}
+use Rattle.out.specs.Put.{PutsAll, PutsOne, put_of, count_of}
 
 -- there is room
 pub in_room : {E : Type 0} → (text after : List ℕ) → (r s : Result ℕ E) → (x n : ℕ) → s ≡ r → s ≡ Ok n → n < 4096 → after ≡ text → PutsOne text (count_of r) x (set after n x) (min (n + 1) 4096)
@@ -28,3 +28,14 @@ lost text after r s x n e is le failed same =
 pub told : {E : Type 0} → (text after : List ℕ) → (r s : Result ℕ E) → (x : ℕ) → (e : E) → s ≡ r → s ≡ Err e → after ≡ text → PutsOne text (count_of r) x after (count_of s)
 unfolding put_of
 told text after r s x e kept failed same = record { wrote = false; is = rw (← kept, failed, same) }
+
+-- then no character comes out
+pub none_out : (text xs : List ℕ) → PutsAll text 4097 xs text 4097
+unfolding put_of
+none_out text [] = (refl, refl)
+none_out text (x ∷ xs) = (text, 4097, record { wrote = false; is = refl }, none_out text xs)
+
+-- and then more
+pub then_all : (t : List ℕ) (w : ℕ) (xs u : List ℕ) (v : ℕ) (ys z : List ℕ) (r : ℕ) → PutsAll t w xs u v → PutsAll u v ys z r → PutsAll t w (xs ++ ys) z r
+then_all t w [] u v ys z r (e, f) more = rw (← e, ← f) more
+then_all t w (x ∷ xs) u v ys z r (m, n, one, rest) more = (m, n, one, then_all m n xs u v ys z r rest more)

@@ -1,5 +1,5 @@
 -- One character behind those that wait to be written.
-use Rattle.std.specs.Prelude.{◌≡◌, Bool, cond, List, ℕ, ◌+◌, ltb, set, min, Result, Ok, Err}
+use Rattle.std.specs.Prelude.{◌≡◌, Bool, cond, List, [], ◌∷◌, ℕ, ◌+◌, ltb, set, min, Result, Ok, Err}
 
 -- How many wait; 4,097 says that a write failed.
 abbrev pub count_of : {E : Type 0} → Result ℕ E → ℕ
@@ -16,3 +16,8 @@ put_of wrote text w x = cond (ltb w 4096) (set text w x, w + 1) (cond (ltb 4096 
 pub record PutsOne (text : List ℕ) (w x : ℕ) (after : List ℕ) (r : ℕ) : Type 0 where
   pub wrote : Bool
   pub is : ◌≡◌ {A = List ℕ × ℕ} (after, r) (put_of wrote text w x)
+
+-- Characters one after another, those that no longer come out among them.
+abbrev pub PutsAll : List ℕ → ℕ → List ℕ → List ℕ → ℕ → Type 0
+PutsAll text w [] after r = (after ≡ text) × (r ≡ w)
+PutsAll text w (x ∷ xs) after r = (middle : List ℕ) × (m : ℕ) × PutsOne text w x middle m × PutsAll middle m xs after r

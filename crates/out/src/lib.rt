@@ -3,8 +3,11 @@
 // No contract can say what is written: `put` says what waits after one character, as the write went, and all else puts characters by it.
 #![tactic(auto)]
 
-ghost use Rattle.std.specs.Prelude.{◌≡◌, IfOk};
-ghost use Rattle.out.specs.Put.{PutsOne, count_of};
+ghost use Rattle.std.specs.Prelude.{◌≡◌, IfOk, None, Ok, OnErr, OnOk, length};
+ghost use Rattle.std.specs.Io.{WritesAtMost};
+ghost use Rattle.std.specs.Result.{result_err};
+ghost use Rattle.std.specs.Io.KnownBytes.{Keeps, WriteAppends};
+ghost use Rattle.out.specs.Put.{PutsAll, PutsOne, count_of};
 
 use std::io;
 use std::io::{Stderr, Stdout, Write};
@@ -35,7 +38,10 @@ pub fn write_all<W: Write>(to: &mut Stream<W>, octets: &[u8]) -> bool {
 }
 
 impl<W: Write> Stream<W> {
-    pub fn new(end: W) -> Stream<W> {
+    pub fn new(end: W) -> Stream<W>
+        ensures end { result.end ≡ end }
+        ensures none { result.waiting ≡ Ok 0 }
+    {
         Stream {
             end,
             text: [0; ROOM],
@@ -44,13 +50,16 @@ impl<W: Write> Stream<W> {
     }
 
     // Why a write failed, if one did.
-    pub fn failed(&self) -> Option<io::Error> {
+    pub fn failed(&self) -> Option<io::Error>
+        ensures { result ≡ result_err self.now.waiting }
+    {
         self.waiting.err()
     }
 
     // Puts one character behind those that wait.
     pub fn put(&mut self, x: u8) -> io::Result<()>
-        ensures { PutsOne self.old.text (count_of self.old.waiting) x self.new.text (count_of self.new.waiting) }
+        ensures failed { OnErr result (count_of self.new.waiting ≡ 4097) }
+        ensures puts { PutsOne self.old.text (count_of self.old.waiting) x self.new.text (count_of self.new.waiting) }
     {
         if let Ok(ROOM..) = self.waiting {
             self.write_out();
@@ -74,14 +83,24 @@ impl<W: Write> Stream<W> {
 }
 
 impl<W: Write> Write for Stream<W> {
-    fn write(&mut self, octets: &[u8]) -> io::Result<usize> {
+    // Puts all, until a write fails.
+    fn write(&mut self, octets: &[u8]) -> io::Result<usize>
+        ensures bound { WritesAtMost result octets.now }
+        ensures bytes { WriteAppends None None result octets.now }
+        ensures all { IfOk result (λ n. n ≡ length octets.now) }
+        ensures puts { PutsAll self.old.text (count_of self.old.waiting) octets.now self.new.text (count_of self.new.waiting) }
+    {
         for x in octets {
             self.put(*x)?;
         }
         Ok(octets.len())
     }
 
-    fn flush(&mut self) -> io::Result<()> {
+    fn flush(&mut self) -> io::Result<()>
+        ensures bytes { Keeps None None }
+        ensures ok { OnOk result (count_of self.new.waiting ≡ 0) }
+        ensures err { OnErr result (count_of self.new.waiting ≡ 4097) }
+    {
         self.write_out();
         self.waiting.map(|_| ())
     }
