@@ -7,7 +7,6 @@
 // list is refused: standard error says then what does not fit, and where (docs/FORMATS.md).
 use crate::refusal;
 use out::Stream;
-use profile::text::Fault;
 use profile::{address, number};
 use setup::{Command, Turns};
 use std::env::Env;
@@ -87,10 +86,7 @@ fn run<F: Read + Drop>(command: Command, output: Stdout, file: F, id: u32, ggsn:
 fn id_of(rt: &impl Env, argument: usize) -> Option<u32> {
     let mut held = [0u8; 16];
     let text = setup::arg(rt, argument, &mut held);
-    match number::number_fault(text) {
-        Fault::None => u32::try_from(number::number(text)).ok(),
-        _ => None,
-    }
+    u32::try_from(number::read(text).ok()?).ok()
 }
 
 // The address that an argument is.

@@ -1,4 +1,4 @@
--- The promise of `begin` and `charging_fresh` leaves nothing open: two results that meet it, of the same text, are equal. `charging_step` promises
+-- The promise of `charging_fresh` leaves nothing open: two results that meet it, of the same text, are equal. `charging_step` promises
 -- what node's `step` does, of which node's `steps_fixes` says it.
 use mathlib.Core.Path.{◌≡◌, sym, ◌∙◌}
 use mathlib.Core.List.{List}

@@ -2,11 +2,14 @@
 // by-value one and stores what it hands back, so it answers the same.
 #![tactic(auto)]
 
+ghost use Rattle.std.specs.Prelude.{◌≡◌};
 ghost use Rattle.node.specs.Step.{Steps};
 ghost use Rattle.node.specs.Batch.{name_with, Batches};
-ghost use Rattle.host.specs.Begin.{Begins};
+ghost use Rattle.host.specs.Begin.{begun, Begins};
 
-use node::Node;
+use node::{Node, sound};
+use profile::fault::BadLine;
+use profile::text::read_profile;
 
 // What is answered beside the node: 0 or the number of a refusal, and how many octets were written.
 #[repr(C)]
@@ -66,34 +69,26 @@ pub struct Start {
     pub line: u8,
 }
 
-// A node made of a profile's text, by value.
-#[derive(Clone, Copy)]
-pub struct Begun {
-    pub answer: u8,
-    pub node: Node,
-    pub line: u8,
+// Why a profile's text makes no node.
+#[derive(Clone, Copy, Debug, PartialEq, Eq)]
+pub enum Unfit {
+    // a line of it does not read
+    Line(BadLine),
+    // it reads, and a value is out of range
+    Range,
 }
 
-// What the node was before is of no account.
-pub fn begin(old: Node, text: &[u8]) -> Begun
-    ensures { Begins text.now result.answer result.node result.line }
+// A node made of a profile's text, by value.
+#[tactic(auto, unfolding(crate::specs::Begin::begun_by))]
+pub fn begin(text: &[u8]) -> Result<Node, Unfit>
+    ensures { result ≡ begun text.now }
 {
-    let t = profile::text::read_profile(text);
-    let p = t.profile;
-    let m = node::sound::fresh(p);
-    let n = m.node;
-    if t.line == 0 {
-        return Begun {
-            answer: m.answer,
-            node: n,
-            line: 0,
-        };
-    }
-    let z = node::sound::no_node();
-    Begun {
-        answer: 12,
-        node: z,
-        line: t.line,
+    let profile = read_profile(text).map_err(Unfit::Line)?;
+    let made = sound::fresh(profile);
+    if made.answer == 0 {
+        Ok(made.node)
+    } else {
+        Err(Unfit::Range)
     }
 }
 
@@ -101,10 +96,24 @@ pub fn begin(old: Node, text: &[u8]) -> Begun
 pub fn charging_fresh(node: &mut Node, text: &[u8]) -> Start
     ensures { Begins text.now result.answer node.new result.line }
 {
-    let r = begin(*node, text);
-    *node = r.node;
-    Start {
-        answer: r.answer,
-        line: r.line,
+    match begin(text) {
+        Ok(fresh) => {
+            *node = fresh;
+            Start { answer: 0, line: 0 }
+        }
+        Err(Unfit::Line(bad)) => {
+            *node = sound::no_node();
+            Start {
+                answer: 12,
+                line: bad.line,
+            }
+        }
+        Err(Unfit::Range) => {
+            *node = sound::no_node();
+            Start {
+                answer: 12,
+                line: 0,
+            }
+        }
     }
 }

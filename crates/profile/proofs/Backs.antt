@@ -8,7 +8,9 @@ use lib.Dec.{leb, eqb}
 use lib.ListN.{length, take, drop, get_or, replicate, length-append}
 use lib.Seq.{take_at, take-take}
 use borrow.Author.Tests.{leb-true, leb-false, le-leb, lt-leb, eqb-true, eqb-false, ne_eqb, not-true}
-use Rattle.profile.specs.Fault.{is_none, unless, first}
+use Rattle.std.specs.Prelude.{None, is_none}
+use Rattle.std.specs.Option.{option_or}
+use Rattle.profile.specs.Fault.{unless}
 use Rattle.profile.specs.Cut.{space, has, up_to, past}
 use Rattle.profile.specs.Number.{digits, number_fault, numeral, at_most}
 use Rattle.profile.specs.Address.{dot, octet_ok, octet_of, address_ok, address_of}
@@ -18,7 +20,7 @@ use Rattle.profile.specs.Node.{node_octets}
 use Rattle.profile.specs.Line.{rest_space}
 use Rattle.profile.specs.Print.{number_text, address_text, limits_text, limits_tail, offset_text, node_text}
 use Rattle.profile.specs.declared.line.Kind.TheVariants.{Dotted, Three, Signed, Rest}
-use Rattle.profile.specs.declared.text.Fault.TheVariants.{None, Number, Zero, Address}
+use Rattle.profile.specs.declared.fault.Fault.TheVariants.{Number, Zero, Address}
 use Rattle.profile.proofs.Firsts.{clash, both, is_none_lem, met_unless, none_first}
 use Rattle.profile.proofs.Numbers.{by, most_is, most_over}
 use Rattle.profile.proofs.Marks.{cut_is, past_some}
@@ -89,7 +91,7 @@ three_back : (v : List ℕ) → three_fault v ≡ None → LimitsHold (limits_of
 unfolding three_fault limits_of limits_text
 three_back v e h =
     let w = past space v in
-    let (a, f) = none_first (number_fault (volume_in v)) (first (number_fault (seconds_in v)) (number_fault (changes_in v))) e in
+    let (a, f) = none_first (number_fault (volume_in v)) (option_or (number_fault (seconds_in v)) (number_fault (changes_in v))) e in
     let (b, c) = none_first (number_fault (seconds_in v)) (number_fault (changes_in v)) f in
     let hw = past_some space w (fault_plain (changes_in v) c).some in
     let hv = past_some space v (cut_long space w hw) in
@@ -109,8 +111,8 @@ minus_first (y ∷ v) e = ap (λ (z : ℕ). z ∷ v) e
 west_back : (w : List ℕ) → west_fault w ≡ None → west (numeral 0 w) ≤ 1560 → offset_text (west (numeral 0 w)) ≡ 45 ∷ w
 unfolding west_fault west offset_text
 west_back w e h =
-    let (d, b) = met_unless (digits w) Number (unless (not (eqb (get_or w 0 0) 48)) Zero None) refl e in
-    let z = eqb-false (get_or w 0 0) 48 (not-true (eqb (get_or w 0 0) 48) (met_unless (not (eqb (get_or w 0 0) 48)) Zero None refl b).0) in
+    let (d, b) = met_unless (digits w) Number (unless (not (eqb (get_or w 0 0) 48)) Zero None) e in
+    let z = eqb-false (get_or w 0 0) 48 (not-true (eqb (get_or w 0 0) 48) (met_unless (not (eqb (get_or w 0 0) 48)) Zero None b).0) in
     let f = digits_plain w d (λ l. z) in
     let g = numeral_some w f.each f.some z in
     by (leb (numeral 0 w) 720)
@@ -158,7 +160,7 @@ module _ (v t : List ℕ) (e : v ≡ past space t) where
   pub dotted_back : Tail Dotted t → space ∷ address_text (address_of v) ≡ t
   dotted_back f =
       spaced_back (λ (w : List ℕ). address_text (address_of w)) v t f.lead e
-      (address_back (past space t) (met_unless (address_ok (past space t)) Address None refl f.fault).0)
+      (address_back (past space t) (met_unless (address_ok (past space t)) Address None f.fault).0)
 
   pub signed_back : Tail Signed t → zone_of v ≤ 1560 → space ∷ offset_text (zone_of v) ≡ t
   signed_back f h = spaced_back (λ (w : List ℕ). offset_text (zone_of w)) v t f.lead e (offset_back (past space t) f.fault (rw e at h))

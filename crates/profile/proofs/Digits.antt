@@ -8,10 +8,11 @@ use lib.Dec.{leb, ltb, eqb}
 use lib.ListN.{length, get_or, length-append, get_or-append}
 use borrow.Author.Tests.{leb-true, leb-false, ltb-true, ltb-false, le-leb, lt-ltb, le-ltb, eq-eqb, ne_eqb, not-true}
 use Rattle.octets.specs.Chars.{all_of, digit}
+use Rattle.std.specs.Prelude.{None}
 use Rattle.profile.specs.Fault.{unless}
 use Rattle.profile.specs.Number.{padded, digits, number_fault, numeral}
 use Rattle.profile.specs.Print.{digits_in, number_text}
-use Rattle.profile.specs.declared.text.Fault.TheVariants.{None, Number, Zero}
+use Rattle.profile.specs.declared.fault.Fault.TheVariants.{Number, Zero}
 use Rattle.profile.proofs.Numbers.{by, numeral_le}
 use Rattle.profile.proofs.Firsts.{clash, both, both_is, unless_met, met_unless}
 
@@ -124,8 +125,8 @@ digits_plain v d l = let (a, b) = both (all_of digit v) (leb 1 (length v)) d in 
 pub fault_plain : (v : List ℕ) → number_fault v ≡ None → Plain v
 unfolding number_fault
 fault_plain v e =
-    let (d, g) = met_unless (digits v) Number (unless (not (padded v)) Zero None) refl e in
-    let n = not-true (padded v) (met_unless (not (padded v)) Zero None refl g).0 in
+    let (d, g) = met_unless (digits v) Number (unless (not (padded v)) Zero None) e in
+    let n = not-true (padded v) (met_unless (not (padded v)) Zero None g).0 in
     digits_plain v d (λ h z. clash (both_is (eq-eqb (get_or v 0 0) 48 z) (lt-ltb 1 (length v) h)) n)
 
 -- what holds of no octets, and of s and one more where it holds of s, holds of all

@@ -11,11 +11,12 @@ use borrow.Author.Tests.{le-leb, eqb-true, ne_eqb, not-true}
 use Rattle.profile.specs.Cut.{feed, space, has, up_to, past, begins}
 use Rattle.profile.specs.Fault.{unless, or_bad}
 use Rattle.profile.specs.Line.{lines_past, tail_of, value_of, value_at, one_space, spaced, value_fault, line_fault}
-use Rattle.profile.specs.Text.{Row, no_bad, first_bad}
+use Rattle.std.specs.Prelude.{None, IfSome}
+use Rattle.profile.specs.Text.{Row, first_bad}
 use Rattle.profile.specs.Print.{lines_of}
 use Rattle.profile.specs.declared.line.Kind.{Kind}
-use Rattle.profile.specs.declared.text.Fault.TheVariants.{None, Missing, End, Name, Space, More}
-use Rattle.profile.proofs.Firsts.{clash, both, unless_met, met_unless, none_bad, Agree, bad_agree, bad_whole}
+use Rattle.profile.specs.declared.fault.Fault.TheVariants.{Missing, End, Name, Space, More}
+use Rattle.profile.proofs.Firsts.{clash, both, unless_met, met_unless, none_bad, Within, bad_within}
 use Rattle.profile.proofs.Marks.{absent_both, clear_after, past_beyond, has_here, up_to_here, past_here, up_to_clear, cut_is, begins_here, begins_is}
 
 -- ---- a line
@@ -60,10 +61,10 @@ line_told name s k b e =
     let g4 = value_fault k (value_of s) in
     let g3 = unless (spaced k (tail_of name s)) Space g4 in
     let g2 = unless (begins name (up_to feed s)) Name g3 in
-    let (a, e1) = met_unless (leb 1 (length s)) Missing (unless (has feed s) End g2) refl e in
-    let (c, e2) = met_unless (has feed s) End g2 refl e1 in
-    let (d, e3) = met_unless (begins name (up_to feed s)) Name g3 refl e2 in
-    let (f, e4) = met_unless (spaced k (tail_of name s)) Space g4 refl e3 in
+    let (a, e1) = met_unless (leb 1 (length s)) Missing (unless (has feed s) End g2) e in
+    let (c, e2) = met_unless (has feed s) End g2 e1 in
+    let (d, e3) = met_unless (begins name (up_to feed s)) Name g3 e2 in
+    let (f, e4) = met_unless (spaced k (tail_of name s)) Space g4 e3 in
     let u : up_to feed s ≡ name ++ tail_of name s = begins_is name (up_to feed s) d in
     let v : value_of s ≡ past space (tail_of name s) = ap (past space) u ∙ past_beyond space name (tail_of name s) b in
     record {
@@ -106,7 +107,7 @@ pub data Lines : List Row → List (List ℕ) → Type 0 where
   line : (r : Row) (rs : List Row) (t : List ℕ) (ts : List (List ℕ)) → has feed r.name ≡ false → has space r.name ≡ false → Tail r.kind t
       → Lines rs ts → Lines (r ∷ rs) (t ∷ ts)
 
-pub reads : (n : ℕ) {rs : List Row} {ts : List (List ℕ)} → Lines rs ts → first_bad rs n (lines_of rs ts) ≡ no_bad
+pub reads : (n : ℕ) {rs : List Row} {ts : List (List ℕ)} → Lines rs ts → first_bad rs n (lines_of rs ts) ≡ None
 unfolding first_bad lines_of or_bad unless
 reads n last = refl
 reads n (line r rs t ts a b f g) =
@@ -140,15 +141,15 @@ empty : (l : List ℕ) → eqb (length l) 0 ≡ true → l ≡ []
 empty [] e = refl
 empty (x ∷ l) e = absurd (omega (arith, eqb-true (length (x ∷ l)) 0 e))
 
-pub back : (rs : List Row) → named rs ≡ true → (n : ℕ) (s : List ℕ) → (first_bad rs (suc n) s).line ≡ 0 → Back rs s
+pub back : (rs : List Row) → named rs ≡ true → (n : ℕ) (s : List ℕ) → first_bad rs n s ≡ None → Back rs s
 unfolding first_bad lines_of named
 back [] m n s e =
-    let (f, g) = none_bad (suc n) (unless (eqb (length s) 0) More None) no_bad (omega arith) e in
-    record { tails = []; text = empty s (met_unless (eqb (length s) 0) More None refl f).0; lines = last }
+    let (f, g) = none_bad n (unless (eqb (length s) 0) More None) None e in
+    record { tails = []; text = empty s (met_unless (eqb (length s) 0) More None f).0; lines = last }
 back (r ∷ rs) m n s e =
     let (a, x) = both (not (has feed r.name)) (not (has space r.name) && named rs) m in
     let (b, y) = both (not (has space r.name)) (named rs) x in
-    let (f, g) = none_bad (suc n) (line_fault r.name r.kind s) (first_bad rs (suc (suc n)) (past feed s)) (omega arith) e in
+    let (f, g) = none_bad n (line_fault r.name r.kind s) (first_bad rs (suc n) (past feed s)) e in
     let w = line_told r.name s r.kind (not-true _ b) f in
     let u = back rs y (suc n) (past feed s) g in
     record {
@@ -157,15 +158,10 @@ back (r ∷ rs) m n s e =
       lines = line r rs (tail_of r.name s) u.tails (not-true _ a) (not-true _ b) w.tail u.lines;
     }
 
--- ---- the first bad line's number, and what is wrong there
+-- ---- the first bad line's number
 
-pub whole : (rs : List Row) (n : ℕ) (s : List ℕ) → (first_bad rs (suc n) s).line ≡ 0 → first_bad rs (suc n) s ≡ no_bad
+pub first_within : (m : ℕ) (rs : List Row) (n : ℕ) (s : List ℕ) → 1 ≤ n → n + length rs ≤ m → IfSome (first_bad rs n s) (Within m)
 unfolding first_bad
-whole [] n s e = bad_whole (suc n) (unless (eqb (length s) 0) More None) no_bad (omega arith) (λ z. refl) e
-whole (r ∷ rs) n s e =
-    bad_whole (suc n) (line_fault r.name r.kind s) (first_bad rs (suc (suc n)) (past feed s)) (omega arith) (whole rs (suc n) (past feed s)) e
-
-pub agrees : (m : ℕ) (rs : List Row) (n : ℕ) (s : List ℕ) → n + length rs ≤ m → Agree m (first_bad rs n s)
-unfolding first_bad
-agrees m [] n s h = bad_agree m n _ no_bad (omega arith) (record { most = omega arith; quiet = λ e. refl })
-agrees m (r ∷ rs) n s h = bad_agree m n _ (first_bad rs (suc n) (past feed s)) (omega arith) (agrees m rs (suc n) (past feed s) (omega arith))
+first_within m [] n s h k = bad_within m n _ None h (omega arith) tt
+first_within m (r ∷ rs) n s h k =
+    bad_within m n _ (first_bad rs (suc n) (past feed s)) h (omega arith) (first_within m rs (suc n) (past feed s) (omega arith) (omega arith))

@@ -1,18 +1,19 @@
 -- A mark after octets that have none: what stands before it and after it. And the other way round.
 use mathlib.Core.Path.{◌≡◌, refl, sym, ap, ◌∙◌}
-use mathlib.Core.Bool.{Bool, true, false, cond, ◌||◌}
+use mathlib.Core.Bool.{Bool, true, false, cond, ◌&&◌, ◌||◌}
 use mathlib.Core.List.{List, [], ◌∷◌, ◌++◌}
-use Prim.Native.Nat.{ℕ, suc, ◌+◌, ◌-◌, ◌≤◌, ◌<◌}
+use Prim.Native.Nat.{ℕ, suc, ◌+◌, ◌≤◌}
 use native.Mathlib.Nat.{not-suc-le-zero}
-use native.Mathlib.Numerals.{add-one}
 use native.Mathlib.Omega.{arith}
-use lib.Dec.{eqb, ltb, leb-suc-suc}
-use lib.ListN.{length, get_or, take, drop, take-append-drop, drop_of_length-le, length-drop}
-use lib.Seq.{drop-cons, take_at, take_all, drop-length}
-use borrow.Author.Tests.{lt-ltb, eq-eqb, ne_eqb, eqb-true}
+use native.Mathlib.Numerals.{add-one}
+use lib.Dec.{eqb, ltb}
+use lib.ListN.{length, take, drop}
+use borrow.Author.Tests.{eq-eqb, ne_eqb, eqb-true, ltb-false}
+use Rattle.std.specs.Prelude.{Option, None, Some}
+use Rattle.std.specs.Option.{unwrap_or}
+use Rattle.std.specs.List.{list_any, position_or_len, starts_with}
 use Rattle.octets.specs.Chars.{all_of}
 use Rattle.profile.specs.Cut.{has, up_to, past, begins}
-use Rattle.profile.specs.Private.Ahead.{index_after, index_of}
 use Rattle.profile.proofs.Numbers.{by}
 use Rattle.profile.proofs.Firsts.{clash, both}
 
@@ -97,89 +98,50 @@ begins_is (x ∷ name) (y ∷ s) e =
     let (a, b) = both (eqb y x) (begins name s) e in
     ap (λ (z : ℕ). z ∷ s) (eqb-true y x a) ∙ ap (◌∷◌ x) (begins_is name s b)
 
--- as the code tests it: the octets in front are those of the name
-pub begins_same : (name s : List ℕ) {r : Bool} → (r ≡ true → take (length name) s ≡ name) × (take (length name) s ≡ name → r ≡ true)
-    → r ≡ begins name s
-begins_same name s {r} h =
-    by (begins name s)
-    (λ t. h.1 (ap (take (length name)) (begins_is name s t) ∙ take_at name (drop (length name) s) (length name) refl) ∙ sym t)
-    (λ t.
-    by r
-    (λ u. let e = sym (take-append-drop (length name) s) ∙ ap (λ (l : List ℕ). l ++ drop (length name) s) (h.0 u) in
-    clash (ap (begins name) e ∙ begins_here name (drop (length name) s)) t)
-    (λ u. u ∙ sym t))
+-- as the code tests it
+eqb_sym : (x y : ℕ) → eqb x y ≡ eqb y x
+eqb_sym x y = by (eqb y x) (λ t. eq-eqb x y (sym (eqb-true y x t)) ∙ sym t) (λ t. ne_eqb x y (λ e. clash (eq-eqb y x (sym e)) t) ∙ sym t)
 
--- ---- as the code comes to it: by how many octets stand before the mark
+pub begins_test : (name s : List ℕ) → starts_with eqb s name ≡ begins name s
+unfolding begins
+begins_test [] s = refl
+begins_test (x ∷ name) [] = refl
+begins_test (x ∷ name) (y ∷ s) = rw (eqb_sym x y) (ap (λ (t : Bool). eqb y x && t) (begins_test name s))
 
 module _ (x : ℕ) where
-  pub up_to_take : (s : List ℕ) → take (index_of x s) s ≡ up_to x s
-  unfolding index_of index_after up_to
+  abbrev pub is : ℕ → Bool
+  is y = eqb y x
+
+  pub has_test : (s : List ℕ) → list_any is s ≡ has x s
+  unfolding has
+  has_test [] = refl
+  has_test (y ∷ s) = ap (λ (t : Bool). eqb y x || t) (has_test s)
+
+  -- ---- as the code comes to it: by how many octets stand before the mark
+
+  ahead_more : (y : ℕ) (s : List ℕ) → eqb y x ≡ false → position_or_len is (y ∷ s) ≡ suc (position_or_len is s)
+  ahead_more y s t = rw t (omega arith)
+
+  pub ahead_most : (s : List ℕ) → position_or_len is s ≤ length s
+  ahead_most [] = omega arith
+  ahead_most (y ∷ s) = by (eqb y x) (λ t. rw t (omega arith)) (λ t. rw t (omega (arith, ahead_most s)))
+
+  pub or_all : (s : List ℕ) {r : Option ℕ} → r ≡ cond (ltb (position_or_len is s) (length s)) (Some (position_or_len is s)) None
+      → unwrap_or r (length s) ≡ position_or_len is s
+  or_all s e =
+      by (ltb (position_or_len is s) (length s))
+      (λ t. rw (e, t))
+      (λ t. rw (e, t) (omega (arith, ahead_most s, ltb-false (position_or_len is s) (length s) t)))
+
+  pub up_to_take : (s : List ℕ) → take (position_or_len is s) s ≡ up_to x s
+  unfolding up_to
   up_to_take [] = refl
-  up_to_take (y ∷ s) = go (eqb y x) (up_to_take s)
-    where
-      go : (t : Bool) → take (index_of x s) s ≡ up_to x s → take (index_after t (index_of x s)) (y ∷ s) ≡ cond t [] (y ∷ up_to x s)
-      go true e = refl
-      go false e = ap (◌∷◌ y) e
+  up_to_take (y ∷ s) = by (eqb y x) (λ t. rw t) (λ t. ap (λ (n : ℕ). take n (y ∷ s)) (ahead_more y s t) ∙ rw t (ap (◌∷◌ y) (up_to_take s)))
 
-  past_suc : (s : List ℕ) → drop (suc (index_of x s)) s ≡ past x s
-  unfolding index_of index_after past
+  past_suc : (s : List ℕ) → drop (suc (position_or_len is s)) s ≡ past x s
+  unfolding past
   past_suc [] = refl
-  past_suc (y ∷ s) = go (eqb y x) (past_suc s)
-    where
-      go : (t : Bool) → drop (suc (index_of x s)) s ≡ past x s → drop (index_after t (index_of x s)) s ≡ cond t s (past x s)
-      go true e = refl
-      go false e = e
+  past_suc (y ∷ s) = by (eqb y x) (λ t. rw t) (λ t. ap (λ (n : ℕ). drop n s) (ahead_more y s t) ∙ rw t (past_suc s))
 
-  pub past_drop : (s : List ℕ) → drop (index_of x s + 1) s ≡ past x s
-  past_drop s = rw (add-one (index_of x s)) (past_suc s)
-
-  pub has_ltb : (s : List ℕ) → ltb (index_of x s) (length s) ≡ has x s
-  unfolding index_of index_after has
-  has_ltb [] = refl
-  has_ltb (y ∷ s) = go (eqb y x) (has_ltb s)
-    where
-      go : (t : Bool) → ltb (index_of x s) (length s) ≡ has x s → ltb (index_after t (index_of x s)) (suc (length s)) ≡ (t || has x s)
-      go true e = lt-ltb 0 (suc (length s)) (omega arith)
-      go false e = leb-suc-suc (suc (index_of x s)) (length s) ∙ e
-
--- what is passed has no mark, as a loop comes to it
-pub record Sought (x : ℕ) (s : List ℕ) (i : ℕ) : Type 0 where
-  pub most : i ≤ length s
-  pub same : i + index_of x (drop i s) ≡ index_of x s
-
-pub sought_none : (x : ℕ) (s : List ℕ) → Sought x s 0
-sought_none x s = record { most = omega arith; same = omega arith }
-
-module _ {x : ℕ} {s : List ℕ} {i : ℕ} (f : Sought x s i) where
-  here : i < length s → index_of x (drop i s) ≡ index_after (eqb (get_or s i 0) x) (index_of x (drop (i + 1) s))
-  unfolding index_of
-  here h = rw (drop-cons s i 0 h, add-one i) refl
-
-  pub sought_here : i < length s → get_or s i 0 ≡ x → (i ≡ index_of x s) × (i ≤ length s)
-  unfolding index_after
-  sought_here h e =
-      let z : index_of x (drop i s) ≡ 0 = here h ∙ rw (eq-eqb (get_or s i 0) x e) refl in
-      (omega (arith, f.same), f.most)
-
-  pub sought_more : i < length s → (get_or s i 0 ≡ x → ⊥) → Sought x s (i + 1)
-  unfolding index_after
-  sought_more h n =
-      let z : index_of x (drop i s) ≡ suc (index_of x (drop (i + 1) s)) = here h ∙ rw (ne_eqb (get_or s i 0) x n) refl in
-      record { most = omega arith; same = omega (arith, f.same) }
-
-  pub sought_end : length s ≤ i → (i ≡ index_of x s) × (i ≤ length s)
-  unfolding index_of
-  sought_end h =
-      let z : index_of x (drop i s) ≡ 0 = rw (drop_of_length-le s h) refl in
-      (omega (arith, f.same), f.most)
-
--- ---- what is left after n octets
-
-pub front_all : (s : List ℕ) (n : ℕ) → length s ≤ n → take (length s) s ≡ take n s
-front_all s n h = take_all (length s) s (omega arith) ∙ sym (take_all n s h)
-
-pub rest_some : (s : List ℕ) (n : ℕ) → n < length s → take (length s - n) (drop n s) ≡ drop n s
-rest_some s n h = take_all (length s - n) (drop n s) (omega (arith, length-drop n s))
-
-pub rest_none : (s : List ℕ) (n : ℕ) → length s ≤ n → take (length s - length s) (drop (length s) s) ≡ drop n s
-rest_none s n h = rw (drop-length s, drop_of_length-le s h) (take_all (length s - length s) [] (omega arith))
+  pub past_drop : (s : List ℕ) → drop (position_or_len is s + 1) s ≡ past x s
+  past_drop s = rw (add-one (position_or_len is s)) (past_suc s)

@@ -2,18 +2,16 @@
 use mathlib.Core.Path.{◌≡◌, refl, sym, ap, ◌∙◌}
 use mathlib.Core.Bool.{Bool, true, false, ◌&&◌}
 use mathlib.Core.List.{List, [], ◌∷◌}
-use Prim.Native.Nat.{ℕ, suc, ◌+◌, ◌-◌, ◌*◌, ◌^◌, ◌≤◌, ◌<◌}
-use native.Mathlib.Numerals.{add-one}
+use Prim.Native.Nat.{ℕ, ◌+◌, ◌-◌, ◌*◌, ◌^◌, ◌≤◌, ◌<◌, min}
 use native.Mathlib.Omega.{arith}
 use lib.Dec.{leb}
-use lib.ListN.{length, drop, get_or, drop_of_length-le}
-use lib.Seq.{drop-cons}
 use borrow.Author.Tests.{leb-true, leb-false, le-leb, lt-leb}
-use Rattle.profile.specs.Fault.{is_none}
-use Rattle.profile.specs.Number.{number_fault, numeral, at_most}
+use Rattle.std.specs.List.{fold}
+use Rattle.std.specs.Prelude.{Option, None, Some, is_none, Result, Ok, Err}
+use Rattle.profile.specs.Number.{number_fault, numeral, at_most, read_as, number_of}
 use Rattle.profile.specs.Address.{octet_ok}
+use Rattle.profile.specs.declared.fault.Fault.{Fault}
 use Rattle.profile.specs.Offset.{east, west}
-use Rattle.profile.specs.declared.text.Fault.{Fault}
 
 pub by : {X : Type 0} (t : Bool) → (t ≡ true → X) → (t ≡ false → X) → X
 by true f g = f refl
@@ -41,6 +39,13 @@ most_most k m n h =
     (λ t. ap (at_most k) (sym (most_is m n (leb-true n m t))))
     (λ t. let l = leb-false n m t in ap (at_most k) (sym (most_over m n (omega arith))) ∙ sym (most_over k m h) ∙ most_over k n (omega arith))
 
+-- as std takes the smaller of two
+pub min_most : (m n : ℕ) → min n m ≡ at_most m n
+min_most m n =
+    by (leb n m)
+    (λ t. let l = leb-true n m t in let e = most_is m n l in omega arith)
+    (λ t. let l = leb-false n m t in let e = most_over m n (omega arith) in omega arith)
+
 -- ---- digits
 
 pub numeral_le : (n : ℕ) (v : List ℕ) → n ≤ numeral n v
@@ -59,28 +64,26 @@ numeral_most m n v =
     ∙ sym (most_over m (numeral m v) (numeral_le m v))
     ∙ most_over m (numeral n v) (omega (arith, numeral_le n v)))
 
--- n is what the first i digits spell, at most m
-pub record Spelt (m : ℕ) (v : List ℕ) (n i : ℕ) : Type 0 where
-  pub most : i ≤ length v
-  pub low : n ≤ m
-  pub rest : at_most m (numeral n (drop i v)) ≡ at_most m (numeral 0 v)
+-- one digit more, and no more than the largest
+abbrev pub top : ℕ
+top = 2 ^ 64 - 1
 
-pub spelt_none : (m : ℕ) (v : List ℕ) → Spelt m v 0 0
-spelt_none m v = record { most = omega arith; low = omega arith; rest = refl }
+abbrev pub more : ℕ → ℕ → ℕ
+more n x = min (min (n * 10) top + (x - 48)) top
 
-module _ (m : ℕ) (v : List ℕ) (n i : ℕ) (f : Spelt m v n i) where
-  pub spelt_more : i < length v → (d k : ℕ) → d ≡ get_or v i 0 - 48 → k ≡ at_most m (n * 10 + d) → Spelt m v k (i + 1)
-  unfolding numeral
-  spelt_more h d k p q =
-      record {
-        most = omega arith;
-        low = rw q (most_le m (n * 10 + d));
-        rest = rw (q, p, add-one i, numeral_most m (n * 10 + (get_or v i 0 - 48)) (drop (suc i) v)) (sym (rw (drop-cons v i 0 h)) ∙ f.rest);
-      }
+more_is : (n x : ℕ) → more n x ≡ at_most top (n * 10 + (x - 48))
+more_is n x =
+    by (leb (n * 10 + (x - 48)) top)
+    (λ t. let l = leb-true (n * 10 + (x - 48)) top t in let e = most_is top (n * 10 + (x - 48)) l in omega arith)
+    (λ t. let l = leb-false (n * 10 + (x - 48)) top t in let e = most_over top (n * 10 + (x - 48)) (omega arith) in omega arith)
 
-  pub spelt_end : length v ≤ i → n ≡ at_most m (numeral 0 v)
-  unfolding numeral
-  spelt_end h = most_is m n f.low ∙ sym (rw (drop_of_length-le v h)) ∙ f.rest
+pub fold_more : (n : ℕ) (v : List ℕ) → n ≤ top → fold more n v ≡ at_most top (numeral n v)
+unfolding numeral
+fold_more n [] h = most_is top n h
+fold_more n (x ∷ v) h =
+    fold_more (more n x) v (omega arith)
+    ∙ ap (λ (k : ℕ). at_most top (numeral k v)) (more_is n x)
+    ∙ numeral_most top (n * 10 + (x - 48)) v
 
 -- a test against a smaller number does not see the largest
 pub most_leb : (k m n : ℕ) → k < m → leb (at_most m n) k ≡ leb n k
@@ -89,11 +92,22 @@ most_leb k m n h =
     (λ t. ap (λ (x : ℕ). leb x k) (sym (most_is m n (leb-true n m t))))
     (λ t. let l = leb-false n m t in ap (λ (x : ℕ). leb x k) (sym (most_over m n (omega arith))) ∙ lt-leb m k h ∙ sym (lt-leb n k (omega arith)))
 
--- nor does a test of an octet, as the code makes it
-pub octet_test : (v : List ℕ) {n : ℕ} {f : Fault} {t : Bool} → t ≡ is_none f → f ≡ number_fault v → n ≡ at_most (2 ^ 64 - 1) (numeral 0 v)
-    → (t && leb n 255) ≡ octet_ok v
+-- nor does the test of an octet that is read
+abbrev pub fits : Result ℕ Fault → Bool
+fits (Ok n) = leb n 255
+fits (Err f) = false
+
+pub octet_read : (v : List ℕ) → fits (number_of v) ≡ octet_ok v
 unfolding octet_ok
-octet_test v p q r = let h : 255 < 2 ^ 64 - 1 = omega arith in rw (p, q, r, most_leb 255 (2 ^ 64 - 1) (numeral 0 v) h)
+octet_read v = go (number_fault v)
+  where
+    go : (f : Option Fault) → fits (read_as f (at_most top (numeral 0 v))) ≡ (is_none f && leb (numeral 0 v) 255)
+    go None = most_leb 255 top (numeral 0 v) (omega arith)
+    go (Some f) = refl
+
+-- nor does what is capped there
+pub capped : (k : ℕ) (v : List ℕ) → k ≤ top → min (at_most top (numeral 0 v)) k ≡ at_most k (numeral 0 v)
+capped k v h = min_most k (at_most top (numeral 0 v)) ∙ most_most k top (numeral 0 v) h
 
 -- ---- a zone does not see the largest number
 

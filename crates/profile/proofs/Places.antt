@@ -3,14 +3,11 @@ use mathlib.Core.Path.{◌≡◌, refl, sym, ap, ◌∙◌}
 use mathlib.Core.Bool.{true, false}
 use mathlib.Core.List.{List}
 use Prim.Native.Nat.{ℕ, zero, suc, ◌+◌, ◌-◌, ◌≤◌, ◌<◌}
-use native.Mathlib.Numerals.{add-one}
 use native.Mathlib.Omega.{arith}
 use lib.Dec.{ltb, leb-suc-suc}
-use lib.ListN.{length, take, get_or, set, length-set}
-use lib.Seq.{take_all, take-suc, take-suc-set}
+use lib.ListN.{length, get_or}
 use borrow.Author.Tests.{lt-ltb, le-ltb}
 use Rattle.limits.specs.declared.Limits.{Limits}
-use Rattle.limits.specs.Limits.{no_limits}
 use Rattle.profile.specs.Cut.{feed, past, begins}
 use Rattle.profile.specs.Line.{lines_past}
 use Rattle.profile.specs.Sets.{limits_name, limits_ahead, sets_in, limits_in}
@@ -65,30 +62,10 @@ limits_long zero k s = refl
 limits_long (suc n) zero s = ap suc (limits_long n zero s)
 limits_long (suc n) (suc k) s = ap suc (limits_long n k (past feed s))
 
-limits_at_lem : (n k : ℕ) (s : List ℕ) (i : ℕ) (d : Limits) → i < n → get_or (limits_in n k s) i d ≡ place_of k i s
+pub limits_at_lem : (n k : ℕ) (s : List ℕ) (i : ℕ) (d : Limits) → i < n → get_or (limits_in n k s) i d ≡ place_of k i s
 unfolding limits_in place_of lines_past
 limits_at_lem zero k s i d h = absurd (omega arith)
 limits_at_lem (suc n) zero s zero d h = refl
 limits_at_lem (suc n) zero s (suc i) d h = limits_at_lem n zero s i d (omega arith) ∙ rw (le-ltb i 0 (omega arith), le-ltb (suc i) 0 (omega arith))
 limits_at_lem (suc n) (suc k) s zero d h = rw (lt-ltb 0 (suc k) (omega arith))
 limits_at_lem (suc n) (suc k) s (suc i) d h = limits_at_lem n k (past feed s) i d (omega arith) ∙ rw (ltb_suc i k)
-
--- the first i places of an array have what the lines say
-pub record Placed (k : ℕ) (s : List ℕ) (r : List Limits) (i : ℕ) : Type 0 where
-  pub same : take i r ≡ take i (limits_in 8 k s)
-  pub long : length r ≡ 8
-
-module _ {k : ℕ} {s : List ℕ} {r : List Limits} {i : ℕ} (p : Placed k s r i) where
-  pub placed_more : i < 8 → Placed k s (set r i (place_of k i s)) (i + 1)
-  placed_more h =
-      let l = limits_in 8 k s in
-      record {
-        same =
-            rw (add-one i) (take-suc-set r i _ (omega (arith, p.long))
-            ∙ rw (p.same, ← limits_at_lem 8 k s i no_limits h) (sym (take-suc l i no_limits (omega (arith, limits_long 8 k s)))));
-        long = length-set r i _ ∙ p.long;
-      }
-
-  pub placed_all : 8 ≤ i → r ≡ limits_in 8 k s
-  placed_all h =
-      sym (take_all i r (omega (arith, p.long))) ∙ p.same ∙ take_all i (limits_in 8 k s) (omega (arith, limits_long 8 k s))

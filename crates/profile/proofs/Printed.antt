@@ -4,6 +4,7 @@ use mathlib.Core.List.{List, [], ◌∷◌, ◌++◌}
 use Prim.Native.Nat.{ℕ, ◌-◌, ◌^◌}
 use mathlib.Core.Bool.{true, false}
 use lib.ListN.{take, replicate}
+use Rattle.std.specs.Prelude.{Result, Ok, Err}
 use Rattle.limits.specs.Limits.{limits_ok, no_limits, blank_limits}
 use Rattle.limits.specs.Sets.{first_editions, set_ok, blank_set, used_ok, sets_ok}
 use Rattle.octets.specs.Names.{node_ok}
@@ -16,27 +17,27 @@ use Rattle.profile.specs.Three.{three_fault, limits_of}
 use Rattle.profile.specs.Offset.{west_fault, offset_fault, east, west, zone_of}
 use Rattle.profile.specs.Node.{node_octets}
 use Rattle.profile.specs.Line.{lines_past, line_fault}
-use Rattle.profile.specs.Profile.{profile_ok, no_profile}
+use Rattle.profile.specs.Profile.{profile_ok}
 use Rattle.profile.specs.Sets.{limits_name, limits_ahead, sets_in, limits_in}
 use Rattle.profile.specs.Text.{sgsn_name, offset_name, node_name, first_bad, profile_by, profile_of, read_by, read_of}
 use Rattle.profile.specs.Print.{digits_in, address_text, limits_text, offset_text, node_text, lines_of, text_of}
 use Rattle.profile.specs.Sample.{line1, line2, line3, line4, session_text, first_set, with, session, pair_text, pair, eight_text, eight}
-use Rattle.profile.specs.declared.text.Fault.{Fault}
-use Rattle.profile.specs.declared.text.Fault.TheVariants.{Missing, End, Name, Space, Number, Zero, Address, More}
-use Rattle.profile.specs.declared.text.Read.{Read}
-use Rattle.profile.proofs.Theorems.{reading}
+use Rattle.profile.specs.declared.fault.Fault.{Fault}
+use Rattle.profile.specs.declared.fault.BadLine.{BadLine}
+use Rattle.profile.specs.declared.fault.Fault.TheVariants.{Missing, End, Name, Space, Number, Zero, Address, More}
+use Rattle.profile.specs.declared.Profile.{Profile}
 
-abbrev badly : ℕ → Fault → Read
-badly n f = record { line = n; fault = f; profile = no_profile }
+abbrev badly : ℕ → Fault → Result Profile BadLine
+badly n f = Err (record { line = n; fault = f })
 
 -- ---- "One session, whole"; and more sets
 
 pub record Samples : Type 0 where
-  pub session_read : read_of session_text ≡ reading session
+  pub session_read : read_of session_text ≡ Ok session
   pub session_text_lem : text_of session ≡ session_text
-  pub pair_read : read_of pair_text ≡ reading pair
+  pub pair_read : read_of pair_text ≡ Ok pair
   pub pair_text_lem : text_of pair ≡ pair_text
-  pub eight_read : read_of eight_text ≡ reading eight
+  pub eight_read : read_of eight_text ≡ Ok eight
   pub eight_text_lem : text_of eight ≡ eight_text
 
 pub samples : Samples

@@ -8,20 +8,17 @@ use native.Mathlib.Omega.{arith}
 use lib.ListN.{length, drop, get_or, replicate, drop_of_length-le, length-append, length-replicate, get_or-replicate, get_or-append}
 use lib.Seq.{drop-cons, get_or-append-add}
 use lib.Dec.{eqb}
-use borrow.Author.Tests.{ne_eqb}
-use Rattle.profile.specs.Profile.{no_profile}
+use Rattle.std.specs.Prelude.{Option, None, Some}
 use Rattle.profile.specs.Cut.{feed, past}
-use Rattle.profile.specs.Fault.{is_none, unless, or_bad}
+use Rattle.profile.specs.Fault.{unless, or_bad}
 use Rattle.profile.specs.Line.{lines_past, line_fault}
 use Rattle.profile.specs.Sets.{limits_name, sets_in}
-use Rattle.profile.specs.Text.{Row, sgsn_name, offset_name, node_name, set_row, end_rows, rows_of, no_bad, first_bad, profile_of, read_by, read_of}
+use Rattle.profile.specs.Text.{Row, sgsn_name, offset_name, node_name, set_row, end_rows, rows_of, first_bad}
 use Rattle.profile.specs.Private.Rows.{last_row, row_at, row_fault}
-use Rattle.profile.specs.declared.Profile.{Profile}
-use Rattle.profile.specs.declared.fault.Bad.{Bad}
+use Rattle.profile.specs.declared.fault.BadLine.{BadLine}
 use Rattle.profile.specs.declared.line.Kind.TheVariants.{Dotted, Three, Signed, Rest}
-use Rattle.profile.specs.declared.text.Fault.{Fault}
-use Rattle.profile.specs.declared.text.Fault.TheVariants.{None, More}
-use Rattle.profile.specs.declared.text.Read.{Read}
+use Rattle.profile.specs.declared.fault.Fault.{Fault}
+use Rattle.profile.specs.declared.fault.Fault.TheVariants.{More}
 use Rattle.profile.proofs.Places.{sets_few}
 
 -- ---- the text after some lines
@@ -56,7 +53,7 @@ beyond k i j e =
 pub rows_long : (k : ℕ) → length (rows_of k) ≡ k + 3
 rows_long k = omega (arith, length-append (replicate k set_row) end_rows, length-replicate k set_row)
 
-module _ (s : List ℕ) (k i : ℕ) {f : Fault} where
+module _ (s : List ℕ) (k i : ℕ) {f : Option Fault} where
   by_row : (r : Row) → row_at k i ≡ r → f ≡ line_fault r.name r.kind s → f ≡ row_fault k i s
   unfolding row_fault
   by_row r e g = rw e g
@@ -97,40 +94,28 @@ module _ {k : ℕ} {s t : List ℕ} {i : ℕ} (c : Clean k s t i) where
   unfolding first_bad row_fault
   next h = sym (rw (drop-cons (rows_of k) i last_row (omega (arith, rows_long k)))) ∙ c.rest
 
-  module _ (h : i < k + 3) {f : Fault} (e : f ≡ row_fault k i t) where
-    pub clean_stop : is_none f ≡ false → ◌≡◌ {A = Bad} (record { line = i + 1; fault = f }) (first_bad (rows_of (sets_in s)) 1 s)
+  module _ (h : i < k + 3) {f : Option Fault} (e : f ≡ row_fault k i t) where
+    pub clean_stop : {a : Fault} → f ≡ Some a
+        → ◌≡◌ {A = Option BadLine} (Some (record { line = i + 1; fault = a })) (first_bad (rows_of (sets_in s)) 1 s)
     unfolding or_bad
-    clean_stop n = sym (rw (sym e, n, add-one i)) ∙ next h
+    clean_stop n = sym (rw (sym e ∙ n, add-one i)) ∙ next h
 
-    pub clean_more : is_none f ≡ true → {u : List ℕ} → u ≡ past feed t → Clean k s u (i + 1)
+    pub clean_more : f ≡ None → {u : List ℕ} → u ≡ past feed t → Clean k s u (i + 1)
     unfolding or_bad
-    clean_more n g = record { few = c.few; most = omega arith; rest = rw (g, add-one i) (sym (rw (sym e, n)) ∙ next h) }
+    clean_more n g = record { few = c.few; most = omega arith; rest = rw (g, add-one i) (sym (rw (sym e ∙ n)) ∙ next h) }
 
   -- after the last line
-  end : k + 3 ≤ i → or_bad (k + 4) (unless (eqb (length t) 0) More None) no_bad ≡ first_bad (rows_of (sets_in s)) 1 s
+  end : k + 3 ≤ i → or_bad (k + 4) (unless (eqb (length t) 0) More None) None ≡ first_bad (rows_of (sets_in s)) 1 s
   unfolding first_bad
   end h =
       let e : k + 4 ≡ suc i = omega (arith, c.most) in
       rw e (sym (rw (drop_of_length-le (rows_of k) {i = i} (omega (arith, rows_long k)))) ∙ c.rest)
 
-  pub clean_end : k + 3 ≤ i → length t ≡ 0 → no_bad ≡ first_bad (rows_of (sets_in s)) 1 s
+  pub clean_end : k + 3 ≤ i → eqb (length t) 0 ≡ true → None ≡ first_bad (rows_of (sets_in s)) 1 s
   unfolding or_bad unless
   clean_end h z = sym (rw z) ∙ end h
 
-  pub clean_over : k + 3 ≤ i → (length t ≡ 0 → ⊥) → ◌≡◌ {A = Bad} (record { line = k + 4; fault = More }) (first_bad (rows_of (sets_in s)) 1 s)
+  pub clean_over : k + 3 ≤ i → eqb (length t) 0 ≡ false
+      → ◌≡◌ {A = Option BadLine} (Some (record { line = k + 4; fault = More })) (first_bad (rows_of (sets_in s)) 1 s)
   unfolding or_bad unless
-  clean_over h z = sym (rw (ne_eqb (length t) 0 z)) ∙ end h
-
--- ---- what the text says
-
-abbrev pub saying : ℕ → Bad → Profile → Read
-saying n b p = record { line = n; fault = b.fault; profile = p }
-
-module _ (s : List ℕ) (b : Bad) (e : b ≡ first_bad (rows_of (sets_in s)) 1 s) where
-  pub read_good : {p : Profile} → p ≡ profile_of s → b.line ≡ 0 → saying 0 b p ≡ read_of s
-  unfolding read_of read_by
-  read_good q z = rw (← e, z, q)
-
-  pub read_bad : {p : Profile} → p ≡ no_profile → (b.line ≡ 0 → ⊥) → saying b.line b p ≡ read_of s
-  unfolding read_of read_by
-  read_bad q z = rw (← e, ne_eqb b.line 0 z, q)
+  clean_over h z = sym (rw z) ∙ end h

@@ -6,21 +6,21 @@ use Prim.Native.Nat.{ℕ, zero, suc, ◌+◌, ◌≤◌}
 use native.Mathlib.Omega.{arith}
 use lib.ListN.{length, take, get_or, replicate}
 use lib.Seq.{get_or-append-add}
-use borrow.Author.Tests.{eq-eqb}
+use Rattle.std.specs.Prelude.{Option, None, Some, IfSome, Ok, IfErr}
 use Rattle.profile.specs.Profile.{profile_ok}
 use Rattle.profile.specs.Cut.{feed, space, has, past, begins}
 use Rattle.profile.specs.Line.{lines_past, value_at}
 use Rattle.profile.specs.Sets.{sets_in, limits_in}
-use Rattle.profile.specs.Text.{sgsn_name, set_row, end_rows, rows_of, no_bad, first_bad, profile_by, profile_of, read_by, read_of}
+use Rattle.profile.specs.Text.{sgsn_name, set_row, end_rows, rows_of, first_bad, profile_by, profile_of, read_by, read_of}
 use Rattle.profile.specs.Print.{address_text, offset_text, node_text, limits_tail, lines_of, tails_of, text_of}
 use Rattle.profile.specs.declared.Profile.{Profile}
 use Rattle.profile.specs.declared.line.Kind.TheVariants.{Dotted, Signed, Rest}
-use Rattle.profile.specs.declared.text.Fault.TheVariants.{None, Address}
-use Rattle.profile.specs.declared.text.Read.{Read}
-use Rattle.profile.proofs.Firsts.{unless_met}
+use Rattle.profile.specs.declared.fault.Fault.TheVariants.{Address}
+use Rattle.profile.specs.declared.fault.BadLine.{BadLine}
+use Rattle.profile.proofs.Firsts.{unless_met, Within}
 use Rattle.profile.proofs.Places.{sets_few, limits_long}
 use Rattle.profile.proofs.Readings.{rows_long}
-use Rattle.profile.proofs.Lines.{Tail, tail_is, Lines, last, line, line_past, reads, value_at_lem, named, back, whole, agrees}
+use Rattle.profile.proofs.Lines.{Tail, tail_is, Lines, last, line, line_past, reads, value_at_lem, named, back, first_within}
 use Rattle.profile.proofs.Ranges.{Shaped, InRange, in_range_lem}
 use Rattle.profile.proofs.Values.{Node, address_is, offset_is, node_is}
 use Rattle.profile.proofs.Backs.{dotted_back, signed_back, node_back}
@@ -48,9 +48,6 @@ after t xs ys k j h =
     ap (λ (n : ℕ). get_or (t ∷ (xs ++ ys)) n []) e ∙ get_or-append-add xs ys j []
 
 -- ---- the text of a profile reads
-
-abbrev pub reading : Profile → Read
-reading p = record { line = 0; fault = None; profile = p }
 
 after_space : (v : List ℕ) → past space (space ∷ v) ≡ v
 unfolding past
@@ -90,7 +87,7 @@ module _ (p : Profile) (i : InRange p) (shape : Shaped p) where
   unfolding lines_past lines_of begins
   counted = sets_count ends refl i.sets (text_of p) rest i.some i.most
 
-  none_bad : first_bad (rows_of p.sets) 1 (text_of p) ≡ no_bad
+  none_bad : first_bad (rows_of p.sets) 1 (text_of p) ≡ None
   unfolding text_of
   none_bad = reads 1 lines
 
@@ -105,7 +102,7 @@ module _ (p : Profile) (i : InRange p) (shape : Shaped p) where
       (ap (limits_in 8 k) rest ∙ rw (← shape.limits) (sets_read ends i.sets))
       (v (k + 1) ∙ ap (past space) (w 0 long) ∙ after_space _) (v (k + 2) ∙ ap (past space) (w 1 long) ∙ node.value)
 
-pub text_read : (p : Profile) → profile_ok p ≡ true → Shaped p → read_of (text_of p) ≡ reading p
+pub text_read : (p : Profile) → profile_ok p ≡ true → Shaped p → read_of (text_of p) ≡ Ok p
 unfolding read_of read_by profile_of
 text_read p ok shape =
     let i = in_range_lem p shape.limits ok in
@@ -162,23 +159,31 @@ eight : (k : ℕ) (s : List ℕ) → length (profile_by k s).limits ≡ 8
 unfolding profile_by
 eight k s = limits_long 8 k (lines_past 1 s)
 
--- a text that reads as a profile in range is the text of that profile
-pub read_text : (s : List ℕ) (p : Profile) → (read_of s).line ≡ 0 → (read_of s).profile ≡ p → profile_ok p ≡ true → s ≡ text_of p
-unfolding read_of read_by profile_of
-read_text s p z e ok =
-    let k = sets_in s in
-    let q : profile_by k s ≡ p = rw (eq-eqb (first_bad (rows_of k) 1 s).line 0 z) at e in
-    let b = back (rows_of k) (names k) 0 s z in
-    printed s k b.tails b.lines b.text (in_range_lem (profile_by k s) (eight k s) (ap profile_ok q ∙ ok)) ∙ ap text_of q
+-- a text that reads is read as its values say
+pub read_whole : (s : List ℕ) (p : Profile) → read_of s ≡ Ok p → (first_bad (rows_of (sets_in s)) 1 s ≡ None) × (p ≡ profile_of s)
+unfolding read_of read_by
+read_whole s p = go (first_bad (rows_of (sets_in s)) 1 s)
+  where
+    go : (b : Option BadLine) → read_by b (profile_of s) ≡ Ok p → (b ≡ None) × (p ≡ profile_of s)
+    go None e = (refl, cc)
+    go (Some b) e = absurd cc
 
--- a bad line is one of twelve, and something is wrong with it
-pub read_agree : (s : List ℕ) → ((read_of s).line ≤ 12) × ((read_of s).fault ≡ None → (read_of s).line ≡ 0)
+-- a text that reads as a profile in range is the text of that profile
+pub read_text : (s : List ℕ) (p : Profile) → read_of s ≡ Ok p → profile_ok p ≡ true → s ≡ text_of p
+unfolding profile_of
+read_text s p e ok =
+    let k = sets_in s in
+    let (z, q) = read_whole s p e in
+    let b = back (rows_of k) (names k) 1 s z in
+    printed s k b.tails b.lines b.text (in_range_lem (profile_by k s) (eight k s) (ap profile_ok (sym q) ∙ ok)) ∙ ap text_of (sym q)
+
+-- a bad line is one of twelve
+pub read_agree : (s : List ℕ) → IfErr (read_of s) (λ b. (1 ≤ b.line) × (b.line ≤ 12))
 unfolding read_of read_by
 read_agree s =
-    let a = agrees 12 (rows_of (sets_in s)) 1 s (omega (arith, rows_long (sets_in s), sets_few s)) in
-    (a.most, a.quiet)
-
--- where no line is bad, nothing is wrong
-pub read_whole : (s : List ℕ) → (read_of s).line ≡ 0 → read_of s ≡ reading (profile_of s)
-unfolding read_of read_by
-read_whole s e = rw (whole (rows_of (sets_in s)) 0 s e)
+    go (first_bad (rows_of (sets_in s)) 1 s)
+    (first_within 12 (rows_of (sets_in s)) 1 s (omega arith) (omega (arith, rows_long (sets_in s), sets_few s)))
+  where
+    go : (b : Option BadLine) → IfSome b (Within 12) → IfErr (read_by b (profile_of s)) (Within 12)
+    go None e = tt
+    go (Some b) e = e

@@ -12,6 +12,7 @@ use Rattle.octets.specs.Chars.{all_of, digit, node_char, is_zero}
 use Rattle.octets.specs.Names.{node_ok}
 use Rattle.limits.specs.declared.Limits.{Limits}
 use Rattle.profile.specs.Cut.{feed, space, has, past}
+use Rattle.std.specs.Prelude.{None}
 use Rattle.profile.specs.Fault.{unless}
 use Rattle.profile.specs.Number.{numeral, at_most}
 use Rattle.profile.specs.Address.{dot, octet_ok, octet_of, address_ok, address_of}
@@ -20,7 +21,7 @@ use Rattle.profile.specs.Offset.{west_fault, offset_fault, east, west, zone_of}
 use Rattle.profile.specs.Node.{node_octets}
 use Rattle.profile.specs.Print.{number_text, address_text, limits_text, offset_text, node_text}
 use Rattle.profile.specs.declared.line.Kind.TheVariants.{Rest}
-use Rattle.profile.specs.declared.text.Fault.TheVariants.{None, Number, Zero}
+use Rattle.profile.specs.declared.fault.Fault.TheVariants.{Number, Zero}
 use Rattle.profile.proofs.Firsts.{clash, both, unless_met}
 use Rattle.profile.proofs.Numbers.{by, most_is}
 use Rattle.profile.proofs.Marks.{absent, absent_both, up_to_here, past_here}

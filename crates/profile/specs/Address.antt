@@ -1,7 +1,6 @@
 -- Addresses: four numbers from 0 to 255, with three dots between them.
-use Rattle.std.specs.Prelude.{Bool, ◌&&◌, List, ℕ, ◌+◌, ◌*◌, leb}
+use Rattle.std.specs.Prelude.{Bool, ◌&&◌, List, ℕ, ◌+◌, ◌*◌, leb, is_none}
 use Rattle.profile.specs.Cut.{up_to, past}
-use Rattle.profile.specs.Fault.{is_none}
 use Rattle.profile.specs.Number.{number_fault, numeral, at_most}
 
 -- '.'

@@ -1,5 +1,5 @@
 -- The line at the front of a text: a name, one space, a value and a line feed. What is wrong with it is what comes first here.
-use Rattle.std.specs.Prelude.{Bool, not, ◌&&◌, ◌||◌, List, ℕ, zero, suc, leb, eqb, length, get_or, drop}
+use Rattle.std.specs.Prelude.{Bool, not, ◌&&◌, ◌||◌, List, ℕ, zero, suc, leb, eqb, length, get_or, drop, Option, None}
 use Rattle.profile.specs.Cut.{feed, space, has, up_to, past, begins}
 use Rattle.profile.specs.Fault.{unless}
 use Rattle.profile.specs.Three.{three_fault}
@@ -7,8 +7,8 @@ use Rattle.profile.specs.Address.{address_ok}
 use Rattle.profile.specs.Offset.{offset_fault}
 use Rattle.profile.specs.declared.line.Kind.{Kind}
 use Rattle.profile.specs.declared.line.Kind.TheVariants.{Dotted, Three, Signed, Rest}
-use Rattle.profile.specs.declared.text.Fault.{Fault}
-use Rattle.profile.specs.declared.text.Fault.TheVariants.{None, Missing, End, Name, Space, Address}
+use Rattle.profile.specs.declared.fault.Fault.{Fault}
+use Rattle.profile.specs.declared.fault.Fault.TheVariants.{Missing, End, Name, Space, Address}
 
 -- what follows the name in the line; and its value, which follows the first space: no name has one
 abbrev pub tail_of : List ℕ → List ℕ → List ℕ
@@ -32,14 +32,14 @@ spaced Three t = one_space t
 spaced Signed t = one_space t
 spaced Rest t = rest_space t
 
-abbrev pub value_fault : Kind → List ℕ → Fault
+abbrev pub value_fault : Kind → List ℕ → Option Fault
 value_fault Dotted v = unless (address_ok v) Address None
 value_fault Three v = three_fault v
 value_fault Signed v = offset_fault v
 value_fault Rest v = None
 
 -- the line is there, it has a line feed, it begins with its name, and after it come the space and the value
-unfoldable pub line_fault : List ℕ → Kind → List ℕ → Fault
+unfoldable pub line_fault : List ℕ → Kind → List ℕ → Option Fault
 line_fault name kind s =
     unless (leb 1 (length s)) Missing
     (unless (has feed s) End

@@ -1,4 +1,3 @@
 -- What private functions of this crate count on: no part of what a reader must believe.
-pub mod Ahead
 pub mod Places
 pub mod Rows

@@ -1,6 +1,5 @@
 -- The text of a profile: these lines, in this order (02, W6: one to eight are sets of limits).
-use Rattle.std.specs.Prelude.{cond, List, [], ◌∷◌, ◌++◌, ℕ, suc, ◌+◌, eqb, length, replicate}
-use Rattle.profile.specs.Profile.{no_profile}
+use Rattle.std.specs.Prelude.{List, [], ◌∷◌, ◌++◌, ℕ, suc, ◌+◌, eqb, length, replicate, Option, None, Some, Result, Ok, Err}
 use Rattle.profile.specs.Cut.{feed, past}
 use Rattle.profile.specs.Fault.{unless, or_bad}
 use Rattle.profile.specs.Address.{address_of}
@@ -9,11 +8,10 @@ use Rattle.profile.specs.Node.{node_octets}
 use Rattle.profile.specs.Line.{lines_past, value_at, line_fault}
 use Rattle.profile.specs.Sets.{limits_name, sets_in, limits_in}
 use Rattle.profile.specs.declared.Profile.{Profile}
-use Rattle.profile.specs.declared.fault.Bad.{Bad}
+use Rattle.profile.specs.declared.fault.BadLine.{BadLine}
 use Rattle.profile.specs.declared.line.Kind.{Kind}
 use Rattle.profile.specs.declared.line.Kind.TheVariants.{Dotted, Three, Signed, Rest}
-use Rattle.profile.specs.declared.text.Fault.TheVariants.{None, More}
-use Rattle.profile.specs.declared.text.Read.{Read}
+use Rattle.profile.specs.declared.fault.Fault.TheVariants.{More}
 
 -- ---- the names
 
@@ -50,12 +48,9 @@ rows_of k = row sgsn_name Dotted ∷ (replicate k set_row ++ end_rows)
 
 -- ---- the first bad line, and what is wrong there
 
-abbrev pub no_bad : Bad
-no_bad = record { line = 0; fault = None }
-
 -- The lines of these rows, from number n on: each is read by its row, and nothing follows the last.
-unfoldable pub first_bad : List Row → ℕ → List ℕ → Bad
-first_bad [] n s = or_bad n (unless (eqb (length s) 0) More None) no_bad
+unfoldable pub first_bad : List Row → ℕ → List ℕ → Option BadLine
+first_bad [] n s = or_bad n (unless (eqb (length s) 0) More None) None
 first_bad (r ∷ rs) n s = or_bad n (line_fault r.name r.kind s) (first_bad rs (suc n) (past feed s))
 
 -- ---- the profile
@@ -77,8 +72,9 @@ profile_of s = profile_by (sets_in s) s
 
 -- ---- what the text says: a profile, or the first bad line and what is wrong there
 
-unfoldable pub read_by : Bad → Profile → Read
-read_by b p = record { line = b.line; fault = b.fault; profile = cond (eqb b.line 0) p no_profile }
+unfoldable pub read_by : Option BadLine → Profile → Result Profile BadLine
+read_by None p = Ok p
+read_by (Some b) p = Err b
 
-unfoldable pub read_of : List ℕ → Read
+unfoldable pub read_of : List ℕ → Result Profile BadLine
 read_of s = read_by (first_bad (rows_of (sets_in s)) 1 s) (profile_of s)

@@ -2,22 +2,22 @@
 ghost use Rattle.std.specs.Prelude.{◌≡◌, ◌≤◌};
 ghost use Rattle.profile.specs.Address.{octet_ok, octet_of, address_ok, address_of};
 
-use crate::{cut, fault, number};
+use crate::{cut, number};
 
 // A number from 0 to 255.
 fn octet_ok(v: &[u8]) -> bool
     ensures { result ≡ octet_ok v.now }
 {
-    let n = number::number(v);
-    let f = number::number_fault(v);
-    fault::is_none(f) & (n <= 255)
+    match number::read(v) {
+        Ok(n) => n <= 255,
+        Err(_) => false,
+    }
 }
 
 fn octet_of(v: &[u8]) -> u32
     ensures { (result ≡ octet_of v.now) × (result ≤ 255) }
 {
-    let n = number::number(v);
-    number::at_most(255, n) as u32
+    number::number(v).min(255) as u32
 }
 
 // Four numbers from 0 to 255.
@@ -26,11 +26,10 @@ pub fn address_ok(v: &[u8]) -> bool
 {
     let w = cut::past(v, b'.');
     let x = cut::past(w, b'.');
-    let a = octet_ok(cut::up_to(v, b'.'));
-    let b = octet_ok(cut::up_to(w, b'.'));
-    let c = octet_ok(cut::up_to(x, b'.'));
-    let d = octet_ok(cut::past(x, b'.'));
-    a & b & c & d
+    octet_ok(cut::up_to(v, b'.'))
+        && octet_ok(cut::up_to(w, b'.'))
+        && octet_ok(cut::up_to(x, b'.'))
+        && octet_ok(cut::past(x, b'.'))
 }
 
 // The address that the four numbers are.

@@ -1,46 +1,65 @@
-// The first fault.
-ghost use Rattle.std.specs.Prelude.{◌≡◌};
-ghost use Rattle.profile.specs.Fault.{is_none, unless, first};
+// What can be wrong with a line.
+use std::fmt;
 
-use crate::text::Fault;
+#[derive(Clone, Copy, Debug, PartialEq, Eq)]
+pub enum Fault {
+    // the text ends before the line
+    Missing,
+    // the text ends within the line
+    End,
+    // the line does not begin with its name
+    Name,
+    // no single space after the name
+    Space,
+    // not a number
+    Number,
+    // a zero where none may stand
+    Zero,
+    // not an address
+    Address,
+    // something after the last line
+    More,
+}
 
-// A line's number and what is wrong there; 0 where no line is bad.
-#[derive(Clone, Copy)]
-pub struct Bad {
+// A line's number, 1 to 12, and what is wrong there.
+#[derive(Clone, Copy, Debug, PartialEq, Eq)]
+pub struct BadLine {
     pub line: u8,
     pub fault: Fault,
 }
 
-// Is nothing wrong?
-pub fn is_none(f: Fault) -> bool
-    ensures { result ≡ is_none f }
-{
-    match f {
-        Fault::None => true,
-        Fault::Missing => false,
-        Fault::End => false,
-        Fault::Name => false,
-        Fault::Space => false,
-        Fault::Number => false,
-        Fault::Zero => false,
-        Fault::Address => false,
-        Fault::More => false,
+impl Fault {
+    // The same in words, for people.
+    fn words(self) -> &'static str {
+        match self {
+            Fault::Missing => {
+                "the line is missing: write all lines (sgsn, one to eight times limits, offset, node-id)"
+            }
+            Fault::End => "no line feed at the end of the line",
+            Fault::Name => {
+                "the line does not begin with its name: sgsn, limits (one to eight lines), offset, node-id stand in this order"
+            }
+            Fault::Space => {
+                "one space must follow the name (and node-id stands alone where the node ID is empty)"
+            }
+            Fault::Number => {
+                "the value is not a whole number: digits only (and limits has three, with one space between them)"
+            }
+            Fault::Zero => "a number begins with a zero",
+            Fault::Address => "not an address: four numbers 0 to 255 with dots",
+            Fault::More => "something follows the last line",
+        }
     }
 }
 
-// The fault f, unless the test is met, and then g.
-pub fn unless(met: bool, f: Fault, g: Fault) -> Fault
-    ensures { result ≡ unless met f g }
-{
-    if met {
-        return g;
+impl fmt::Display for Fault {
+    fn fmt<W: fmt::Write>(&self, f: &mut fmt::Formatter<W>) -> fmt::Result {
+        f.write_str(self.words())
     }
-    f
 }
 
-// The fault f, unless that is none, and then g.
-pub fn first(f: Fault, g: Fault) -> Fault
-    ensures { result ≡ first f g }
-{
-    unless(is_none(f), f, g)
+impl fmt::Display for BadLine {
+    fn fmt<W: fmt::Write>(&self, f: &mut fmt::Formatter<W>) -> fmt::Result {
+        write!(f, "profile line {}: {}", self.line, self.fault)
+    }
 }

@@ -8,7 +8,7 @@
 
 pub mod address;
 mod cut;
-mod fault;
+pub mod fault;
 mod line;
 pub mod number;
 mod offset;
@@ -36,30 +36,24 @@ pub struct Profile {
 }
 
 // Is the profile in range?
+#[tactic(auto, unfolding(crate::specs::Profile::profile_ok))]
 pub fn profile_ok(p: Profile) -> bool
     ensures { result ≡ profile_ok p }
 {
-    let given = p.limits;
-    let nodeid = p.nodeid;
-    let first = limits::sets::first_editions(given, p.sets);
-    let a = limits::sets::sets_ok(first, p.sets);
-    let b = names::node_ok(nodeid, p.nodelen);
-    a & (p.zone <= 1560) & b
+    let first = limits::sets::first_editions(p.limits, p.sets);
+    limits::sets::sets_ok(first, p.sets) && p.zone <= 1560 && names::node_ok(p.nodeid, p.nodelen)
 }
 
 // A profile that is all zero, which is out of range: what stands where there is none.
 pub fn no_profile() -> Profile
     ensures { result ≡ no_profile }
 {
-    let none = limits::no_limits();
-    let limits = [none; 8];
-    let nodeid = [0u8; 20];
     Profile {
         sgsn: 0,
-        limits,
+        limits: [limits::no_limits(); 8],
         sets: 0,
         zone: 0,
-        nodeid,
+        nodeid: [0; 20],
         nodelen: 0,
     }
 }

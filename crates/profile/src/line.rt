@@ -2,8 +2,8 @@
 ghost use Rattle.std.specs.Prelude.{◌≡◌};
 ghost use Rattle.profile.specs.Line.{lines_past, value_at, spaced, value_fault, line_fault};
 
-use crate::text::Fault;
-use crate::{address, cut, fault, offset, three};
+use crate::fault::Fault;
+use crate::{address, cut, offset, three};
 
 // The kind of a line's value.
 #[derive(Clone, Copy)]
@@ -23,11 +23,8 @@ pub fn lines_past(s: &[u8], n: u8) -> &[u8]
     ensures { result.now ≡ lines_past n s.now }
 {
     let mut t = s;
-    let mut i = 0;
-    while i < n {
-        let u = cut::past(t, b'\n');
-        t = u;
-        i += 1;
+    for _ in 0..n {
+        t = cut::past(t, b'\n');
     }
     t
 }
@@ -46,36 +43,40 @@ fn spaced(kind: Kind, t: &[u8]) -> bool
     let first = octets::octet(t, 0) == b' ';
     let second = octets::octet(t, 1) == b' ';
     match kind {
-        Kind::Dotted => return first & !second,
-        Kind::Three => return first & !second,
-        Kind::Signed => return first & !second,
-        Kind::Rest => return (t.len() == 0) | (first & (2 <= t.len())),
+        Kind::Dotted | Kind::Three | Kind::Signed => first && !second,
+        Kind::Rest => t.is_empty() || (first && 2 <= t.len()),
     }
 }
 
 // What is wrong with a value.
-fn value_fault(kind: Kind, v: &[u8]) -> Fault
+#[tactic(auto, unfolding(crate::specs::Fault::unless))]
+fn value_fault(kind: Kind, v: &[u8]) -> Option<Fault>
     ensures { result ≡ value_fault kind v.now }
 {
     match kind {
-        Kind::Dotted => return fault::unless(address::address_ok(v), Fault::Address, Fault::None),
-        Kind::Three => return three::three_fault(v),
-        Kind::Signed => return offset::offset_fault(v),
-        Kind::Rest => return Fault::None,
+        Kind::Dotted if address::address_ok(v) => None,
+        Kind::Dotted => Some(Fault::Address),
+        Kind::Three => three::three_fault(v),
+        Kind::Signed => offset::offset_fault(v),
+        Kind::Rest => None,
     }
 }
 
 // What is wrong with the line.
-pub fn line_fault(s: &[u8], name: &[u8], kind: Kind) -> Fault
+#[tactic(auto, unfolding(crate::specs::Line::line_fault, crate::specs::Fault::unless))]
+pub fn line_fault(s: &[u8], name: &[u8], kind: Kind) -> Option<Fault>
     ensures { result ≡ line_fault name.now kind s.now }
 {
-    let there = 1 <= s.len();
-    let ended = cut::has(s, b'\n');
     let line = cut::up_to(s, b'\n');
-    let named = cut::begins(line, name);
-    let spaced = spaced(kind, cut::rest(line, name.len()));
-    let f = value_fault(kind, cut::past(line, b' '));
-    let g = fault::unless(spaced, Fault::Space, f);
-    let h = fault::unless(named, Fault::Name, g);
-    fault::unless(there, Fault::Missing, fault::unless(ended, Fault::End, h))
+    if s.is_empty() {
+        Some(Fault::Missing)
+    } else if !cut::has(s, b'\n') {
+        Some(Fault::End)
+    } else if !cut::begins(line, name) {
+        Some(Fault::Name)
+    } else if !spaced(kind, cut::rest(line, name.len())) {
+        Some(Fault::Space)
+    } else {
+        value_fault(kind, cut::past(line, b' '))
+    }
 }

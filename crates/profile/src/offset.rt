@@ -2,8 +2,8 @@
 ghost use Rattle.std.specs.Prelude.{◌≡◌};
 ghost use Rattle.profile.specs.Offset.{minus, west_fault, offset_fault, east, west, zone_of};
 
-use crate::text::Fault;
-use crate::{cut, fault, number};
+use crate::fault::Fault;
+use crate::{cut, number};
 use octets::chars;
 use octets::chars::Class;
 
@@ -15,46 +15,45 @@ fn is_minus(v: &[u8]) -> bool
 }
 
 // What is wrong with the digits after a sign.
-fn west_fault(v: &[u8]) -> Fault
+#[tactic(auto, unfolding(crate::specs::Offset::west_fault, crate::specs::Fault::unless))]
+fn west_fault(v: &[u8]) -> Option<Fault>
     ensures { result ≡ west_fault v.now }
 {
-    let whole = chars::all_chars(Class::Digit, v) & (1 <= v.len());
-    let nonzero = !(octets::octet(v, 0) == b'0');
-    fault::unless(
-        whole,
-        Fault::Number,
-        fault::unless(nonzero, Fault::Zero, Fault::None),
-    )
+    if v.is_empty() || !chars::all_chars(Class::Digit, v) {
+        Some(Fault::Number)
+    } else if v[0] == b'0' {
+        Some(Fault::Zero)
+    } else {
+        None
+    }
 }
 
 // What is wrong with v as an offset.
-pub fn offset_fault(v: &[u8]) -> Fault
+#[tactic(auto, unfolding(crate::specs::Offset::offset_fault))]
+pub fn offset_fault(v: &[u8]) -> Option<Fault>
     ensures { result ≡ offset_fault v.now }
 {
     if is_minus(v) {
-        return west_fault(cut::rest(v, 1));
+        west_fault(cut::rest(v, 1))
+    } else {
+        number::number_fault(v)
     }
-    number::number_fault(v)
 }
 
 // The zone that is so many minutes ahead of universal time.
+#[tactic(auto, unfolding(crate::specs::Offset::east, crate::specs::Number::at_most))]
 fn east(n: u64) -> u16
     ensures { result ≡ east n }
 {
-    if n <= 64815 {
-        return (n + 720) as u16;
-    }
-    65535
+    n.saturating_add(720).min(65535) as u16
 }
 
 // The zone that is so many minutes behind universal time.
+#[tactic(auto, unfolding(crate::specs::Offset::west))]
 fn west(n: u64) -> u16
     ensures { result ≡ west n }
 {
-    if n <= 720 {
-        return (720 - n) as u16;
-    }
-    65535
+    if n <= 720 { (720 - n) as u16 } else { 65535 }
 }
 
 // The zone of an offset.
@@ -62,7 +61,8 @@ pub fn zone(v: &[u8]) -> u16
     ensures { result ≡ zone_of v.now }
 {
     if is_minus(v) {
-        return west(number::number(cut::rest(v, 1)));
+        west(number::number(cut::rest(v, 1)))
+    } else {
+        east(number::number(v))
     }
-    east(number::number(v))
 }

@@ -5,45 +5,37 @@ ghost use Rattle.profile.specs.Private.Places.{place_of};
 
 use crate::{cut, line, three};
 use limits::Limits;
+use std::array;
 
 // How many sets the text has.
 pub fn sets_in(s: &[u8]) -> u8
     ensures { result ≡ sets_in s.now }
 {
     let mut t = line::lines_past(s, 2);
-    let mut n: u8 = 1;
-    while n < 8 {
+    for n in 1..8 {
         if !cut::begins(t, b"limits") {
             return n;
         }
-        let u = cut::past(t, b'\n');
-        t = u;
-        n += 1;
+        t = cut::past(t, b'\n');
     }
-    n
+    8
 }
 
 // The limits at place i, where there are so many sets: none after the last.
+#[tactic(auto, unfolding(crate::specs::Private::Places::place_of))]
 fn place_of(s: &[u8], sets: u8, i: u8) -> Limits
     ensures { result ≡ place_of sets i s.now }
 {
     if i < sets {
-        return three::limits_of(line::value(s, i));
+        three::limits_of(line::value(s, i))
+    } else {
+        limits::no_limits()
     }
-    limits::no_limits()
 }
 
 // The limits of so many sets, the first of which is the line at the front of s.
 pub fn limits_in(s: &[u8], sets: u8) -> [Limits; 8]
     ensures { result ≡ limits_in 8 sets s.now }
 {
-    let none = limits::no_limits();
-    let mut r = [none; 8];
-    let mut i: u8 = 0;
-    while i < 8 {
-        let at = i as usize;
-        r[at] = place_of(s, sets, i);
-        i += 1;
-    }
-    r
+    array::from_fn(|i| place_of(s, sets, i as u8))
 }

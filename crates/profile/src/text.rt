@@ -5,95 +5,54 @@ ghost use Rattle.profile.specs.Sets.{sets_in};
 ghost use Rattle.profile.specs.Text.{rows_of, first_bad, profile_of, read_of};
 ghost use Rattle.profile.specs.Private.Rows.{row_fault};
 
-use crate::fault::Bad;
+use crate::fault::{BadLine, Fault};
 use crate::line::Kind;
-use crate::{Profile, address, cut, fault, line, offset, sets};
-
-// What is wrong with a line.
-#[derive(Clone, Copy)]
-pub enum Fault {
-    // nothing
-    None,
-    // the text ends before the line
-    Missing,
-    // the text ends within the line
-    End,
-    // the line does not begin with its name
-    Name,
-    // no single space after the name
-    Space,
-    // not a number
-    Number,
-    // a zero where none may stand
-    Zero,
-    // not an address
-    Address,
-    // something after the last line
-    More,
-}
-
-// A profile; or the first bad line, 1 to 12, and what is wrong there, with a profile that is all zero.
-#[derive(Clone, Copy)]
-pub struct Read {
-    pub line: u8,
-    pub fault: Fault,
-    pub profile: Profile,
-}
+use crate::{Profile, address, cut, line, offset, sets};
 
 // The first twenty octets of v, and zeros after them.
 fn node_octets(v: &[u8]) -> [u8; 20]
     ensures { result ≡ node_octets v.now }
 {
     let mut out = [0u8; 20];
-    let w = cut::front(v, 20);
+    let w = octets::front(v, 20);
     out[..w.len()].copy_from_slice(w);
     out
 }
 
 // What is wrong with the line of row i at the front of s, where there are so many sets: its name, and the kind of its value.
-fn row_fault(s: &[u8], sets: u8, i: u8) -> Fault
+fn row_fault(s: &[u8], sets: u8, i: u8) -> Option<Fault>
     ensures { result ≡ row_fault sets i s.now }
 {
     if i == 0 {
-        return line::line_fault(s, b"sgsn", Kind::Dotted);
+        line::line_fault(s, b"sgsn", Kind::Dotted)
+    } else if i <= sets {
+        line::line_fault(s, b"limits", Kind::Three)
+    } else if i - sets == 1 {
+        line::line_fault(s, b"offset", Kind::Signed)
+    } else {
+        line::line_fault(s, b"node-id", Kind::Rest)
     }
-    if i <= sets {
-        return line::line_fault(s, b"limits", Kind::Three);
-    }
-    if i - sets == 1 {
-        return line::line_fault(s, b"offset", Kind::Signed);
-    }
-    line::line_fault(s, b"node-id", Kind::Rest)
 }
 
-// The first bad line.
-fn first_bad(s: &[u8]) -> Bad
+// The first bad line, if there is one.
+fn first_bad(s: &[u8]) -> Option<BadLine>
     ensures { result ≡ first_bad (rows_of (sets_in s.now)) 1 s.now }
 {
     let sets = sets::sets_in(s);
     let mut t = s;
-    let mut i: u8 = 0;
-    while i < sets + 3 {
-        let f = row_fault(t, sets, i);
-        if !fault::is_none(f) {
-            return Bad {
-                line: i + 1,
-                fault: f,
-            };
+    for i in 0..sets + 3 {
+        if let Some(fault) = row_fault(t, sets, i) {
+            return Some(BadLine { line: i + 1, fault });
         }
-        let u = cut::past(t, b'\n');
-        t = u;
-        i += 1;
+        t = cut::past(t, b'\n');
     }
-    if t.len() == 0 {
-        return Bad {
-            line: 0,
-            fault: Fault::None,
-        };
-    }
-    Bad {
-        line: sets + 4,
-        fault: Fault::More,
+    if t.is_empty() {
+        None
+    } else {
+        Some(BadLine {
+            line: sets + 4,
+            fault: Fault::More,
+        })
     }
 }
 
@@ -117,24 +76,13 @@ fn profile_of(s: &[u8]) -> Profile
     }
 }
 
-// What the text says.
-pub fn read_profile(s: &[u8]) -> Read
+// What the text says: a profile, or the first bad line and what is wrong there.
+#[tactic(auto, unfolding(crate::specs::Text::read_of, crate::specs::Text::read_by))]
+pub fn read_profile(s: &[u8]) -> Result<Profile, BadLine>
     ensures { result ≡ read_of s.now }
 {
-    let b = first_bad(s);
-    let f = b.fault;
-    if b.line == 0 {
-        let profile = profile_of(s);
-        return Read {
-            line: 0,
-            fault: f,
-            profile,
-        };
-    }
-    let profile = crate::no_profile();
-    Read {
-        line: b.line,
-        fault: f,
-        profile,
+    match first_bad(s) {
+        Some(bad) => Err(bad),
+        None => Ok(profile_of(s)),
     }
 }

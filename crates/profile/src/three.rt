@@ -2,19 +2,20 @@
 ghost use Rattle.std.specs.Prelude.{◌≡◌};
 ghost use Rattle.profile.specs.Three.{three_fault, limits_of};
 
-use crate::text::Fault;
-use crate::{cut, fault, number};
+use crate::fault::Fault;
+use crate::{cut, number};
 use limits::Limits;
 
 // What is wrong with v as three numbers: what is wrong with the first of them that is bad.
-pub fn three_fault(v: &[u8]) -> Fault
+#[tactic(auto, unfolding(crate::specs::Three::three_fault))]
+pub fn three_fault(v: &[u8]) -> Option<Fault>
     ensures { result ≡ three_fault v.now }
 {
     let w = cut::past(v, b' ');
     let a = number::number_fault(cut::up_to(v, b' '));
     let b = number::number_fault(cut::up_to(w, b' '));
     let c = number::number_fault(cut::past(w, b' '));
-    fault::first(a, fault::first(b, c))
+    a.or(b.or(c))
 }
 
 // The limits that the three numbers are.
@@ -27,7 +28,7 @@ pub fn limits_of(v: &[u8]) -> Limits
     let c = number::number(cut::past(w, b' '));
     Limits {
         volume: a,
-        seconds: number::at_most(4294967295, b) as u32,
-        changes: number::at_most(255, c) as u8,
+        seconds: b.min(u32::MAX as u64) as u32,
+        changes: c.min(u8::MAX as u64) as u8,
     }
 }

@@ -10,7 +10,7 @@ ghost use Rattle.node.specs.Sound.{fresh_of};
 use node::Node;
 use out::Stream;
 use profile::Profile;
-use profile::text::Fault;
+use profile::fault::BadLine;
 use std::env::{Env, FillError};
 use std::io::{Cursor, ErrorKind, Read, Stderr, Write};
 use std::rt::Files;
@@ -198,12 +198,17 @@ impl Command {
 
     // The profile that a text has.
     fn profile_of_text(self, s: &[u8]) -> Option<Profile> {
-        let r = profile::text::read_profile(s);
-        if !profile::profile_ok(r.profile) {
-            self.say_fault(r.line, number_of(r.fault));
-            return None;
+        match profile::text::read_profile(s) {
+            Ok(profile) if profile::profile_ok(profile) => Some(profile),
+            Ok(_) => {
+                self.say_range();
+                None
+            }
+            Err(bad) => {
+                self.say_bad(bad);
+                None
+            }
         }
-        Some(r.profile)
     }
 
     // How a command on a file starts: the profile of the second argument (the first is the command), and the file of another; nothing after
@@ -214,38 +219,28 @@ impl Command {
         Some((profile, file))
     }
 
-    // Says what is wrong with a profile that is out of range, or has a fault in a line.
-    fn say_fault(self, line: u8, fault: u64) {
+    // Says that a profile is out of range.
+    fn say_range(self) {
         say(
             self.error,
-            b"%a: %Mrefused 12: the profile is out of range: limits of 1 to 1000000000000 octets, 1 to 604800 seconds and \
-1 to 15 changes, offset -720 to 840, node-id of up to 20 characters from space to ~%;profile line %k: %.%L\
-%;the line is missing: write all lines (sgsn, one to eight times limits, offset, node-id)\
-%;no line feed at the end of the line\
-%;the line does not begin with its name: sgsn, limits (one to eight lines), offset, node-id stand in this order\
-%;one space must follow the name (and node-id stands alone where the node ID is empty)\
-%;the value is not a whole number: digits only (and limits has three, with one space between them)\
-%;a number begins with a zero\
-%;not an address: four numbers 0 to 255 with dots\
-%;something follows the last line%.\n",
-            &four(line as u64, fault, (line != 0) as u64, 0),
+            b"%a: refused 12: the profile is out of range: limits of 1 to 1000000000000 octets, 1 to 604800 seconds and \
+1 to 15 changes, offset -720 to 840, node-id of up to 20 characters from space to ~\n",
+            &four(0, 0, 0, 0),
             self.name,
         );
     }
-}
 
-// The number of a fault, for the form above.
-fn number_of(f: Fault) -> u64 {
-    match f {
-        Fault::None => 0,
-        Fault::Missing => 1,
-        Fault::End => 2,
-        Fault::Name => 3,
-        Fault::Space => 4,
-        Fault::Number => 5,
-        Fault::Zero => 6,
-        Fault::Address => 7,
-        Fault::More => 8,
+    // Says what is wrong with a line of a profile.
+    fn say_bad(self, bad: BadLine) {
+        let mut cursor = Cursor::new([0u8; 256]);
+        let _ = write!(cursor, "{bad}");
+        let end = cursor.position();
+        let text = cursor.into_inner();
+        let mut to = out::to_error(self.error);
+        out::write_all(&mut to, self.name);
+        out::write_all(&mut to, b": ");
+        out::write_all(&mut to, octets::front(&text, end as usize));
+        out::write_all(&mut to, b"\n");
     }
 }
 

@@ -1,15 +1,17 @@
--- `profile::cut::ahead` meets its contract. The loop's invariant: no mark stands in what is passed.
-use Rattle.profile.proofs.Marks.{sought_none, sought_here, sought_more, sought_end}
+-- `profile::cut::ahead` meets its contract.
+use mathlib.Core.Path.{◌∙◌}
+use borrow.Author.Tests.{tests}
+use Rattle.std.proofs.Common.{rules}
+use Rattle.std.proofs.lemmas.Iterator.{YieldsList-from_slice}
+use Rattle.std.proofs.lemmas.Iterator.Search.{position_from_yields_List}
+use Rattle.profile.proofs.Marks.{is, or_all, ahead_most}
 use Rattle.profile.proofs.cut.ahead.Goals as goal
 
-pub loop-i-init : goal.loop-i-init
-loop-i-init c = sought_none _ _
-
-pub returns-then-s-i : goal.returns-then-s-i
-returns-then-s-i c = sought_here c.loop-i.invariant c.loop-i-test.true c.if-s-i.true
-
-pub loop-i-preserved : goal.loop-i-preserved
-loop-i-preserved c = sought_more c.loop-i.invariant c.loop-i-test.true c.if-s-i.false
-
 pub returns : goal.returns
-returns c = sought_end c.loop-i.invariant c.loop-i-test.false
+returns c =
+    let a = c.args in
+    let p =
+    position_from_yields_List (is a.x) _ _ c.position.result c.position.ensures.ran
+    (YieldsList-from_slice a.s.now cc) (λ x b q k. search (rules, tests)) in
+    let e = c.unwrap_or.ensures ∙ or_all a.x a.s.now p in
+    (e, rw e (ahead_most a.x a.s.now))

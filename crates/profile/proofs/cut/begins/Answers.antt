@@ -1,6 +1,7 @@
 -- `profile::cut::begins` meets its contract.
-use Rattle.profile.proofs.Marks.{begins_same}
+use mathlib.Core.Path.{◌∙◌}
+use Rattle.profile.proofs.Marks.{begins_test}
 use Rattle.profile.proofs.cut.begins.Goals as goal
 
 pub returns : goal.returns
-returns c = let a = c.args in begins_same a.name.now a.s.now (rw c.front.ensures at c.same.ensures)
+returns c = let a = c.args in c.starts_with.ensures.value ∙ begins_test a.name.now a.s.now

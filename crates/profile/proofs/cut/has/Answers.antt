@@ -1,6 +1,7 @@
 -- `profile::cut::has` meets its contract.
-use Rattle.profile.proofs.Marks.{has_ltb}
+use mathlib.Core.Path.{◌∙◌}
+use Rattle.profile.proofs.Marks.{has_test}
 use Rattle.profile.proofs.cut.has.Goals as goal
 
 pub returns : goal.returns
-returns c = let a = c.args in rw c.ahead.ensures.0 (has_ltb a.x a.s.now)
+returns c = let a = c.args in c.contains.ensures.value ∙ has_test a.x a.s.now

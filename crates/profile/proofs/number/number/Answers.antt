@@ -1,14 +1,14 @@
 -- `profile::number::number` meets its contract.
-use Rattle.profile.proofs.Numbers.{spelt_none, spelt_more, spelt_end}
+use mathlib.Core.Path.{◌∙◌}
+use native.Mathlib.Omega.{arith}
+use borrow.Author.Tests.{tests}
+use Rattle.std.proofs.Common.{rules}
+use Rattle.std.proofs.lemmas.Iterator.{YieldsList-from_slice}
+use Rattle.std.proofs.lemmas.Iterator.Consumers.{fold_from_yields_List}
+use Rattle.profile.proofs.Numbers.{more, fold_more}
 use Rattle.profile.proofs.number.number.Goals as goal
 
-pub loop-i-init : goal.loop-i-init
-loop-i-init c = spelt_none _ _
-
-pub loop-i-preserved : goal.loop-i-preserved
-loop-i-preserved c =
-    spelt_more _ _ _ _ c.loop-i.invariant c.loop-i-test.true
-    c.digit_value.result c.tens-n.result c.digit_value.ensures c.tens-n.ensures
-
 pub returns : goal.returns
-returns c = spelt_end _ _ _ _ c.loop-i.invariant c.loop-i-test.false
+returns c =
+    fold_from_yields_List _ more 0 c.fold.result c.fold.ensures.ran (YieldsList-from_slice c.args.v.now cc) (λ a x b q k. search (rules, tests))
+    ∙ fold_more 0 c.args.v.now (omega arith)

@@ -19,12 +19,12 @@ returns-then-is_minus c =
       sym c.is_minus.ensures ∙ c.if-is_minus.true,
     )
 
-pub returns : goal.returns
+pub returns-else-is_minus : goal.returns-else-is_minus
 unfolding zone_of
-returns c =
+returns-else-is_minus c =
     rw (
       c.east.ensures,
-      c.number-2.ensures,
+      c.number-else-is_minus.ensures,
       east_most (2 ^ 64 - 1) (numeral 0 c.args.v.now) (omega arith),
       sym c.is_minus.ensures ∙ c.if-is_minus.false,
     )

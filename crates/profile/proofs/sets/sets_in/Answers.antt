@@ -1,5 +1,6 @@
 -- `profile::sets::sets_in` meets its contract. The loop's invariant: so many sets are counted.
-use mathlib.Core.Path.{sym, ◌∙◌}
+use mathlib.Core.Path.{◌≡◌, sym, ◌∙◌}
+use native.Mathlib.Omega.{arith}
 use Rattle.profile.proofs.Places.{counted_one, counted_stop, counted_more, counted_end}
 use Rattle.profile.proofs.sets.sets_in.Goals as goal
 
@@ -14,7 +15,7 @@ returns-then-not-begins c =
 pub loop-n-preserved : goal.loop-n-preserved
 loop-n-preserved c =
     counted_more c.loop-n.invariant c.loop-n-test.true
-    (sym c.begins.ensures ∙ c.if-not-begins.false) c.past-u.ensures
+    (sym c.begins.ensures ∙ c.if-not-begins.false) c.past-t.ensures
 
 pub returns : goal.returns
-returns c = counted_end c.loop-n.invariant c.loop-n-test.false
+returns c = let e : 8 ≡ c.loop-n.n = omega arith in e ∙ counted_end c.loop-n.invariant c.loop-n-test.false

@@ -1,10 +1,6 @@
 -- `profile::text::first_bad` meets its contract. The loop's invariant: nothing is wrong with the lines passed.
-use Prim.Native.Nat.{◌+◌, ◌-◌}
 use Rattle.profile.proofs.Readings.{Clean}
 use Rattle.profile.proofs.text.first_bad.Given as goal
 
 abbrev pub invariant-loop-i : goal.invariant-loop-i
 invariant-loop-i l = Clean l.sets l.s l.t l.i
-
-abbrev pub decreases-loop-i : goal.decreases-loop-i
-decreases-loop-i l = l.sets + 3 - l.i

@@ -11,5 +11,5 @@ returns-then-i-sets c = row_set _ _ _ c.if-i-eq0.false c.if-i-sets.true c.line_f
 pub returns-then-i-sets-eq1 : goal.returns-then-i-sets-eq1
 returns-then-i-sets-eq1 c = row_offset _ _ _ c.if-i-sets-eq1.true c.line_fault-then-i-sets-eq1.ensures
 
-pub returns : goal.returns
-returns c = row_last _ _ _ c.if-i-sets.false c.if-i-sets-eq1.false c.line_fault-2.ensures
+pub returns-else-i-sets-eq1 : goal.returns-else-i-sets-eq1
+returns-else-i-sets-eq1 c = row_last _ _ _ c.if-i-sets.false c.if-i-sets-eq1.false c.line_fault-else-i-sets-eq1.ensures
