@@ -4,7 +4,7 @@ use Rattle.std.specs.Prelude.{Option}
 use mathlib.Core.List.{List}
 use Prim.Native.Nat.{ℕ}
 use Rattle.ber.specs.Read.{Reads, Lies}
-use Rattle.ber.specs.Write.{Puts, Holds}
+use Rattle.ber.specs.Write.{Puts}
 use Rattle.ber.specs.Text.{Copies}
 
 -- what was found, and the place after it
@@ -13,12 +13,9 @@ pub reads_fixes : {A : Type 0} {blank : A} {p : List ℕ → Option (A × List �
 reads_fixes a b = a.is ∙ sym b.is
 
 -- the buffer, and the place after what was written
-pub puts_fixes : {x : Option (List ℕ)} {b c d : List ℕ} {at m n : ℕ} → Puts x b c at m → Puts x b d at n → ◌≡◌ {A = List ℕ × ℕ} (c, m) (d, n)
+pub puts_fixes : {x : Option (List ℕ)} {b c d : List ℕ} {at : ℕ} {m n : Option ℕ} → Puts x b c at m → Puts x b d at n
+    → ◌≡◌ {A = List ℕ × Option ℕ} (c, m) (d, n)
 puts_fixes a b = a.is ∙ sym b.is
-
--- the array, and how many octets of it count
-pub holds_fixes : {k : ℕ} {x c d : List ℕ} {m n : ℕ} → Holds k x c m → Holds k x d n → ◌≡◌ {A = List ℕ × ℕ} (c, m) (d, n)
-holds_fixes a b i = ((a.octets ∙ sym b.octets) i, (a.size ∙ sym b.size) i)
 
 -- the buffer, how many octets were copied, and the place after them
 pub copies_fixes : {p : List ℕ → Option (List ℕ × List ℕ)} {s : List ℕ} {at : ℕ} {b c d : List ℕ} {k l m n : ℕ}

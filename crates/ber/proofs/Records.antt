@@ -1,22 +1,27 @@
 -- A record of any kind: one value under a tag that is all of the octets, the answers of who writes and who reads it, and demand 2 of those.
 use mathlib.Core.Path.{◌≡◌, refl, sym, ap, ◌∙◌}
 use mathlib.Core.Logic.{◌↔◌}
-use mathlib.Core.Bool.{Bool, true, false, cond, ◌&&◌}
-use Rattle.std.specs.Prelude.{Option, None, Some}
+use mathlib.Core.Bool.{Bool, true, false, ◌&&◌}
+use Rattle.std.specs.Prelude.{Option, None, Some, Result, Ok, Err}
 use mathlib.Core.List.{List, [], ◌∷◌, ◌++◌}
 use Prim.Native.Nat.{ℕ, suc, ◌+◌, ◌-◌, ◌≤◌, ◌<◌}
 use native.Mathlib.Omega.{arith}
-use lib.Dec.{T, leb}
+use lib.Dec.{T}
 use lib.ListN.{length, take, drop, get_or, drop_of_length-le}
 use lib.Seq.{drop-cons, take_at}
 use borrow.Author.Tests.{le-leb, lt-leb}
+use Rattle.std.proofs.lemmas.Option.{none-some}
 use Rattle.format.specs.Maybe.{bind}
 use Rattle.format.specs.Format.{Fmt}
 use Rattle.format.proofs.Tests.{by, either, T_true, true_T, and_l, and_r, and_i}
 use Rattle.ber.specs.Tlv.{tlv_dec}
 use Rattle.ber.specs.Field.{first, end, alone}
-use Rattle.ber.specs.Read.{nowhere, cut, Lies}
+use Rattle.ber.specs.Read.{cut, Lies}
 use Rattle.ber.specs.Write.{put, Puts}
+use Rattle.ber.specs.Written.{written}
+use Rattle.ber.specs.declared.written.NotWritten.{NotWritten}
+use Rattle.ber.specs.declared.written.NotWritten.TheVariants.{OutsideRules, NoRoom}
+use Rattle.ber.proofs.Writers.{puts_room, puts_lost}
 use Rattle.ber.proofs.Places.{PartIs, by_part}
 
 -- ---- the value that is all of the octets
@@ -66,56 +71,68 @@ module _ (t : ℕ) {A : Type 0} (x : Fmt A) where
 
 -- ---- the answers of a writer
 
--- 24 where the test fails, then 11 where x is longer than the buffer, else 0 and x from the buffer's start: the answer, how many octets, the buffer
-abbrev pub answer_of : Bool → List ℕ → List ℕ → ℕ × (ℕ × List ℕ)
-answer_of ok x b = cond ok (cond (leb (length x) (length b)) (0, (length x, x ++ drop (length x) b)) (11, (0, b))) (24, (0, b))
+-- x is what a writer of records writes where ok: what it answered, and the buffer
+pub record Answers (ok : Bool) (x b b' : List ℕ) (r : Result ℕ NotWritten) : Type 0 where
+  pub is : ◌≡◌ {A = Result ℕ NotWritten × List ℕ} (r, b') (written ok x b)
 
-pub record Answers (ok : Bool) (x b b' : List ℕ) (answer n : ℕ) : Type 0 where
-  pub is : ◌≡◌ {A = ℕ × (ℕ × List ℕ)} (answer, (n, b')) (answer_of ok x b)
-
-pub answer_outside : {ok : Bool} {x b : List ℕ} → ok ≡ false → Answers ok x b b 24 0
+pub answer_outside : {ok : Bool} {x b : List ℕ} → ok ≡ false → Answers ok x b b (Err OutsideRules)
+unfolding written
 answer_outside e = record { is = rw e }
 
-module _ {ok : Bool} (w : ok ≡ true) {x b b' : List ℕ} {n : ℕ} (p : Puts (Some x) b b' 0 n) where
-  pub answer_full : length x < nowhere → n ≡ nowhere → Answers ok x b b' 11 0
-  unfolding put
-  answer_full short e =
+module _ {ok : Bool} (w : ok ≡ true) {x b b' : List ℕ} where
+  pub answer_full : Puts (Some x) b b' 0 None → Answers ok x b b' (Err NoRoom)
+  unfolding put written
+  answer_full p =
       either (length x) (length b)
-      (λ k. absurd (let q = ap (λ (z : List ℕ × ℕ). z.1) (rw (le-leb (0 + length x) (length b) (omega arith)) at p.is) in omega arith))
+      (λ k. absurd (puts_lost (omega arith) p))
       (λ k. record {
-        is = rw (w, lt-leb (length x) (length b) k) (λ i. (11, (0, (rw (lt-leb (0 + length x) (length b) (omega arith)) at p.is i).0)));
+        is = rw (w, lt-leb (length x) (length b) k) (λ i. (Err NoRoom, (rw (lt-leb (0 + length x) (length b) (omega arith)) at p.is i).0));
       })
 
-  pub answer_done : (n ≡ nowhere → ⊥) → Answers ok x b b' 0 n
-  unfolding put
-  answer_done e =
+  pub answer_done : {n : ℕ} → Puts (Some x) b b' 0 (Some n) → Answers ok x b b' (Ok n)
+  unfolding put written
+  answer_done {n} p =
       either (length x) (length b)
       (λ k.
-      let q = rw (le-leb (0 + length x) (length b) (omega arith)) at p.is in
-      let z : 0 + length x ≡ length x = omega arith in
-      let m : n ≡ length x = ap (λ (y : List ℕ × ℕ). y.1) q ∙ z in
-      let l : b' ≡ x ++ drop (length x) b = ap (λ (y : List ℕ × ℕ). y.0) q ∙ ap (λ (j : ℕ). x ++ drop j b) z in
-      record { is = rw (w, le-leb (length x) (length b) k) (λ i. (0, (m i, l i))) })
-      (λ k. absurd (e (ap (λ (y : List ℕ × ℕ). y.1) (rw (lt-leb (0 + length x) (length b) (omega arith)) at p.is))))
+      let q = puts_room (omega arith) p in
+      let m : n ≡ length x = omega (arith, q.end) in
+      let l : b' ≡ x ++ drop (length x) b = q.buf ∙ ap (λ (j : ℕ). x ++ drop j b) m in
+      record { is = rw (w, le-leb (length x) (length b) k) (λ i. (Ok (m i), l i)) })
+      (λ k. absurd (none-some n (sym (ap (λ (y : List ℕ × Option ℕ). y.1) (rw (lt-leb (0 + length x) (length b) (omega arith)) at p.is)))))
 
 -- s was written to the start of b, and nothing else was changed
-abbrev pub Leaves : List ℕ → List ℕ → List ℕ → ℕ → ℕ → Type 0
-Leaves s b b' answer n = (answer ≡ 0) × (n ≡ length s) × (b' ≡ s ++ drop (length s) b)
+abbrev pub Leaves : List ℕ → List ℕ → List ℕ → Result ℕ NotWritten → Type 0
+Leaves s b b' r = (r ≡ Ok (length s)) × (b' ≡ s ++ drop (length s) b)
 
-module _ {ok : Bool} {x b b' : List ℕ} {w n : ℕ} (p : Answers ok x b b' w n) where
-  pub answer_room : ok ≡ true → length x ≤ length b → Leaves x b b' w n
+module _ {ok : Bool} {x b b' : List ℕ} {r : Result ℕ NotWritten} (p : Answers ok x b b' r) where
+  pub answer_room : ok ≡ true → length x ≤ length b → Leaves x b b' r
+  unfolding written
   answer_room t h =
       let q = rw (t, le-leb (length x) (length b) h) at p.is in
-      (ap (λ (y : ℕ × (ℕ × List ℕ)). y.0) q, ap (λ (y : ℕ × (ℕ × List ℕ)). y.1.0) q, ap (λ (y : ℕ × (ℕ × List ℕ)). y.1.1) q)
+      (ap (λ (y : Result ℕ NotWritten × List ℕ). y.0) q, ap (λ (y : Result ℕ NotWritten × List ℕ). y.1) q)
 
-  -- 0 is the answer only where the test passed and x was written
-  pub answer_zero : w ≡ 0 → T ok × Leaves x b b' w n
-  answer_zero z =
+  pub answer_long : ok ≡ true → length b < length x → (r ≡ Err NoRoom) × (b' ≡ b)
+  unfolding written
+  answer_long t h =
+      let q = rw (t, lt-leb (length x) (length b) h) at p.is in
+      (ap (λ (y : Result ℕ NotWritten × List ℕ). y.0) q, ap (λ (y : Result ℕ NotWritten × List ℕ). y.1) q)
+
+  pub answer_none : ok ≡ false → r ≡ Err OutsideRules
+  unfolding written
+  answer_none t = ap (λ (y : Result ℕ NotWritten × List ℕ). y.0) (rw t at p.is)
+
+  -- Ok is the answer only where the test passed and x was written
+  pub answer_ok : {n : ℕ} → r ≡ Ok n → T ok × Leaves x b b' r
+  unfolding written
+  answer_ok {n} z =
       by ok
       (λ t. either (length x) (length b)
       (λ h. (true_T ok t, answer_room t h))
-      (λ h. absurd (let q : w ≡ 11 = ap (λ (y : ℕ × (ℕ × List ℕ)). y.0) (rw (t, lt-leb (length x) (length b) h) at p.is) in omega arith)))
-      (λ t. absurd (let q : w ≡ 24 = ap (λ (y : ℕ × (ℕ × List ℕ)). y.0) (rw t at p.is) in omega arith))
+      (λ h. absurd (let q : r ≡ Err NoRoom = ap (λ (y : Result ℕ NotWritten × List ℕ). y.0) (rw (t, lt-leb (length x) (length b) h) at p.is) in cc)))
+      (λ t. absurd (let q : r ≡ Err OutsideRules = ap (λ (y : Result ℕ NotWritten × List ℕ). y.0) (rw t at p.is) in cc))
+
+same_Ok : {m n : ℕ} → ◌≡◌ {A = Result ℕ NotWritten} (Ok m) (Ok n) → m ≡ n
+same_Ok e = cc
 
 -- ---- demand 2: who reads takes exactly what who writes can write for some record within the rules, and gives that record back
 
@@ -136,26 +153,28 @@ module _ {A : Type 0} (f : Fmt A) (shaped within : A → Bool) (blank : A)
   -- Octets s, a record r that the code can hold, any answer of the reader to s, any answer of the writer to r in a buffer with room for s: the reader
   -- takes s as r exactly where r is within the rules and the writer wrote s.
   pub read_written : (s : List ℕ) (r : A) → T (shaped r) → {a : ℕ} {x : A} → ◌≡◌ {A = ℕ × A} (a, x) (read_as blank (f.dec s))
-      → {b b' : List ℕ} {w n : ℕ} → length s ≤ length b → Answers (within r) (f.enc r) b b' w n
-      → ((a ≡ 0) × (x ≡ r)) ↔ (T (within r) × Leaves s b b' w n)
-  read_written s r t {a} {x} p {b} {b'} {w} {n} room q = (taken, written)
+      → {b b' : List ℕ} {w : Result ℕ NotWritten} → length s ≤ length b → Answers (within r) (f.enc r) b b' w
+      → ((a ≡ 0) × (x ≡ r)) ↔ (T (within r) × Leaves s b b' w)
+  read_written s r t {a} {x} p {b} {b'} {w} room q = (taken, given)
     where
-      taken : (a ≡ 0) × (x ≡ r) → T (within r) × Leaves s b b' w n
+      taken : (a ≡ 0) × (x ≡ r) → T (within r) × Leaves s b b' w
       taken (z, e) =
           let (g, o) = (exact s r).0 (read_zero (f.dec s) p z ∙ ap {B = Option A} Some e) in
           let i = and_r (shaped r) (within r) g in
           (i, rw o at (answer_room q (T_true (within r) i) (omega (arith, ap length o))))
 
-      written : T (within r) × Leaves s b b' w n → (a ≡ 0) × (x ≡ r)
-      written (i, (z, m, e)) =
-          let (_, (_, k, g)) = answer_zero q z in
+      given : T (within r) × Leaves s b b' w → (a ≡ 0) × (x ≡ r)
+      given (i, (z, e)) =
+          let (_, (k, g)) = answer_ok q z in
+          let m : length (f.enc r) ≡ length s = same_Ok (sym k ∙ z) in
           let o : f.enc r ≡ s =
-          sym (take_at (f.enc r) (drop (length (f.enc r)) b) n (sym k)) ∙ ap (take n) (sym g ∙ e) ∙ take_at s (drop (length s) b) n (sym m) in
+          sym (take_at (f.enc r) (drop (length (f.enc r)) b) (length (f.enc r)) refl) ∙ ap (take (length (f.enc r))) (sym g ∙ e)
+          ∙ take_at s (drop (length s) b) (length (f.enc r)) (sym m) in
           read_some p ((exact s r).1 (and_i (shaped r) (within r) t i, o))
 
   -- the writer, given room, writes r as s: whatever the buffer, and whatever it answers
   abbrev pub CanWrite : A → List ℕ → Type 0
-  CanWrite r s = (b b' : List ℕ) (w n : ℕ) → length s ≤ length b → Answers (within r) (f.enc r) b b' w n → Leaves s b b' w n
+  CanWrite r s = (b b' : List ℕ) (w : Result ℕ NotWritten) → length s ≤ length b → Answers (within r) (f.enc r) b b' w → Leaves s b b' w
 
   -- the reader takes s exactly where the writer can write s for some record within the rules; and the record that it gives back is that one
   pub read_some_written : (s : List ℕ) {a : ℕ} {x : A} → ◌≡◌ {A = ℕ × A} (a, x) (read_as blank (f.dec s))
@@ -164,12 +183,12 @@ module _ {A : Type 0} (f : Fmt A) (shaped within : A → Bool) (blank : A)
     where
       back : (r : A) → T (shaped r) → T (within r) → CanWrite r s → (a ≡ 0) × (x ≡ r)
       back r t i c =
-          let z = answer_of (within r) (f.enc r) s in
-          let q : Answers (within r) (f.enc r) s z.1.1 z.0 z.1.0 = record { is = refl } in
-          (read_written s r t p (omega arith) q).1 (i, c s z.1.1 z.0 z.1.0 (omega arith) q)
+          let z = written (within r) (f.enc r) s in
+          let q : Answers (within r) (f.enc r) s z.1 z.0 = record { is = refl } in
+          (read_written s r t p (omega arith) q).1 (i, c s z.1 z.0 (omega arith) q)
 
       there : a ≡ 0 → (r : A) × T (shaped r) × T (within r) × CanWrite r s
       there z =
           let (g, _) = (exact s x).0 (read_zero (f.dec s) p z) in
           let t = and_l (shaped x) (within x) g in
-          (x, t, and_r (shaped x) (within x) g, λ b b' w n h q. ((read_written s x t p h q).0 (z, refl)).1)
+          (x, t, and_r (shaped x) (within x) g, λ b b' w h q. ((read_written s x t p h q).0 (z, refl)).1)

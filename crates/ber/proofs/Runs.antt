@@ -9,8 +9,8 @@ use native.Mathlib.Numerals.{add-one}
 use native.Mathlib.Nat.{le_of_suc-le-suc, not-suc-le-zero, mul-suc, mul-le-mul_left}
 use native.Mathlib.Omega.{arith}
 use lib.Dec.{T, leb}
-use lib.ListN.{length, take, drop, get_or, set, length-set, length-append, take-append-drop}
-use lib.Seq.{take-suc, take-suc-set, take-take, get_or-take, length-take-le, drop-set-lt, drop-drop, take_at}
+use lib.ListN.{length, take, drop, get_or, set, length-set, length-append, length-drop, take-append-drop}
+use lib.Seq.{take_all, take-suc, take-suc-set, take-take, get_or-take, length-take-le, drop-set-lt, drop-drop, take_at}
 use borrow.Author.Tests.{le-leb, lt-leb}
 use borrow.Rule.Slice.PartMut.{mid_of, put_mid}
 use Rattle.format.specs.Maybe.{bind, guard}
@@ -20,12 +20,12 @@ use Rattle.format.proofs.Maybe.{bind_bind, bind_same}
 use Rattle.format.proofs.Blanks.{Blank}
 use Rattle.ber.specs.Tlv.{tlv_enc}
 use Rattle.ber.specs.Field.{first, run_dec, run_enc}
-use Rattle.ber.specs.Read.{nowhere}
 use Rattle.ber.specs.Write.{put, Puts}
 use Rattle.ber.specs.Private.Wrote.{Put}
 use Rattle.ber.specs.Private.Filled.{Filled}
 use Rattle.ber.proofs.Readers.{Got, Rest, rest_whole, run_end, run_past, run_full, run_more}
-use Rattle.ber.proofs.Writers.{put_then, put_is, put_part, part_room, puts_is, puts_room, wrote_none}
+use Rattle.ber.proofs.Writers.{put_then, put_is, put_nothing, put_part, part_room, puts_is, puts_room, puts_lost}
+use Rattle.std.proofs.lemmas.Option.{none-some}
 
 -- What the laws are about: the tag, the format after each value, how many places the array has, what those hold that are not used. Such a blank value
 -- stands before the first.
@@ -141,21 +141,24 @@ run_append t x z (c ∷ a) b =
     ∙ sym (append_assoc (tlv_enc t ((x z).enc c)) (run_enc t x c a) (run_enc t x (last_of c a) b))
 
 -- A writer of x, where a test passes, that was lent the part of b from a on.
-module _ (t : Bool) (x b : List ℕ) (a m : ℕ) {ys : List ℕ} {k : ℕ} (e : length b ≡ m) (p : Puts (guard t x) (mid_of a (m - a) b) ys 0 k) where
-  -- it answered another place than nowhere: the test passed
-  pub part_yes : (k ≡ nowhere → ⊥) → t ≡ true
+module _ (t : Bool) (x b : List ℕ) (a m : ℕ) (e : length b ≡ m) where
+  -- it answered a place: the test passed
+  pub part_yes : {ys : List ℕ} {k : ℕ} → Puts (guard t x) (mid_of a (m - a) b) ys 0 (Some k) → t ≡ true
   unfolding put
-  part_yes n = by t (λ y. y) (λ y. absurd (n (ap (λ (z : List ℕ × ℕ). z.1) (puts_is {y = None} (rw y) p).is)))
+  part_yes {k} p = by t (λ y. y) (λ y. absurd (none-some k (sym (ap (λ (z : List ℕ × Option ℕ). z.1) (puts_is {y = None} (rw y) p).is))))
 
   -- the test passed, and there was room: x was put
-  pub part_put : t ≡ true → a + length x ≤ m → Put x b (put_mid a (m - a) b ys) a (a + k)
-  part_put y r =
-      subst (λ (m : ℕ). Puts (guard t x) (mid_of a (m - a) b) ys 0 k → Put x b (put_mid a (m - a) b ys) a (a + k)) e
+  pub part_put : {ys : List ℕ} {k : ℕ} → Puts (guard t x) (mid_of a (m - a) b) ys 0 (Some k) → t ≡ true → a + length x ≤ m → Put x b (put_mid a (m - a) b ys) a (a + k)
+  part_put {ys} {k} p y r =
+      subst (λ (m : ℕ). Puts (guard t x) (mid_of a (m - a) b) ys 0 (Some k) → Put x b (put_mid a (m - a) b ys) a (a + k)) e
       (λ p. put_part b a (omega arith) (puts_room (omega (arith, part_room b a (length x) (omega arith))) (puts_is (rw y) p))) p
 
-  -- there was room, and it answered nowhere: the test failed
-  pub part_not : (t ≡ true → a + length x ≤ m) → m < nowhere → k ≡ nowhere → t ≡ false
-  part_not r n h = by t (λ y. absurd (omega (arith, (part_put y (r y)).end, r y))) (λ y. y)
+  -- there was room, and it answered none: the test failed
+  pub part_not : {ys : List ℕ} → Puts (guard t x) (mid_of a (m - a) b) ys 0 None → (t ≡ true → a + length x ≤ m) → t ≡ false
+  part_not p r =
+      by t
+      (λ y. absurd (puts_lost {x = x} (omega (arith, ap length (take_all (m - a) (drop a b) (omega (arith, length-drop a b))), length-drop a b, r y)) (puts_is (rw y) p)))
+      (λ y. y)
 
 -- Which values are written: a test of each, after the one before it, and of all; and how many octets one takes at most.
 pub record Test {A : Type 0} (k : Run A) : Type 0 where
@@ -206,58 +209,58 @@ module _ {A : Type 0} (k : Run A) (f : Test k) where
     pub front : Put (octets (take i v)) y b 0 end
 
   pub filling_none : (v : List A) (y : List ℕ) (z : A) → length y ≡ room → z ≡ k.blank.value → Filling v 0 y y 0 z
-  filling_none v y z e w = record { good = f.nil k.blank.value; last = w; size = e; short = omega arith; front = wrote_none.room (omega arith) }
+  filling_none v y z e w = record { good = f.nil k.blank.value; last = w; size = e; short = omega arith; front = put_nothing (omega arith) }
 
-  module _ {v : List A} {i : ℕ} {y b ys : List ℕ} {end n : ℕ} {z : A} (g : Filling v i y b end z) (d : A) (h : i < length v) (h' : i < k.places)
-      (p : Puts (guard (f.ok z (get_or v i d)) (tlv_enc k.tag ((k.form z).enc (get_or v i d)))) (mid_of end (room - end) b) ys 0 n) where
-    abbrev next : List ℕ
-    next = tlv_enc k.tag ((k.form z).enc (get_or v i d))
+  module _ {v : List A} {i : ℕ} {y b : List ℕ} {end : ℕ} {z : A} (g : Filling v i y b end z) (d : A) (h : i < length v) (h' : i < k.places)
+    where
+      abbrev next : List ℕ
+      next = tlv_enc k.tag ((k.form z).enc (get_or v i d))
 
-    step : f.width * (i + 1) ≡ f.width * i + f.width
-    step = rw (add-one i) (mul-suc f.width i)
+      step : f.width * (i + 1) ≡ f.width * i + f.width
+      step = rw (add-one i) (mul-suc f.width i)
 
-    fits : f.ok z (get_or v i d) ≡ true → end + length next ≤ room
-    fits o =
-        let m : f.width * (i + 1) ≤ room = mul-le-mul_left f.width (omega arith) in
-        omega (arith, f.fits z (get_or v i d) (true_T _ o), g.short, step)
+      fits : f.ok z (get_or v i d) ≡ true → end + length next ≤ room
+      fits o =
+          let m : f.width * (i + 1) ≤ room = mul-le-mul_left f.width (omega arith) in
+          omega (arith, f.fits z (get_or v i d) (true_T _ o), g.short, step)
 
-    -- one more
-    module _ (Some : n ≡ nowhere → ⊥) where
-      ok : f.ok z (get_or v i d) ≡ true
-      ok = part_yes (f.ok z (get_or v i d)) next b end room g.size p Some
+      -- one more
+      module _ {ys : List ℕ} {n : ℕ} (p : Puts (guard (f.ok z (get_or v i d)) next) (mid_of end (room - end) b) ys 0 (Some n)) where
+        ok : f.ok z (get_or v i d) ≡ true
+        ok = part_yes (f.ok z (get_or v i d)) next b end room g.size p
 
-      put_next : Put next b (put_mid end (room - end) b ys) end (end + n)
-      put_next = part_put (f.ok z (get_or v i d)) next b end room g.size p ok (fits ok)
+        put_next : Put next b (put_mid end (room - end) b ys) end (end + n)
+        put_next = part_put (f.ok z (get_or v i d)) next b end room g.size p ok (fits ok)
 
-      pub filling_room : end + n ≤ room
-      filling_room = omega (arith, put_next.fits, g.size)
+        pub filling_room : end + n ≤ room
+        filling_room = omega (arith, put_next.fits, g.size)
 
-      pub filling_more : Filling v (i + 1) y (put_mid end (room - end) b ys) (end + n) (get_or v i d)
-      filling_more =
-          let q = put_next in
-          let w : take (i + 1) v ≡ take i v ++ (get_or v i d ∷ []) = rw (add-one, take-suc v i d h) in
-          let x : octets (take (i + 1) v) ≡ octets (take i v) ++ next =
-          ap octets w ∙ run_append k.tag k.form k.blank.value (take i v) (get_or v i d ∷ [])
-          ∙ ap (λ (l : List ℕ). octets (take i v) ++ l) (append-nil _ ∙ ap (λ (z : A). tlv_enc k.tag ((k.form z).enc (get_or v i d))) (sym g.last)) in
-          record {
-            good = rw w (all_snoc k.blank.value (take i v) (get_or v i d) g.good (ap (λ (z : A). f.ok z (get_or v i d)) (sym g.last) ∙ ok));
-            last = rw w (sym (last_snoc k.blank.value (take i v) (get_or v i d)));
-            size = q.same ∙ g.size;
-            short = omega (arith, q.end, f.fits z (get_or v i d) (true_T _ ok), g.short, step);
-            front = put_is (sym x) (put_then g.front q);
-          }
+        pub filling_more : Filling v (i + 1) y (put_mid end (room - end) b ys) (end + n) (get_or v i d)
+        filling_more =
+            let q = put_next in
+            let w : take (i + 1) v ≡ take i v ++ (get_or v i d ∷ []) = rw (add-one, take-suc v i d h) in
+            let x : octets (take (i + 1) v) ≡ octets (take i v) ++ next =
+            ap octets w ∙ run_append k.tag k.form k.blank.value (take i v) (get_or v i d ∷ [])
+            ∙ ap (λ (l : List ℕ). octets (take i v) ++ l) (append-nil _ ∙ ap (λ (z : A). tlv_enc k.tag ((k.form z).enc (get_or v i d))) (sym g.last)) in
+            record {
+              good = rw w (all_snoc k.blank.value (take i v) (get_or v i d) g.good (ap (λ (z : A). f.ok z (get_or v i d)) (sym g.last) ∙ ok));
+              last = rw w (sym (last_snoc k.blank.value (take i v) (get_or v i d)));
+              size = q.same ∙ g.size;
+              short = omega (arith, q.end, f.fits z (get_or v i d) (true_T _ ok), g.short, step);
+              front = put_is (sym x) (put_then g.front q);
+            }
 
-    -- one does not pass, so that not all of the first m do
-    pub filling_bad : (m : ℕ) → i < m → m ≤ length v → room < nowhere → n ≡ nowhere → f.all k.blank.value (take m v) ≡ false
-    filling_bad m l r big q =
-        let o = part_not (f.ok z (get_or v i d)) next b end room g.size p fits big q in
-        by (f.all k.blank.value (take m v))
-        (λ a. absurd (subst T
-        (sym (all_at k.blank.value (take m v) i d a (omega (arith, length-take-le m v r)))
-        ∙ ap (λ (cs : List A). f.ok (last_of k.blank.value cs) (get_or (take m v) i d)) (take-take i m v (omega arith))
-        ∙ ap (λ (z : A). f.ok z (get_or (take m v) i d)) (sym g.last) ∙ ap (f.ok z) (get_or-take m v i d l) ∙ o)
-        tt))
-        (λ a. a)
+      -- one does not pass, so that not all of the first m do
+      pub filling_bad : {ys : List ℕ} → Puts (guard (f.ok z (get_or v i d)) next) (mid_of end (room - end) b) ys 0 None → (m : ℕ) → i < m → m ≤ length v → f.all k.blank.value (take m v) ≡ false
+      filling_bad p m l r =
+          let o = part_not (f.ok z (get_or v i d)) next b end room g.size p fits in
+          by (f.all k.blank.value (take m v))
+          (λ a. absurd (subst T
+          (sym (all_at k.blank.value (take m v) i d a (omega (arith, length-take-le m v r)))
+          ∙ ap (λ (cs : List A). f.ok (last_of k.blank.value cs) (get_or (take m v) i d)) (take-take i m v (omega arith))
+          ∙ ap (λ (z : A). f.ok z (get_or (take m v) i d)) (sym g.last) ∙ ap (f.ok z) (get_or-take m v i d l) ∙ o)
+          tt))
+          (λ a. a)
 
   -- all m are there
   module _ {v : List A} {i : ℕ} {y b : List ℕ} {end : ℕ} {z : A} (g : Filling v i y b end z) (m : ℕ) (e : i ≡ m) where

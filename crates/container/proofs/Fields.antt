@@ -1,13 +1,12 @@
 -- A profile and a container read field by field, and what is written put together.
 use mathlib.Core.Path.{◌≡◌, refl, sym, subst}
 use mathlib.Core.Bool.{true, false, ◌&&◌}
-use Rattle.std.specs.Prelude.{Option, None, Some}
-use mathlib.Core.List.{List, []}
+use Rattle.std.specs.Prelude.{Option, None, Some, IsSomeAnd}
+use mathlib.Core.List.{List, [], ◌++◌}
 use Prim.Native.Nat.{ℕ, ◌<◌}
 use native.Mathlib.Omega.{arith}
 use lib.Dec.{T, eqb}
 use lib.ListN.{length}
-use borrow.Author.Tests.{le-leb}
 use Rattle.format.specs.Maybe.{guard}
 use Rattle.format.proofs.Tests.{by, T_true, and_l}
 use Rattle.format.proofs.Maybe.{guard_yes}
@@ -15,11 +14,11 @@ use Rattle.ber.specs.Tlv.{tlv_enc, tlv_dec}
 use Rattle.ber.specs.Field.{first, new}
 use Rattle.ber.specs.Table.{row_enc, row_dec, tag}
 use Rattle.ber.specs.Read.{nowhere, Reads}
-use Rattle.ber.specs.Private.Stay.{stay}
 use Rattle.ber.specs.Write.{Puts}
 use Rattle.ber.proofs.Readers.{got, reads_some}
 use Rattle.ber.proofs.Tables.{row_leaves, Gets, table_yes, table_no}
-use Rattle.ber.proofs.Writers.{puts_nothing, wrote, wrote_then, wrote_none}
+use Rattle.ber.proofs.Writers.{wrote, wrote_last}
+use Rattle.ber.specs.Private.Wrote.{Wrote}
 use Rattle.ber.specs.Private.Filled.{Filled}
 use Rattle.ber.proofs.Ready.{filled_of}
 use Rattle.calendar.specs.declared.Stamp.{Stamp}
@@ -135,17 +134,11 @@ container_hollow z = by (is_new z) (λ h. rw (told_none z h)) (λ h. rw (told_so
 
 -- ---- written
 
--- five fields, one after another, in an array
-module _ (q : Qos) {b b₁ b₂ b₃ b₄ b₅ : List ℕ} {f g h i j : ℕ} (room : length b ≡ 15)
-    (p₁ : Puts (Some (row_enc Reliability q.reliability)) b b₁ 0 f) (p₂ : Puts (Some (row_enc Delay q.delay)) b₁ b₂ f g)
-    (p₃ : Puts (Some (row_enc Precedence q.precedence)) b₂ b₃ g h) (p₄ : Puts (Some (row_enc Peak q.peak)) b₃ b₄ h i)
-    (p₅ : Puts (Some (row_enc Mean q.mean)) b₄ b₅ i j) (ok : T (qos_ok q)) where
-  pub qos_filled : Filled (qos.enc q) 15 b₅ j
-  unfolding qos
-  qos_filled =
-      filled_of room (wrote_then (wrote refl p₁) (wrote_then (wrote refl p₂) (wrote_then (wrote refl p₃) (wrote_then (wrote refl p₄)
-      (wrote_then (wrote refl p₅) wrote_none)))))
-      (qos_law.fits q (qos_good q ok))
+-- five fields in an array that has room for them
+pub qos_filled : (q : Qos) {b b' : List ℕ} {r : Option ℕ} → length b ≡ 15 → T (qos_ok q) → Wrote (qos.enc q) b b' 0 r
+    → IsSomeAnd r (λ n. Filled (qos.enc q) 15 b' n)
+unfolding qos
+qos_filled q room ok w = filled_of room w (qos_law.fits q (qos_good q ok))
 
 -- a QoS after z
 
@@ -167,11 +160,6 @@ module _ (z : Container) (q : Qos) where
   unfolding new_form
   form_none h = rw h
 
--- no octets at the front
-pub nothing_front : {b : List ℕ} → Puts (Some []) b b 0 0
-unfolding stay
-nothing_front {b} = subst (λ (n : ℕ). Puts (Some []) b b 0 n) (rw (le-leb 0 (length b) (omega arith))) puts_nothing
-
 -- which containers have a form after z
 module _ (z c : Container) where
   pub formed_yes : container_ok c ≡ true → is_told z c ≡ true → formed z c ≡ true
@@ -191,15 +179,18 @@ new_form_lem z c t =
     (λ y. rw (y, told_none z y, T_true (qos_ok c.qos) t))
     (λ n. rw (n, told_some z n))
 
-module _ (z c : Container) {b b₁ b₂ b₃ b₄ b₅ : List ℕ} {f g h i j : ℕ} (room : length b ≡ 53)
-    (p₁ : Puts (new_form z c.qos) b b₁ 0 f) (p₂ : Puts (Some (row_enc Uplink c.uplink)) b₁ b₂ f g)
-    (p₃ : Puts (Some (row_enc Downlink c.downlink)) b₂ b₃ g h) (p₄ : Puts (Some (row_enc Condition c.condition)) b₃ b₄ h i)
-    (p₅ : Puts (guard (stamp_ok c.time) (row_enc Time c.time)) b₄ b₅ i j) (ok : T (formed z c)) where
-  pub container_filled : Filled ((container z).enc c) 53 b₅ j
+of_formed : (z c : Container) → T (formed z c) → T (container_ok c)
+of_formed z c ok = and_l (container_ok c) (is_told z c) ok
+
+module _ (z c : Container) {b b' : List ℕ} {r : Option ℕ} (ok : T (formed z c)) where
+  -- a container's fields in an array that has room for them
+  pub container_filled : length b ≡ 53 → Wrote ((container z).enc c) b b' 0 r → IsSomeAnd r (λ n. Filled ((container z).enc c) 53 b' n)
   unfolding container qos
-  container_filled =
-      let w = within c (and_l (container_ok c) (is_told z c) ok) in
-      filled_of room
-      (wrote_then (wrote (new_form_lem z c w.qos) p₁) (wrote_then (wrote refl p₂) (wrote_then (wrote refl p₃) (wrote_then (wrote refl p₄)
-      (wrote_then (wrote (guard_yes (stamp_ok c.time) _ w.time) p₅) wrote_none)))))
-      ((container_law z).fits c (container_good z c ok))
+  container_filled room w = filled_of room w ((container_law z).fits c (container_good z c ok))
+
+  -- the first of them, and the last
+  pub qos_first : {at : ℕ} → Puts (new_form z c.qos) b b' at r → Wrote (row_enc (QosAfter z) c.qos) b b' at r
+  qos_first p = wrote (new_form_lem z c (within c (of_formed z c ok)).qos) p
+
+  pub time_last : {at : ℕ} → Puts (guard (stamp_ok c.time) (row_enc Time c.time)) b b' at r → Wrote (row_enc Time c.time ++ []) b b' at r
+  time_last p = wrote_last (wrote (guard_yes (stamp_ok c.time) _ (within c (of_formed z c ok)).time) p)

@@ -53,28 +53,18 @@ fn no_list() -> ListOf
 
 // The first n containers of v, one after another under the tag, at a place of out. Not written where n is not 1 to 15, or one of
 // them is not as it must be, or its QoS could not be told.
-pub fn put_list(out: &mut [u8], at: usize, tag: u8, v: [Container; 15], n: usize) -> usize
-    ensures { Puts (list_form tag n v) out.old out.new at result }
+pub fn put_list(out: &mut [u8], at: usize, tag: u8, v: &[Container; 15], n: usize) -> Option<usize>
+    ensures { Puts (list_form tag n v.now) out.old out.new at result }
 {
-    if n < 1 {
-        return ber::NOWHERE;
-    }
-    if 15 < n {
-        return ber::NOWHERE;
+    if n < 1 || 15 < n {
+        return None;
     }
     let mut list = [0u8; 825];
-    let mut i: usize = 0;
-    let mut end: usize = 0;
+    let mut end = 0;
     let mut last = one::no_container();
-    while i < n {
-        let c = v[i];
-        let k = one::put_container(&mut list[end..], c, last);
-        if k == ber::NOWHERE {
-            return ber::NOWHERE;
-        }
-        last = c;
-        end += k;
-        i += 1;
+    for c in &v[..n] {
+        end += one::put_container(&mut list[end..], *c, last)?;
+        last = *c;
     }
     tlv::put_tlv(out, at, tag, &list[..end])
 }

@@ -1,5 +1,5 @@
 // One container: its test, its octets read and written.
-ghost use Rattle.std.specs.Prelude.{◌≡◌, T, length};
+ghost use Rattle.std.specs.Prelude.{◌≡◌, T, length, IsSomeAnd};
 ghost use Rattle.format.specs.Maybe.{guard};
 ghost use Rattle.ber.specs.Tlv.{tlv_enc};
 ghost use Rattle.ber.specs.Field.{first};
@@ -124,40 +124,35 @@ fn is_told(c: Container, last: Container) -> bool
 }
 
 // The QoS of a container after another one, at the front of out, where it is new; else nothing.
-fn put_qos_after(out: &mut [u8], q: Qos, last: Container) -> usize
+fn put_qos_after(out: &mut [u8], q: Qos, last: Container) -> Option<usize>
     ensures { Puts (new_form last q) out.old out.new 0 result }
 {
     if is_new(last) {
         return qos_profile::put_qos(out, 0, tags::QOS, q);
     }
-    0
+    Some(0)
 }
 
 // A container at the front of out, after another one. One that is not as it must be, or whose QoS could not be told, is not written.
-pub fn put_container(out: &mut [u8], c: Container, last: Container) -> usize
+pub fn put_container(out: &mut [u8], c: Container, last: Container) -> Option<usize>
     ensures { Puts (guard (formed last c) (tlv_enc container_tag ((container last).enc c))) out.old out.new 0 result }
 {
-    if !container_ok(c) {
-        return ber::NOWHERE;
-    }
-    if !is_told(c, last) {
-        return ber::NOWHERE;
+    if !container_ok(c) || !is_told(c, last) {
+        return None;
     }
     let mut b = [0u8; 53];
-    let end = put_fields(&mut b, c, last);
+    let end = put_fields(&mut b, c, last)?;
     tlv::put_tlv(out, 0, tags::CONTAINER, &b[..end])
 }
 
 // Its fields, at the front of b: how many octets they are.
-fn put_fields(b: &mut [u8], c: Container, last: Container) -> usize
+fn put_fields(b: &mut [u8], c: Container, last: Container) -> Option<usize>
     requires { (length b.old ≡ 53) × T (formed last c) }
-    ensures { Filled ((container last).enc c) 53 b.new result }
+    ensures { IsSomeAnd result (λ n. Filled ((container last).enc c) 53 b.new n) }
 {
-    let q = c.qos;
-    let t = c.time;
-    let uplink_at = put_qos_after(b, q, last);
-    let downlink_at = field::put_int(b, uplink_at, tags::UPLINK, c.uplink);
-    let condition_at = field::put_int(b, downlink_at, tags::DOWNLINK, c.downlink);
-    let time_at = field::put_octet(b, condition_at, tags::CONDITION, c.condition);
-    stamp::put_stamp(b, time_at, tags::TIME, t)
+    let at = put_qos_after(b, c.qos, last)?;
+    let at = field::put_int(b, at, tags::UPLINK, c.uplink)?;
+    let at = field::put_int(b, at, tags::DOWNLINK, c.downlink)?;
+    let at = field::put_octet(b, at, tags::CONDITION, c.condition)?;
+    stamp::put_stamp(b, at, tags::TIME, c.time)
 }

@@ -1,5 +1,5 @@
 // The QoS profile: its test, its octets read and written.
-ghost use Rattle.std.specs.Prelude.{◌≡◌, T, length};
+ghost use Rattle.std.specs.Prelude.{◌≡◌, T, length, IsSomeAnd};
 ghost use Rattle.format.specs.Maybe.{guard};
 ghost use Rattle.ber.specs.Tlv.{tlv_enc};
 ghost use Rattle.ber.specs.Field.{first};
@@ -81,25 +81,25 @@ pub fn qos_at(s: &[u8], at: usize, tag: u8) -> QosAt
 }
 
 // A profile under the tag, at a place of out. One out of range is not written.
-pub fn put_qos(out: &mut [u8], at: usize, tag: u8, q: Qos) -> usize
+pub fn put_qos(out: &mut [u8], at: usize, tag: u8, q: Qos) -> Option<usize>
     ensures { Puts (guard (qos_ok q) (tlv_enc tag (qos.enc q))) out.old out.new at result }
 {
     if !qos_ok(q) {
-        return ber::NOWHERE;
+        return None;
     }
     let mut b = [0u8; 15];
-    let end = put_fields(&mut b, q);
+    let end = put_fields(&mut b, q)?;
     tlv::put_tlv(out, at, tag, &b[..end])
 }
 
 // Its five fields, at the front of b: how many octets they are.
-fn put_fields(b: &mut [u8], q: Qos) -> usize
+fn put_fields(b: &mut [u8], q: Qos) -> Option<usize>
     requires { (length b.old ≡ 15) × T (qos_ok q) }
-    ensures { Filled (qos.enc q) 15 b.new result }
+    ensures { IsSomeAnd result (λ n. Filled (qos.enc q) 15 b.new n) }
 {
-    let delay_at = field::put_octet(b, 0, tags::RELIABILITY, q.reliability);
-    let precedence_at = field::put_octet(b, delay_at, tags::DELAY, q.delay);
-    let peak_at = field::put_octet(b, precedence_at, tags::PRECEDENCE, q.precedence);
-    let mean_at = field::put_octet(b, peak_at, tags::PEAK, q.peak);
-    field::put_octet(b, mean_at, tags::MEAN, q.mean)
+    let at = field::put_octet(b, 0, tags::RELIABILITY, q.reliability)?;
+    let at = field::put_octet(b, at, tags::DELAY, q.delay)?;
+    let at = field::put_octet(b, at, tags::PRECEDENCE, q.precedence)?;
+    let at = field::put_octet(b, at, tags::PEAK, q.peak)?;
+    field::put_octet(b, at, tags::MEAN, q.mean)
 }

@@ -47,13 +47,12 @@ pub fn stamp_at(s: &[u8], at: usize, tag: u8) -> StampAt
 }
 
 // The time t under the tag, at a place of out. One out of range is not written.
-pub fn put_stamp(out: &mut [u8], at: usize, tag: u8, t: Stamp) -> usize
+pub fn put_stamp(out: &mut [u8], at: usize, tag: u8, t: Stamp) -> Option<usize>
     ensures { Puts (guard (stamp_ok t) (tlv_enc tag (stamp_enc t))) out.old out.new at result }
 {
     let x = calendar::stamp_octets(t);
     if !x.ok {
-        return ber::NOWHERE;
+        return None;
     }
-    let octets = x.octets;
-    tlv::put_tlv(out, at, tag, &octets)
+    tlv::put_tlv(out, at, tag, &x.octets)
 }

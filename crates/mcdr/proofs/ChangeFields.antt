@@ -1,8 +1,8 @@
 -- A change read field by field, and what is written put together.
 use mathlib.Core.Path.{◌≡◌, refl}
 use mathlib.Core.Bool.{true, false, ◌&&◌}
-use Rattle.std.specs.Prelude.{None, Some}
-use mathlib.Core.List.{List, []}
+use Rattle.std.specs.Prelude.{Option, None, Some, IsSomeAnd}
+use mathlib.Core.List.{List, [], ◌++◌}
 use Prim.Native.Nat.{ℕ, ◌^◌, ◌<◌}
 use lib.Dec.{T, eqb}
 use lib.ListN.{length}
@@ -17,7 +17,8 @@ use Rattle.ber.specs.Write.{Puts}
 use Rattle.ber.specs.Private.Filled.{Filled}
 use Rattle.ber.proofs.Readers.{got}
 use Rattle.ber.proofs.Tables.{row_leaves, Gets, table_yes, table_no}
-use Rattle.ber.proofs.Writers.{wrote, wrote_then, wrote_none}
+use Rattle.ber.proofs.Writers.{wrote, wrote_last}
+use Rattle.ber.specs.Private.Wrote.{Wrote}
 use Rattle.ber.proofs.Ready.{filled_of}
 use Rattle.calendar.specs.declared.Stamp.{Stamp}
 use Rattle.calendar.specs.Stamp.{stamp_ok}
@@ -59,11 +60,13 @@ change_hollow = refl
 
 -- ---- written
 
-module _ (c : Change) {b b₁ b₂ b₃ : List ℕ} {f g h : ℕ} (room : length b ≡ 18)
-    (p₁ : Puts (Some (row_enc NewLac c.place.lac)) b b₁ 0 f) (p₂ : Puts (Some (row_enc NewRac c.place.rac)) b₁ b₂ f g)
-    (p₃ : Puts (guard (stamp_ok c.time) (row_enc Time c.time)) b₂ b₃ g h) (ok : T (stamp_ok c.time)) where
-  pub change_filled : Filled (change.enc c) 18 b₃ h
-  unfolding change
-  change_filled =
-      filled_of room (wrote_then (wrote refl p₁) (wrote_then (wrote refl p₂) (wrote_then (wrote (guard_yes (stamp_ok c.time) _ ok) p₃) wrote_none)))
-      (change_short c)
+-- a change's fields in an array that has room for them
+pub change_filled : (c : Change) {b b' : List ℕ} {r : Option ℕ} → length b ≡ 18 → Wrote (change.enc c) b b' 0 r
+    → IsSomeAnd r (λ n. Filled (change.enc c) 18 b' n)
+unfolding change
+change_filled c room w = filled_of room w (change_short c)
+
+-- the last of them
+pub time_last : (c : Change) {b b' : List ℕ} {at : ℕ} {r : Option ℕ} → T (stamp_ok c.time)
+    → Puts (guard (stamp_ok c.time) (row_enc Time c.time)) b b' at r → Wrote (row_enc Time c.time ++ []) b b' at r
+time_last c ok p = wrote_last (wrote (guard_yes (stamp_ok c.time) _ ok) p)

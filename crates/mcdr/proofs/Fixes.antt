@@ -2,11 +2,14 @@
 use mathlib.Core.Path.{◌≡◌, sym, ◌∙◌}
 use mathlib.Core.List.{List}
 use Prim.Native.Nat.{ℕ}
+use Rattle.std.specs.Prelude.{Result}
+use Rattle.ber.specs.declared.written.NotWritten.{NotWritten}
 use Rattle.mcdr.specs.declared.MmRecord.{MmRecord}
 use Rattle.mcdr.specs.Answers.{Writes, ReadsRecord}
 
--- the answer, the written length and the buffer
-pub writes_fixes : {r : MmRecord} {b c d : List ℕ} {x y m n : ℕ} → Writes r b c x m → Writes r b d y n → ◌≡◌ {A = ℕ × (ℕ × List ℕ)} (x, (m, c)) (y, (n, d))
+-- the answer and the buffer
+pub writes_fixes : {r : MmRecord} {b c d : List ℕ} {x y : Result ℕ NotWritten} → Writes r b c x → Writes r b d y
+    → ◌≡◌ {A = Result ℕ NotWritten × List ℕ} (x, c) (y, d)
 writes_fixes a b = a.is ∙ sym b.is
 
 -- the answer and the record

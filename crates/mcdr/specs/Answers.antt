@@ -1,6 +1,8 @@
 -- What the writer and the reader of an M-CDR answer, with the numbers of 01's refusal table.
-use Rattle.std.specs.Prelude.{◌≡◌, cond, List, [], ◌++◌, ℕ, leb, length, drop}
-use Rattle.std.specs.Prelude.{Option, None, Some}
+use Rattle.std.specs.Prelude.{◌≡◌, List, [], ℕ}
+use Rattle.std.specs.Prelude.{Option, None, Some, Result}
+use Rattle.ber.specs.declared.written.NotWritten.{NotWritten}
+use Rattle.ber.specs.Written.{written}
 use Rattle.octets.specs.Filled.{fill_to}
 use Rattle.mcdr.specs.declared.MmRecord.{MmRecord}
 use Rattle.mcdr.specs.Change.{no_place}
@@ -8,17 +10,15 @@ use Rattle.mcdr.specs.Changes.{padded}
 use Rattle.mcdr.specs.Rules.{within}
 use Rattle.mcdr.specs.Layout.{mcdr}
 
--- ---- the lone writer: 24 for a record outside the rules, then 11 where it is longer than the buffer, else 0 and the record's octets from the
--- buffer's start, every later octet as before: the answer, the written length and the buffer
+-- ---- the lone writer: a record outside the rules is refused, then one that is longer than the buffer; else the record's octets stand at the
+-- buffer's start, every later octet as before
 
-unfoldable pub write_of : MmRecord → List ℕ → ℕ × (ℕ × List ℕ)
-write_of r b =
-    cond (within r)
-    (cond (leb (length (mcdr.enc r)) (length b)) (0, (length (mcdr.enc r), mcdr.enc r ++ drop (length (mcdr.enc r)) b)) (11, (0, b)))
-    (24, (0, b))
+-- the answer and the buffer
+unfoldable pub write_of : MmRecord → List ℕ → Result ℕ NotWritten × List ℕ
+write_of r b = written (within r) (mcdr.enc r) b
 
-pub record Writes (r : MmRecord) (b b' : List ℕ) (answer n : ℕ) : Type 0 where
-  pub is : ◌≡◌ {A = ℕ × (ℕ × List ℕ)} (answer, (n, b')) (write_of r b)
+pub record Writes (r : MmRecord) (b b' : List ℕ) (answer : Result ℕ NotWritten) : Type 0 where
+  pub is : ◌≡◌ {A = Result ℕ NotWritten × List ℕ} (answer, b') (write_of r b)
 
 -- ---- the reader: the record, or 20 (not an image of any record within the rules) and a record that is all zero
 

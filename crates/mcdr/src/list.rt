@@ -95,26 +95,19 @@ fn no_list() -> ListOf
 
 // The first n changes of v, one after another under the tag, at a place of out; nothing where n is 0. Not written where there are more than
 // 15, or the time of one is out of range.
-pub fn put_list(out: &mut [u8], at: usize, tag: u8, v: [Change; 15], n: usize) -> usize
-    ensures { Puts (list_form tag n v) out.old out.new at result }
+pub fn put_list(out: &mut [u8], at: usize, tag: u8, v: &[Change; 15], n: usize) -> Option<usize>
+    ensures { Puts (list_form tag n v.now) out.old out.new at result }
 {
     if n == 0 {
-        return place::stay(at, out.len());
+        return tlv::put_all(out, at, &[]);
     }
     if 15 < n {
-        return NOWHERE;
+        return None;
     }
     let mut list = [0u8; 300];
-    let mut i: usize = 0;
-    let mut end: usize = 0;
-    while i < n {
-        let c = v[i];
-        let k = one::put_change(&mut list[end..], c);
-        if k == NOWHERE {
-            return NOWHERE;
-        }
-        end += k;
-        i += 1;
+    let mut end = 0;
+    for c in &v[..n] {
+        end += one::put_change(&mut list[end..], *c)?;
     }
     tlv::put_tlv(out, at, tag, &list[..end])
 }

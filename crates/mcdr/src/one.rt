@@ -1,5 +1,5 @@
 // One location change: its octets read and written.
-ghost use Rattle.std.specs.Prelude.{◌≡◌, T, length};
+ghost use Rattle.std.specs.Prelude.{◌≡◌, T, length, IsSomeAnd};
 ghost use Rattle.format.specs.Maybe.{guard};
 ghost use Rattle.ber.specs.Tlv.{tlv_enc};
 ghost use Rattle.ber.specs.Field.{first};
@@ -55,26 +55,23 @@ pub fn change_at(s: &[u8], at: usize) -> ChangeAt
 }
 
 // A change at the front of out. One whose time is out of range is not written.
-pub fn put_change(out: &mut [u8], c: Change) -> usize
+pub fn put_change(out: &mut [u8], c: Change) -> Option<usize>
     ensures { Puts (guard (stamp_ok c.time) (tlv_enc change_tag (change.enc c))) out.old out.new 0 result }
 {
-    let t = c.time;
-    if !calendar::stamp_within(t) {
-        return ber::NOWHERE;
+    if !calendar::stamp_within(c.time) {
+        return None;
     }
     let mut b = [0u8; 18];
-    let end = put_fields(&mut b, c);
+    let end = put_fields(&mut b, c)?;
     tlv::put_tlv(out, 0, tags::CHANGE, &b[..end])
 }
 
 // Its fields, at the front of b: how many octets they are.
-fn put_fields(b: &mut [u8], c: Change) -> usize
+fn put_fields(b: &mut [u8], c: Change) -> Option<usize>
     requires { (length b.old ≡ 18) × T (stamp_ok c.time) }
-    ensures { Filled (change.enc c) 18 b.new result }
+    ensures { IsSomeAnd result (λ n. Filled (change.enc c) 18 b.new n) }
 {
-    let p = c.place;
-    let t = c.time;
-    let rac_at = fixed::put_two_octets(b, 0, tags::NEW_LAC, p.lac);
-    let time_at = field::put_octet(b, rac_at, tags::NEW_RAC, p.rac);
-    stamp::put_stamp(b, time_at, tags::TIME, t)
+    let at = fixed::put_two_octets(b, 0, tags::NEW_LAC, c.place.lac)?;
+    let at = field::put_octet(b, at, tags::NEW_RAC, c.place.rac)?;
+    stamp::put_stamp(b, at, tags::TIME, c.time)
 }

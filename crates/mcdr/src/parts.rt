@@ -11,15 +11,15 @@ use calendar::Stamp;
 use container::stamp;
 
 // Record type, IMSI, SGSN, RAC, LAC.
-pub fn put_front(out: &mut [u8], imsi: [u8; 8], sgsn: u32, place: Place) -> usize
+pub fn put_front(out: &mut [u8], imsi: [u8; 8], sgsn: u32, place: Place) -> Option<usize>
     requires { T (imsi_ok imsi) }
     ensures { Wrote (front_enc imsi sgsn place) out.old out.new 0 result }
 {
-    let imsi_at = field::put_octet(out, 0, tags::RECORD_TYPE, 20);
-    let sgsn_at = imsi::put_imsi(out, imsi_at, tags::IMSI, imsi);
-    let rac_at = address::put_address(out, sgsn_at, tags::SGSN, sgsn);
-    let lac_at = field::put_octet(out, rac_at, tags::RAC, place.rac);
-    fixed::put_two_octets(out, lac_at, tags::LAC, place.lac)
+    let at = field::put_octet(out, 0, tags::RECORD_TYPE, 20)?;
+    let at = imsi::put_imsi(out, at, tags::IMSI, imsi)?;
+    let at = address::put_address(out, at, tags::SGSN, sgsn)?;
+    let at = field::put_octet(out, at, tags::RAC, place.rac)?;
+    fixed::put_two_octets(out, at, tags::LAC, place.lac)
 }
 
 // Opening time, duration, cause, number.
@@ -30,12 +30,12 @@ pub fn put_end(
     duration: u32,
     cause: u8,
     number: u64,
-) -> usize
+) -> Option<usize>
     requires { T (stamp_ok opening) }
     ensures { Wrote (end_enc opening duration cause number) out.old out.new at result }
 {
-    let duration_at = stamp::put_stamp(out, at, tags::OPENING, opening);
-    let cause_at = field::put_int(out, duration_at, tags::DURATION, duration as u64);
-    let number_at = field::put_octet(out, cause_at, tags::CAUSE, cause);
-    count::put_count(out, number_at, tags::NUMBER, number)
+    let at = stamp::put_stamp(out, at, tags::OPENING, opening)?;
+    let at = field::put_int(out, at, tags::DURATION, duration as u64)?;
+    let at = field::put_octet(out, at, tags::CAUSE, cause)?;
+    count::put_count(out, at, tags::NUMBER, number)
 }

@@ -24,7 +24,7 @@ pub fn read_record(s: &[u8]) -> Read
     }
     let wire = fields::read_fields(&s[from..to]);
     let cdr = wire.cdr;
-    if wire.ok & rules::within(cdr) {
+    if wire.ok & rules::within(&cdr) {
         return Read { answer: 0, cdr };
     }
     no_record()

@@ -3,27 +3,17 @@ ghost use Rattle.mcdr.specs.Answers.{Writes};
 
 use crate::{MmRecord, body, rules, tags};
 use ber::tlv;
+use ber::written::NotWritten;
 
-// 0 where the record was written, and how many octets it has; 24 or 11, and 0, where it was not.
-#[derive(Clone, Copy)]
-pub struct Written {
-    pub answer: u8,
-    pub n: usize,
-}
-
-// Writes a record, without its mark, from the start of out: 24 for a record outside the rules, then 11 where it does not fit. Where
-// it is not written, out is as it was.
-pub fn write_record(r: MmRecord, out: &mut [u8]) -> Written
-    ensures { Writes r out.old out.new result.answer result.n }
+// Writes a record, without its mark, from the start of out, and answers how many octets it has. One outside the rules is not written, nor
+// is one that does not fit: then out is as it was.
+pub fn write_record(r: &MmRecord, out: &mut [u8]) -> Result<usize, NotWritten>
+    ensures { Writes r.now out.old out.new result }
 {
     if !rules::within(r) {
-        return Written { answer: 24, n: 0 };
+        return Err(NotWritten::OutsideRules);
     }
     let mut b = [0u8; 400];
-    let n = body::put_body(&mut b, r);
-    let end = tlv::put_tlv(out, 0, tags::RECORD, &b[..n]);
-    if end == ber::NOWHERE {
-        return Written { answer: 11, n: 0 };
-    }
-    Written { answer: 0, n: end }
+    let n = body::put_body(&mut b, r).unwrap();
+    tlv::put_tlv(out, 0, tags::RECORD, &b[..n]).ok_or(NotWritten::NoRoom)
 }

@@ -1,20 +1,24 @@
 -- What a context writes: how long it is, and that it was written.
-use mathlib.Core.Path.{◌≡◌, sym, ap, ◌∙◌}
+use mathlib.Core.Path.{◌≡◌, refl, sym, ap, ◌∙◌}
 use mathlib.Core.Bool.{true}
-use Rattle.std.specs.Prelude.{None, Some}
-use mathlib.Core.List.{List, [], ◌∷◌, ◌++◌, append-nil}
+use Rattle.std.specs.Prelude.{Option, None, Some, IsSome, Result, Ok}
+use Rattle.std.proofs.lemmas.Option.{same_Some}
+use Rattle.ber.specs.declared.written.NotWritten.{NotWritten}
+use Rattle.ber.proofs.Records.{answer_room}
+use mathlib.Core.List.{List, [], ◌∷◌, append-nil}
 use Prim.Native.Nat.{ℕ, ◌+◌, ◌-◌, ◌≤◌}
 use native.Mathlib.Omega.{arith}
-use lib.ListN.{length, drop, take-append-drop}
-use borrow.Author.Tests.{le-leb, eq-eqb, ne_eqb}
+use lib.ListN.{length, take-append-drop}
+use borrow.Author.Tests.{eq-eqb, ne_eqb}
 use borrow.Rule.Slice.PartMut.{mid_of, put_mid}
 use Rattle.ber.specs.Write.{Puts}
-use Rattle.ber.proofs.Writers.{put_of, put_then, put_is, put_part, part_room, puts_room}
+use Rattle.ber.proofs.Writers.{put_of, put_then, put_is, put_part, part_room, puts_room, puts_lost}
 use Rattle.ber.specs.Private.Wrote.{Put}
 use Rattle.scdr.specs.declared.Record.{Record}
 use Rattle.scdr.specs.Rules.{within}
 use Rattle.scdr.specs.Layout.{scdr}
-use Rattle.scdr.specs.Answers.{write_of, Writes, size_of, Sizes}
+use Rattle.scdr.specs.Answers.{Writes, size_of, Sizes}
+use Rattle.scdr.proofs.Answering.{writes_answers}
 use Rattle.profile.specs.declared.Profile.{Profile}
 use Rattle.context.specs.declared.Context.{Context}
 use Rattle.context.specs.Sound.{slot_ok}
@@ -27,17 +31,26 @@ use Rattle.node.specs.Private.Range.{slot_next, slot_out, Counts, Stands}
 
 -- ---- a record after its mark
 
-writes_put : {r : Record} {b b' : List ℕ} {answer n : ℕ} → within r ≡ true → length (scdr.enc r) ≤ length b → Writes r b b' answer n
-    → Put (scdr.enc r) b b' 0 n
-unfolding write_of
-writes_put {r} {b} {b'} {answer} {n} w h p =
-    let q = rw (w, le-leb (length (scdr.enc r)) (length b) h) at p.is in
-    let e : n ≡ length (scdr.enc r) = ap (λ (y : ℕ × (ℕ × List ℕ)). y.1.0) q in
-    let l : b' ≡ scdr.enc r ++ drop (length (scdr.enc r)) b = ap (λ (y : ℕ × (ℕ × List ℕ)). y.1.1) q in
-    put_of (omega arith) (omega arith) (l ∙ rw (← e))
+-- there is room for the mark
+pub mark_fits : (r : Record) {b b₁ : List ℕ} {at : ℕ} (o : Option ℕ) → at + length (marked_octets r) ≤ length b → Puts (Some (0xC3 ∷ 0x5A ∷ [])) b b₁ at o → IsSome o
+unfolding marked_octets
+mark_fits r None room m = absurd (puts_lost (omega (arith, room)) m)
+mark_fits r (Some a) room m = refl
+
+same_Ok : {m n : ℕ} → ◌≡◌ {A = Result ℕ NotWritten} (Ok m) (Ok n) → m ≡ n
+same_Ok e = cc
+
+module _ {r : Record} {b b' : List ℕ} {a : Result ℕ NotWritten} (w : within r ≡ true) (h : length (scdr.enc r) ≤ length b) (p : Writes r b b' a) where
+  writes_all : a ≡ Ok (length (scdr.enc r))
+  writes_all = (answer_room (writes_answers p) w h).0
+
+  writes_put : {n : ℕ} → a ≡ Ok n → Put (scdr.enc r) b b' 0 n
+  writes_put {n} z =
+      let e : n ≡ length (scdr.enc r) = same_Ok (sym z ∙ writes_all) in
+      put_of (omega arith) (omega arith) ((answer_room (writes_answers p) w h).1 ∙ rw (← e))
 
 module _ (r : Record) {b b₁ : List ℕ} {at a : ℕ} (w : within r ≡ true) (room : at + length (marked_octets r) ≤ length b)
-    (m : Puts (Some (0xC3 ∷ 0x5A ∷ [])) b b₁ at a) where
+    (m : Puts (Some (0xC3 ∷ 0x5A ∷ [])) b b₁ at (Some a)) where
   marked_put : Put (0xC3 ∷ 0x5A ∷ []) b b₁ at a
   unfolding marked_octets
   marked_put = puts_room (omega (arith, room)) m
@@ -58,9 +71,13 @@ module _ (r : Record) {b b₁ : List ℕ} {at a : ℕ} (w : within r ≡ true) (
   pub part_starts : a ≤ length b₁
   part_starts = omega (arith, marked_at.room_left)
 
-  module _ {ys : List ℕ} {answer n : ℕ} (p : Writes r (mid_of a (length b₁ - a) b₁) ys answer n) where
+  module _ {ys : List ℕ} {res : Result ℕ NotWritten} (p : Writes r (mid_of a (length b₁ - a) b₁) ys res) where
+    pub record_written : res ≡ Ok (length (scdr.enc r))
+    record_written = writes_all w (part_room b₁ a (length (scdr.enc r)) marked_at.room_left) p
+
+  module _ {ys : List ℕ} {res : Result ℕ NotWritten} (p : Writes r (mid_of a (length b₁ - a) b₁) ys res) {n : ℕ} (z : res ≡ Ok n) where
     record_put : Put (scdr.enc r) b₁ (put_mid a (length b₁ - a) b₁ ys) a (a + n)
-    record_put = put_part b₁ a part_starts (writes_put w (part_room b₁ a (length (scdr.enc r)) marked_at.room_left) p)
+    record_put = put_part b₁ a part_starts (writes_put w (part_room b₁ a (length (scdr.enc r)) marked_at.room_left) p z)
 
     pub marked_record : Put (marked_octets r) b (put_mid a (length b₁ - a) b₁ ys) at (a + n)
     unfolding marked_octets
@@ -90,13 +107,22 @@ module _ (p : Profile) (gs : Settings) (c : Context) (t : ℕ) (m : Message) whe
   unfolding octets_of
   octets_on e = rw (hear_on e)
 
-  pub counts_closes : {cause : ℕ} {r : Record} {n : ℕ} → closing c.current t m ≡ Some cause → r ≡ closed_by p c t m cause
-      → within (closed_by p c t m cause) ≡ true
-      → Sizes r n → Counts (octets_of (hear p gs c t m).out) (2 + n)
-  unfolding marked_octets size_of
-  counts_closes {cause} {r} {n} e i w s =
-      let z : n ≡ length (scdr.enc (closed_by p c t m cause)) = s.is ∙ rw (i, w) in
-      record { is = rw (octets_closes e) (omega arith); most = omega (arith, s.most) }
+  -- the record that closes is within the rules, so that it has a size
+  module _ {cause : ℕ} {r : Record} {o : Option ℕ} (e : closing c.current t m ≡ Some cause) (i : r ≡ closed_by p c t m cause)
+      (w : within (closed_by p c t m cause) ≡ true) (s : Sizes r o) where
+    size_is : o ≡ Some (length (scdr.enc (closed_by p c t m cause)))
+    unfolding size_of
+    size_is = s.is ∙ rw (i, w)
+
+    pub has_size : IsSome o
+    has_size = rw size_is
+
+    pub counts_closes : {n : ℕ} → o ≡ Some n → Counts (octets_of (hear p gs c t m).out) (2 + n)
+    unfolding marked_octets
+    counts_closes {n} k =
+        let z : n ≡ length (scdr.enc (closed_by p c t m cause)) = same_Some _ _ (sym k ∙ size_is) in
+        let most : n ≤ 1024 = rw k at s.most in
+        record { is = rw (octets_closes e) (omega arith); most = omega arith }
 
   pub counts_on : closing c.current t m ≡ None → Counts (octets_of (hear p gs c t m).out) 0
   counts_on e = record { is = rw (octets_on e); most = omega arith }

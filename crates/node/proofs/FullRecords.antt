@@ -22,7 +22,11 @@ use Rattle.context.specs.declared.Context.{Context}
 use Rattle.scdr.specs.declared.Record.{Record}
 use Rattle.scdr.specs.Rules.{within}
 use Rattle.scdr.specs.Layout.{scdr}
-use Rattle.scdr.specs.Answers.{write_of, Writes}
+use Rattle.std.specs.Prelude.{Result, Ok, Err}
+use Rattle.ber.specs.declared.written.NotWritten.{NotWritten}
+use Rattle.ber.proofs.Records.{Answers, answer_room, answer_long}
+use Rattle.scdr.specs.Answers.{Writes}
+use Rattle.scdr.proofs.Answering.{writes_answers}
 use Rattle.node.specs.declared.Message.{Message}
 use Rattle.node.specs.declared.Settings.{Settings}
 use Rattle.node.specs.Meaning.{report}
@@ -115,6 +119,9 @@ module _ (p : Profile) (c : Context) (t : ℕ) (size : length c.current.containe
 
 -- ---- a record after its mark
 
+same_Ok : {m n : ℕ} → ◌≡◌ {A = Result ℕ NotWritten} (Ok m) (Ok n) → m ≡ n
+same_Ok e = cc
+
 pub marks_same : {r : Record} {b b' : List ℕ} {n : ℕ} → Marks r b b' n → length b' ≡ length b
 unfolding marked_in
 marks_same {r} {b} {b'} {n} m =
@@ -150,56 +157,52 @@ module _ (r : Record) where
   pub marks_short : {b : List ℕ} → length b < 2 → Marks r b b 0
   marks_short {b} h = record { is = sym (marked_not b (omega arith)) }
 
-  module _ (b : List ℕ) {ys : List ℕ} {a n : ℕ} (h : 2 ≤ length b) (w : within r ≡ true) (y : Writes r (mid_of 2 (length b - 2) b) ys a n) where
-    written : ◌≡◌ {A = ℕ × (ℕ × List ℕ)} (a, (n, ys)) (write_of r (drop 2 b))
-    written = rw (← part_is b ys 2 n h) y.is
+  module _ (b : List ℕ) {ys : List ℕ} {a : Result ℕ NotWritten} (h : 2 ≤ length b) (w : within r ≡ true)
+      (y : Writes r (mid_of 2 (length b - 2) b) ys a) where
+    answers : Answers true x (drop 2 b) ys a
+    answers = rw (← w, ← part_is b ys 2 0 h) (writes_answers y)
 
     long : length (drop 2 b) ≡ length b - 2
     long = length-drop 2 b
 
-    pub marks_full : (a ≡ 0 → ⊥) → Marks r b (put_mid 2 (length b - 2) b ys) 0
-    unfolding write_of
+    pub marks_full : {e : NotWritten} → a ≡ Err e → Marks r b (put_mid 2 (length b - 2) b ys) 0
     marks_full z =
         either (length x) (length (drop 2 b))
+        (λ l. absurd (let e = (answer_room answers refl l).0 in cc))
         (λ l.
-        let e = rw (w, le-leb (length x) (length (drop 2 b)) l) at written in
-        absurd (z (ap (λ (q : ℕ × (ℕ × List ℕ)). q.0) e)))
-        (λ l.
-        let e = rw (w, lt-leb (length x) (length (drop 2 b)) l) at written in
-        let f : ys ≡ drop 2 b = ap (λ (q : ℕ × (ℕ × List ℕ)). q.1.1) e in
-        let g : put_mid 2 (length b - 2) b ys ≡ b = put_is b ys 2 n h ∙ rw f (take-append-drop 2 b) in
+        let f : ys ≡ drop 2 b = (answer_long answers refl l).1 in
+        let g : put_mid 2 (length b - 2) b ys ≡ b = put_is b ys 2 0 h ∙ rw f (take-append-drop 2 b) in
         record { is = (λ i. (0, g i)) ∙ sym (marked_not b (omega (arith, long))) })
 
-    pub marks_done : a ≡ 0 → Marks r b (set (set (put_mid 2 (length b - 2) b ys) 0 0xC3) 1 0x5A) (2 + n)
-    unfolding write_of
-    marks_done z =
+    -- what was written
+    record Written (n : ℕ) : Type 0 where
+      room : length x ≤ length (drop 2 b)
+      size : n ≡ length x
+      buffer : ys ≡ x ++ drop (length x) (drop 2 b)
+
+    written : {n : ℕ} → a ≡ Ok n → Written n
+    written {n} z =
         either (length x) (length (drop 2 b))
         (λ l.
-        let e = rw (w, le-leb (length x) (length (drop 2 b)) l) at written in
-        let f : n ≡ length x = ap (λ (q : ℕ × (ℕ × List ℕ)). q.1.0) e in
-        let g : ys ≡ x ++ drop (length x) (drop 2 b) = ap (λ (q : ℕ × (ℕ × List ℕ)). q.1.1) e in
+        let q = answer_room answers refl l in
+        record { room = l; size = same_Ok (sym z ∙ q.0); buffer = q.1 })
+        (λ l. absurd (let e = (answer_long answers refl l).0 in cc))
+
+    pub marks_done : {n : ℕ} → a ≡ Ok n → Marks r b (set (set (put_mid 2 (length b - 2) b ys) 0 0xC3) 1 0x5A) (2 + n)
+    marks_done {n} z =
+        let d = written z in
+        let f = d.size in
         let s : set (set (put_mid 2 (length b - 2) b ys) 0 0xC3) 1 0x5A ≡ 0xC3 ∷ 0x5A ∷ (x ++ drop (length x) (drop 2 b)) =
-        ap (λ (q : List ℕ). set (set q 0 0xC3) 1 0x5A) (put_is b ys 2 n h) ∙ mark_set b ys h ∙ ap (λ (q : List ℕ). 0xC3 ∷ 0x5A ∷ q) g in
-        record { is = (λ i. (2 + f i, s i)) ∙ sym (marked_fits b h l) })
-        (λ l.
-        let e = rw (w, lt-leb (length x) (length (drop 2 b)) l) at written in
-        let f = ap (λ (q : ℕ × (ℕ × List ℕ)). q.0) e in absurd (omega arith))
+        ap (λ (q : List ℕ). set (set q 0 0xC3) 1 0x5A) (put_is b ys 2 n h) ∙ mark_set b ys h ∙ ap (λ (q : List ℕ). 0xC3 ∷ 0x5A ∷ q) d.buffer in
+        record { is = (λ i. (2 + f i, s i)) ∙ sym (marked_fits b h d.room) }
 
     -- between the two octets of the mark
-    pub marks_second : a ≡ 0 → 1 < length (set (put_mid 2 (length b - 2) b ys) 0 0xC3)
+    pub marks_second : {n : ℕ} → a ≡ Ok n → 1 < length (set (put_mid 2 (length b - 2) b ys) 0 0xC3)
     marks_second z = omega (arith, h, length-set (set (put_mid 2 (length b - 2) b ys) 0 0xC3) 1 0x5A, marks_same (marks_done z))
 
     -- what was written ends within the buffer
-    pub marks_within : a ≡ 0 → 2 + n ≤ length b
-    unfolding write_of
-    marks_within z =
-        either (length x) (length (drop 2 b))
-        (λ l.
-        let e = rw (w, le-leb (length x) (length (drop 2 b)) l) at written in
-        let f : n ≡ length x = ap (λ (q : ℕ × (ℕ × List ℕ)). q.1.0) e in omega (arith, long))
-        (λ l.
-        let e = rw (w, lt-leb (length x) (length (drop 2 b)) l) at written in
-        let f = ap (λ (q : ℕ × (ℕ × List ℕ)). q.0) e in absurd (omega arith))
+    pub marks_within : {n : ℕ} → a ≡ Ok n → 2 + n ≤ length b
+    marks_within z = let d = written z in omega (arith, long, d.room, d.size)
 
 -- ---- so a slot that writes that record
 

@@ -51,13 +51,12 @@ pub fn close(p: Profile, c: Context, t: u32, up: u64, down: u64, out: &mut [u8])
         return 0;
     }
     let r = full_record(p, c, t, up, down);
-    let w = write::write_record(r, &mut out[2..]);
-    if w.answer != 0 {
+    let Ok(n) = write::write_record(&r, &mut out[2..]) else {
         return 0;
-    }
+    };
     out[0] = 0xC3;
     out[1] = 0x5A;
-    2 + w.n
+    2 + n
 }
 
 // The context after it, whose record opens with the limits that are in force in its set. Where no container had ended, every place is blank

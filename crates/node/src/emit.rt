@@ -21,14 +21,13 @@ pub struct SlotAfter {
 }
 
 // A record after its mark, into the part of out that begins at a place.
-fn put_record(r: Record, out: &mut [u8], at: usize) -> usize
-    requires { (within r ≡ true) × (at + length (marked_octets r) ≤ length out.old) }
-    ensures { Put (marked_octets r) out.old out.new at result }
+fn put_record(r: &Record, out: &mut [u8], at: usize) -> usize
+    requires { (within r.now ≡ true) × (at + length (marked_octets r.now) ≤ length out.old) }
+    ensures { Put (marked_octets r.now) out.old out.new at result }
 {
-    let mark = [0xC3u8, 0x5A];
-    let a = tlv::put_all(out, at, &mark);
-    let w = write::write_record(r, &mut out[a..]);
-    a + w.n
+    let a = tlv::put_all(out, at, &[0xC3, 0x5A]).unwrap();
+    let n = write::write_record(r, &mut out[a..]).unwrap();
+    a + n
 }
 
 // How many octets an active context writes.
@@ -38,7 +37,7 @@ fn size_of(p: Profile, g: Settings, c: Context, t: u32, m: Message) -> usize
     ensures { Counts (octets_of (hear p g c t m).out) result }
 {
     match closing::cause_of(c.current, t, m) {
-        Some(cause) => 2 + write::record_size(standing::closed_by(p, c, t, m, cause)),
+        Some(cause) => 2 + write::record_size(&standing::closed_by(p, c, t, m, cause)).unwrap(),
         None => 0,
     }
 }
@@ -60,7 +59,7 @@ fn hear(
 {
     match closing::cause_of(c.current, t, m) {
         Some(cause) => {
-            let next = put_record(standing::closed_by(p, c, t, m, cause), out, at);
+            let next = put_record(&standing::closed_by(p, c, t, m, cause), out, at);
             let context = standing::after_closing(p, g, c, t, m);
             SlotAfter { context, at: next }
         }

@@ -1,20 +1,26 @@
 -- The answers of the test of the rules, of the writer and of the reader.
 use mathlib.Core.Path.{◌≡◌, sym, ap, ◌∙◌}
 use mathlib.Core.Bool.{Bool, true, false, ◌&&◌}
-use Rattle.std.specs.Prelude.{Option, Some}
+use Rattle.std.specs.Prelude.{Option, None, Some, Result, Err, IsSomeAnd}
+use Rattle.std.specs.Option.{ok_or}
+use Rattle.std.specs.Result.{result_ok}
 use mathlib.Core.List.{List, append-nil}
-use Prim.Native.Nat.{ℕ, ◌^◌, ◌≤◌, ◌<◌}
+use Prim.Native.Nat.{ℕ, ◌+◌, ◌^◌, ◌≤◌, ◌<◌}
 use native.Mathlib.Omega.{arith}
 use lib.Dec.{T, leb}
 use lib.ListN.{length, take, drop}
-use borrow.Author.Tests.{le-leb, lt-ltb, eq-eqb}
-use Rattle.format.proofs.Tests.{by, true_T, and_i}
+use borrow.Author.Tests.{le-ltb, lt-ltb, eq-eqb}
+use Rattle.format.proofs.Tests.{by, either, true_T}
 use Rattle.ber.specs.Imsi.{imsi_ok}
-use Rattle.ber.specs.Tlv.{tlv_enc, tlv_form}
-use Rattle.ber.specs.Read.{nowhere}
+use Rattle.ber.specs.Tlv.{tlv_enc, tlv_form, head}
 use Rattle.ber.specs.Write.{Puts}
-use Rattle.ber.proofs.Tlvs.{tlv_yes, tlv_length}
-use Rattle.ber.proofs.Records.{answer_outside, answer_full, answer_done}
+use Rattle.ber.specs.Private.Wrote.{Wrote}
+use Rattle.ber.specs.Private.Filled.{Filled}
+use Rattle.ber.proofs.Ready.{filled_of}
+use Rattle.ber.proofs.Tlvs.{tlv_yes, tlv_length, head_4}
+use Rattle.ber.specs.declared.written.NotWritten.{NotWritten}
+use Rattle.ber.specs.declared.written.NotWritten.TheVariants.{OutsideRules, NoRoom}
+use Rattle.ber.proofs.Records.{Answers, answer_outside, answer_full, answer_done, answer_room, answer_none}
 use Rattle.calendar.specs.Stamp.{stamp_ok}
 use Rattle.container.specs.List.{list_ok, blanks}
 use Rattle.scdr.specs.declared.Record.{Record}
@@ -52,7 +58,7 @@ shaped_is r a b c d e f g h =
 
 -- ---- the writer
 
-pub writes_outside : (r : Record) (b : List ℕ) → within r ≡ false → Writes r b b 24 0
+pub writes_outside : (r : Record) (b : List ℕ) → within r ≡ false → Writes r b b (Err OutsideRules)
 unfolding write_of
 writes_outside r b e = record { is = (answer_outside {x = scdr.enc r} e).is }
 
@@ -60,33 +66,52 @@ pub octets_are : (r : Record) → tlv_enc record_tag (body.enc (of_record r)) �
 unfolding scdr inside
 octets_are r = sym (append-nil (tlv_enc record_tag (body.enc (of_record r))))
 
-module _ (r : Record) (t : T (rules r)) where
-  pub body_short : length (body.enc (of_record r)) ≤ 1024
-  body_short = omega (arith, at_most_1024 r t, ap length (octets_are r), tlv_length record_tag (body.enc (of_record r)))
+octets_length : (r : Record) → length (scdr.enc r) ≡ head (length (body.enc (of_record r))) + length (body.enc (of_record r))
+octets_length r = sym (ap length (octets_are r)) ∙ tlv_length record_tag (body.enc (of_record r))
+
+-- a record's octets without tag and length
+body_short : (r : Record) → T (rules r) → length (body.enc (of_record r)) ≤ 1020
+body_short r t =
+    let n = length (body.enc (of_record r)) in
+    let m = at_most_1024 r t in
+    either n 1020 (λ h. h) (λ h. let e : head n ≡ 4 = rw (head, le-ltb n 128 (omega arith), le-ltb n 256 (omega arith)) in absurd (omega (arith, octets_length r)))
+
+module _ (r : Record) (most : length (body.enc (of_record r)) ≤ 1020) where
+  pub octets_short : length (scdr.enc r) ≤ 1024
+  octets_short = omega (arith, octets_length r, head_4 (length (body.enc (of_record r))))
 
   pub octets_form : {x : List ℕ} → x ≡ body.enc (of_record r) → tlv_form record_tag x ≡ Some (scdr.enc r)
-  octets_form e = ap (tlv_form record_tag) e ∙ tlv_yes record_tag (body.enc (of_record r)) (omega (arith, body_short)) ∙ ap {B = Option (List ℕ)} Some
-      (octets_are r)
+  octets_form e = ap (tlv_form record_tag) e ∙ tlv_yes record_tag (body.enc (of_record r)) (omega arith) ∙ ap {B = Option (List ℕ)} Some (octets_are r)
 
-  module _ (w : within r ≡ true) {b b' : List ℕ} {n : ℕ} (p : Puts (Some (scdr.enc r)) b b' 0 n) where
-    pub writes_full : n ≡ nowhere → Writes r b b' 11 0
-    unfolding write_of
-    writes_full e = record { is = (answer_full w p (omega (arith, at_most_1024 r t)) e).is }
+-- a record's fields in an array that has room for any
+pub body_filled : (r : Record) {b b' : List ℕ} {o : Option ℕ} → T (rules r) → length b ≡ 1020 → Wrote (body.enc (of_record r)) b b' 0 o
+    → IsSomeAnd o (λ n. Filled (body.enc (of_record r)) 1020 b' n)
+body_filled r t room w = filled_of room w (body_short r t)
 
-    pub writes_done : (n ≡ nowhere → ⊥) → Writes r b b' 0 n
-    unfolding write_of
-    writes_done e = record { is = (answer_done w p e).is }
+-- what the code answers, once the test passed
+pub writes_put : (r : Record) {b b' : List ℕ} (o : Option ℕ) → within r ≡ true → Puts (Some (scdr.enc r)) b b' 0 o → Writes r b b' (ok_or o NoRoom)
+unfolding write_of
+writes_put r None w p = record { is = (answer_full w p).is }
+writes_put r (Some n) w p = record { is = (answer_done w p).is }
+
+-- the promise is that of any record's writer
+pub writes_answers : {r : Record} {b b' : List ℕ} {a : Result ℕ NotWritten} → Writes r b b' a → Answers (within r) (scdr.enc r) b b' a
+unfolding write_of
+writes_answers p = record { is = p.is }
+
+pub answers_writes : {r : Record} {b b' : List ℕ} {a : Result ℕ NotWritten} → Answers (within r) (scdr.enc r) b b' a → Writes r b b' a
+unfolding write_of
+answers_writes p = record { is = p.is }
 
 -- ---- the size: what the writer answers where every record has room
 
-pub sizes : (r : Record) {b b' : List ℕ} {a n : ℕ} → T (shaped r) → length b ≡ 1024 → Writes r b b' a n → Sizes r n
-unfolding write_of size_of
-sizes r {b} {b'} {a} {n} t l p =
+pub sizes : (r : Record) {b b' : List ℕ} {a : Result ℕ NotWritten} → (T (within r) → length (scdr.enc r) ≤ 1024) → length b ≡ 1024
+    → Writes r b b' a → Sizes r (result_ok a)
+unfolding size_of
+sizes r {b} {b'} {a} m l p =
     by (within r)
     (λ w.
-    let m = at_most_1024 r (and_i (shaped r) (within r) t (true_T (within r) w)) in
-    let e : n ≡ length (scdr.enc r) = ap (λ (y : ℕ × (ℕ × List ℕ)). y.1.0) (rw (w, le-leb (length (scdr.enc r)) (length b) (omega arith)) at p.is) in
-    record { is = rw w e; most = omega arith })
-    (λ w.
-    let e : n ≡ 0 = ap (λ (y : ℕ × (ℕ × List ℕ)). y.1.0) (rw w at p.is) in
-    record { is = rw w e; most = omega arith })
+    let k = m (true_T (within r) w) in
+    let q = answer_room (writes_answers p) w (omega arith) in
+    rw q.0 (record { is = rw w; most = k }))
+    (λ w. rw (answer_none (writes_answers p) w) (record { is = rw w; most = tt }))

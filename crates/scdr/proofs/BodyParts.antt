@@ -3,10 +3,10 @@ use mathlib.Core.Path.{◌≡◌, sym, ap, ◌∙◌}
 use mathlib.Core.Bool.{◌&&◌}
 use Rattle.std.specs.Prelude.{Some}
 use mathlib.Core.List.{List, [], ◌∷◌, ◌++◌, append-nil}
-use Prim.Native.Nat.{ℕ, ◌≤◌}
+use Prim.Native.Nat.{ℕ, ◌-◌, ◌≤◌}
 use native.Mathlib.Omega.{arith}
 use lib.Dec.{T, leb, le→leb}
-use lib.ListN.{length, take, drop}
+use lib.ListN.{length, take, drop, get_or}
 use lib.Seq.{length-take-le}
 use Rattle.format.specs.Maybe.{guard}
 use Rattle.format.proofs.Maybe.{guard_yes}
@@ -23,6 +23,7 @@ use Rattle.scdr.specs.Layout.{body, of_record, fields_of}
 use Rattle.scdr.specs.Private.Parts.{front_rows, front_enc, pdp_rows, pdp_enc, end_rows, end_enc}
 use Rattle.scdr.proofs.Views.{withins, places_rules}
 use Rattle.scdr.proofs.Theorems.{list_rules}
+use Rattle.scdr.proofs.Durations.{duration_is}
 
 pub body_parts : (r : Record)
     → front_enc r.network r.imsi r.sgsn r.charging
@@ -50,6 +51,16 @@ count_known r t l =
     let p = places_rules r (withins r t).list in
     let k = list_rules r.opening (take r.count r.containers) p.list in
     (omega (arith, k.least, length-take-le r.count r.containers (omega (arith, p.most))), p.most)
+
+-- what follows the list, with how long the record lasted by its last container
+pub end_lasted : (r : Record) → T (within r) → length r.containers ≡ 15 → {d : ℕ}
+    → d ≡ (get_or r.containers (r.count - 1) no_container).time.seconds - r.opening.seconds
+    → end_enc r.opening d r.change r.cause r.number ≡ end_enc r.opening (duration r) r.change r.cause r.number
+unfolding duration
+end_lasted r t l e =
+    let n = count_known r t l in
+    ap (λ (d : ℕ). end_enc r.opening d r.change r.cause r.number)
+    (e ∙ duration_is r.opening.seconds r.containers r.count no_container n.0 (omega (arith, n.1)))
 
 -- what the writer of a list asks holds, so it has a form
 pub list_form_lem : (r : Record) → T (within r) → length r.containers ≡ 15

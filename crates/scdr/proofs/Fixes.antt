@@ -2,16 +2,19 @@
 use mathlib.Core.Path.{◌≡◌, sym, ◌∙◌}
 use mathlib.Core.List.{List}
 use Prim.Native.Nat.{ℕ}
+use Rattle.std.specs.Prelude.{Option, Result}
+use Rattle.ber.specs.declared.written.NotWritten.{NotWritten}
 use denote.Ref.{Bor}
 use Rattle.scdr.specs.declared.Record.{Record}
 use Rattle.scdr.specs.Answers.{Writes, Sizes, ReadsRecord}
 use Rattle.scdr.specs.Apn.{ShowsApn}
 
--- the answer, the written length and the buffer
-pub writes_fixes : {r : Record} {b c d : List ℕ} {x y m n : ℕ} → Writes r b c x m → Writes r b d y n → ◌≡◌ {A = ℕ × (ℕ × List ℕ)} (x, (m, c)) (y, (n, d))
+-- the answer and the buffer
+pub writes_fixes : {r : Record} {b c d : List ℕ} {x y : Result ℕ NotWritten} → Writes r b c x → Writes r b d y
+    → ◌≡◌ {A = Result ℕ NotWritten × List ℕ} (x, c) (y, d)
 writes_fixes a b = a.is ∙ sym b.is
 
-pub sizes_fixes : {r : Record} {m n : ℕ} → Sizes r m → Sizes r n → m ≡ n
+pub sizes_fixes : {r : Record} {m n : Option ℕ} → Sizes r m → Sizes r n → m ≡ n
 sizes_fixes a b = a.is ∙ sym b.is
 
 -- the answer and the record

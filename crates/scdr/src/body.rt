@@ -1,6 +1,6 @@
 // All fields of a record, one after another: what stands under A0.
-ghost use Rattle.std.specs.Prelude.{T};
-ghost use Rattle.ber.specs.Private.Wrote.{Wrote};
+ghost use Rattle.std.specs.Prelude.{◌≡◌, T, length, IsSomeAnd};
+ghost use Rattle.ber.specs.Private.Filled.{Filled};
 ghost use Rattle.scdr.specs.Rules.{within};
 ghost use Rattle.scdr.specs.Layout.{body, of_record};
 
@@ -8,21 +8,15 @@ use crate::{Record, duration, parts, tags};
 use ber::text;
 use container::list;
 
-// All fields of a record within the rules, from the start of out.
-pub fn put_body(out: &mut [u8], r: Record) -> usize
-    requires { T (within r) }
-    ensures { Wrote (body.enc (of_record r)) out.old out.new 0 result }
+// All fields of a record within the rules, from the start of out, which has room for any.
+pub fn put_body(out: &mut [u8], r: &Record) -> Option<usize>
+    requires { (length out.old ≡ 1020) × T (within r.now) }
+    ensures { IsSomeAnd result (λ n. Filled (body.enc (of_record r.now)) 1020 out.new n) }
 {
-    let imsi = r.imsi;
-    let apn = r.apn;
-    let containers = r.containers;
-    let opening = r.opening;
-    let nodeid = r.nodeid;
-    let last = containers[r.count - 1];
-    let lasts = duration::lasted(last, opening);
-    let pdp_at = parts::put_front(out, 0, r.network, imsi, r.sgsn, r.charging);
-    let list_at = parts::put_pdp(out, pdp_at, r.ggsn, apn, r.apnlen, r.pdptype, r.address);
-    let end_at = list::put_list(out, list_at, tags::CONTAINERS, containers, r.count);
-    let node_at = parts::put_end(out, end_at, opening, lasts, r.change, r.cause, r.number);
-    text::put_opt_text(out, node_at, tags::NODE_ID, &nodeid, r.nodelen)
+    let lasts = duration::lasted(r.containers[r.count - 1], r.opening);
+    let at = parts::put_front(out, 0, r.network, r.imsi, r.sgsn, r.charging)?;
+    let at = parts::put_pdp(out, at, r.ggsn, &r.apn, r.apnlen, r.pdptype, r.address)?;
+    let at = list::put_list(out, at, tags::CONTAINERS, &r.containers, r.count)?;
+    let at = parts::put_end(out, at, r.opening, lasts, r.change, r.cause, r.number)?;
+    text::put_opt_text(out, at, tags::NODE_ID, &r.nodeid, r.nodelen)
 }

@@ -18,15 +18,15 @@ pub fn put_front(
     imsi: [u8; 8],
     sgsn: u32,
     charging: u32,
-) -> usize
+) -> Option<usize>
     requires { T (imsi_ok imsi) }
     ensures { Wrote (front_enc network imsi sgsn charging) out.old out.new at result }
 {
-    let network_at = field::put_octet(out, at, tags::RECORD_TYPE, 18);
-    let imsi_at = flag::put_flag(out, network_at, tags::NETWORK, network);
-    let sgsn_at = imsi::put_imsi(out, imsi_at, tags::IMSI, imsi);
-    let charging_at = address::put_address(out, sgsn_at, tags::SGSN, sgsn);
-    field::put_int(out, charging_at, tags::CHARGING_ID, charging as u64)
+    let at = field::put_octet(out, at, tags::RECORD_TYPE, 18)?;
+    let at = flag::put_flag(out, at, tags::NETWORK, network)?;
+    let at = imsi::put_imsi(out, at, tags::IMSI, imsi)?;
+    let at = address::put_address(out, at, tags::SGSN, sgsn)?;
+    field::put_int(out, at, tags::CHARGING_ID, charging as u64)
 }
 
 // GGSN, access point name, PDP type, served address.
@@ -34,18 +34,18 @@ pub fn put_pdp(
     out: &mut [u8],
     at: usize,
     ggsn: u32,
-    apn: [u8; 63],
+    apn: &[u8; 63],
     apnlen: usize,
     pdptype: u16,
     served: u32,
-) -> usize
+) -> Option<usize>
     requires { apnlen ≤ 63 }
-    ensures { Wrote (pdp_enc ggsn (take apnlen apn) pdptype served) out.old out.new at result }
+    ensures { Wrote (pdp_enc ggsn (take apnlen apn.now) pdptype served) out.old out.new at result }
 {
-    let apn_at = address::put_address(out, at, tags::GGSN, ggsn);
-    let type_at = text::put_text(out, apn_at, tags::APN, &apn, apnlen);
-    let served_at = fixed::put_two_octets(out, type_at, tags::PDP_TYPE, pdptype);
-    address::put_address_in(out, served_at, tags::SERVED, served)
+    let at = address::put_address(out, at, tags::GGSN, ggsn)?;
+    let at = text::put_text(out, at, tags::APN, apn, apnlen)?;
+    let at = fixed::put_two_octets(out, at, tags::PDP_TYPE, pdptype)?;
+    address::put_address_in(out, at, tags::SERVED, served)
 }
 
 // Opening time, duration, SGSN change, cause, number.
@@ -57,13 +57,13 @@ pub fn put_end(
     change: bool,
     cause: u8,
     number: u64,
-) -> usize
+) -> Option<usize>
     requires { T (stamp_ok opening) }
     ensures { Wrote (end_enc opening lasts change cause number) out.old out.new at result }
 {
-    let duration_at = stamp::put_stamp(out, at, tags::OPENING, opening);
-    let change_at = field::put_int(out, duration_at, tags::DURATION, lasts as u64);
-    let cause_at = flag::put_flag(out, change_at, tags::CHANGE, change);
-    let number_at = field::put_octet(out, cause_at, tags::CAUSE, cause);
-    count::put_count(out, number_at, tags::NUMBER, number)
+    let at = stamp::put_stamp(out, at, tags::OPENING, opening)?;
+    let at = field::put_int(out, at, tags::DURATION, lasts as u64)?;
+    let at = flag::put_flag(out, at, tags::CHANGE, change)?;
+    let at = field::put_octet(out, at, tags::CAUSE, cause)?;
+    count::put_count(out, at, tags::NUMBER, number)
 }

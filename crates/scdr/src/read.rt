@@ -73,7 +73,7 @@ fn take_apart(s: &[u8]) -> Whole
 fn passes(r: Record, lasts: u64) -> bool
     ensures { result ≡ (eqb lasts (duration r) && within r) }
 {
-    if !rules::within(r) {
+    if !rules::within(&r) {
         return false;
     }
     let containers = r.containers;

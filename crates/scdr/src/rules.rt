@@ -7,22 +7,17 @@ use ber::imsi;
 use container::{rules, unused};
 use octets::names;
 
-pub fn within(r: Record) -> bool
-    ensures { result ≡ within r }
+pub fn within(r: &Record) -> bool
+    ensures { result ≡ within r.now }
 {
-    let digits = r.imsi;
-    let apn = r.apn;
-    let opening = r.opening;
-    let containers = r.containers;
-    let nodeid = r.nodeid;
-    let imsi = imsi::imsi_size(&digits) != 0;
-    let name = names::apn_ok(apn, r.apnlen);
-    let time = calendar::stamp_within(opening);
-    let list = rules::list_ok(containers, r.count, opening)
-        & unused::unused_blank(containers, r.count);
+    let imsi = imsi::imsi_size(&r.imsi) != 0;
+    let name = names::apn_ok(r.apn, r.apnlen);
+    let time = calendar::stamp_within(r.opening);
+    let list = rules::list_ok(r.containers, r.count, r.opening)
+        & unused::unused_blank(r.containers, r.count);
     let cause = closing::cause_ok(r.cause);
     let number = closing::number_ok(r.cause, r.number);
     let change = closing::change_ok(r.change, r.number);
-    let node = names::node_ok(nodeid, r.nodelen);
+    let node = names::node_ok(r.nodeid, r.nodelen);
     imsi & name & time & list & cause & number & change & node
 }

@@ -1,39 +1,31 @@
 // The writer of a record: its fields in ascending order, under A0.
-ghost use Rattle.std.specs.Prelude.{◌≡◌};
+ghost use Rattle.std.specs.Prelude.{◌≤◌, T, length};
+ghost use Rattle.scdr.specs.Rules.{within};
+ghost use Rattle.scdr.specs.Layout.{scdr};
 ghost use Rattle.scdr.specs.Answers.{Writes, Sizes};
 
 use crate::{Record, body, rules, tags};
 use ber::tlv;
+use ber::written::NotWritten;
 
-// 0 where the record was written, and how many octets it has; 24 or 11, and 0, where it was not.
-#[derive(Clone, Copy)]
-pub struct Written {
-    pub answer: u8,
-    pub n: usize,
-}
-
-// Writes a record, without its mark, from the start of out: 24 for a record outside the rules, then 11 where it does not fit. Where
-// it is not written, out is as it was.
-pub fn write_record(r: Record, out: &mut [u8]) -> Written
-    ensures { Writes r out.old out.new result.answer result.n }
+// Writes a record, without its mark, from the start of out, and answers how many octets it has, 1,024 at most. One outside the rules is not
+// written, nor is one that does not fit: then out is as it was.
+pub fn write_record(r: &Record, out: &mut [u8]) -> Result<usize, NotWritten>
+    ensures writes { Writes r.now out.old out.new result }
+    ensures short { T (within r.now) → length (scdr.enc r.now) ≤ 1024 }
 {
     if !rules::within(r) {
-        return Written { answer: 24, n: 0 };
+        return Err(NotWritten::OutsideRules);
     }
-    let mut b = [0u8; 1024];
-    let n = body::put_body(&mut b, r);
-    let end = tlv::put_tlv(out, 0, tags::RECORD, &b[..n]);
-    if end == ber::NOWHERE {
-        return Written { answer: 11, n: 0 };
-    }
-    Written { answer: 0, n: end }
+    let mut b = [0u8; 1020];
+    let n = body::put_body(&mut b, r).unwrap();
+    tlv::put_tlv(out, 0, tags::RECORD, &b[..n]).ok_or(NotWritten::NoRoom)
 }
 
-// How many octets a record has, without its mark; 0 for one outside the rules.
-pub fn record_size(r: Record) -> usize
-    ensures { Sizes r result }
+// How many octets a record has, without its mark: none where it is outside the rules.
+pub fn record_size(r: &Record) -> Option<usize>
+    ensures { Sizes r.now result }
 {
     let mut b = [0u8; 1024];
-    let w = write_record(r, &mut b);
-    w.n
+    write_record(r, &mut b).ok()
 }

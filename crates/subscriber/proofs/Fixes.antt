@@ -2,6 +2,8 @@
 use mathlib.Core.Path.{◌≡◌, sym, ◌∙◌}
 use mathlib.Core.List.{List}
 use Prim.Native.Nat.{ℕ}
+use Rattle.std.specs.Prelude.{Result}
+use Rattle.ber.specs.declared.written.NotWritten.{NotWritten}
 use Rattle.profile.specs.declared.Profile.{Profile}
 use Rattle.mcdr.specs.declared.MmRecord.{MmRecord}
 use Rattle.subscriber.specs.declared.Subscriber.{Subscriber}
@@ -19,8 +21,8 @@ tells_fixes p q = p.is ∙ sym q.is
 
 -- ---- what private functions promise
 
-pub marks_fixes : {r : MmRecord} {b b₁ b₂ : List ℕ} {a₁ a₂ n₁ n₂ : ℕ} → Marks r b b₁ a₁ n₁ → Marks r b b₂ a₂ n₂
-    → ◌≡◌ {A = ℕ × (ℕ × List ℕ)} (a₁, (n₁, b₁)) (a₂, (n₂, b₂))
+pub marks_fixes : {r : MmRecord} {b b₁ b₂ : List ℕ} {a₁ a₂ : Result ℕ NotWritten} → Marks r b b₁ a₁ → Marks r b b₂ a₂
+    → ◌≡◌ {A = Result ℕ NotWritten × List ℕ} (a₁, b₁) (a₂, b₂)
 marks_fixes p q = p.is ∙ sym q.is
 
 pub emits_fixes : {r : MmRecord} {s z s₁ s₂ : Subscriber} {b b₁ b₂ : List ℕ} {a₁ a₂ w₁ w₂ : ℕ} → Emits r s z b b₁ a₁ s₁ w₁ → Emits r s z b b₂ a₂ s₂ w₂

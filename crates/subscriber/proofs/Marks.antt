@@ -2,6 +2,7 @@
 use mathlib.Core.Path.{◌≡◌, refl, sym, ap, ◌∙◌}
 use mathlib.Core.Bool.{true, false}
 use mathlib.Core.List.{List, [], ◌∷◌, ◌++◌, append_assoc}
+use Rattle.std.specs.Prelude.{Result, Ok, Err}
 use Prim.Native.Nat.{ℕ, suc, ◌+◌, ◌-◌, ◌≤◌, ◌<◌}
 use native.Mathlib.Omega.{arith}
 use lib.Dec.{leb}
@@ -10,6 +11,9 @@ use borrow.Author.Tests.{leb-true, leb-false, le-leb, lt-leb}
 use borrow.Rule.Slice.PartMut.{mid_of, put_mid, mid_len, put_same}
 use Rattle.format.proofs.Tests.{by}
 use Rattle.ber.specs.Private.Wrote.{Put}
+use Rattle.ber.specs.Written.{written}
+use Rattle.ber.specs.declared.written.NotWritten.{NotWritten}
+use Rattle.ber.specs.declared.written.NotWritten.TheVariants.{OutsideRules, NoRoom}
 use Rattle.ber.proofs.Writers.{put_of, put_part}
 use Rattle.mcdr.specs.declared.MmRecord.{MmRecord}
 use Rattle.mcdr.specs.Rules.{within}
@@ -27,12 +31,12 @@ module _ (r : MmRecord) where
   unfolding marked_octets
   short b h = lt-leb (length (0xC3 ∷ 0x5A ∷ x)) (length b) (omega arith)
 
-  pub marks_short : {b : List ℕ} → length b < 2 → within r ≡ true → Marks r b b 11 0
-  unfolding marked_in
+  pub marks_short : {b : List ℕ} → length b < 2 → within r ≡ true → Marks r b b (Err NoRoom)
+  unfolding marked_in written
   marks_short {b} h w = record { is = rw (w, short b (omega arith)) }
 
-  pub marks_none : {b : List ℕ} → within r ≡ false → Marks r b b 13 0
-  unfolding marked_in
+  pub marks_none : {b : List ℕ} → within r ≡ false → Marks r b b (Err OutsideRules)
+  unfolding marked_in written
   marks_none w = record { is = rw w }
 
   mark_set : (b ys : List ℕ) → 2 ≤ length b → set (set (take 2 b ++ ys) 0 0xC3) 1 0x5A ≡ 0xC3 ∷ 0x5A ∷ ys
@@ -40,7 +44,7 @@ module _ (r : MmRecord) where
   mark_set (y ∷ []) ys h = absurd (omega arith)
   mark_set (y ∷ (z ∷ b)) ys h = refl
 
-  module _ (b : List ℕ) {ys : List ℕ} {a n : ℕ} (h : 2 ≤ length b) (y : Writes r (mid_of 2 (length b - 2) b) ys a n) where
+  module _ (b : List ℕ) {ys : List ℕ} {a : Result ℕ NotWritten} (h : 2 ≤ length b) (y : Writes r (mid_of 2 (length b - 2) b) ys a) where
     abbrev part : List ℕ
     part = mid_of 2 (length b - 2) b
 
@@ -55,88 +59,74 @@ module _ (r : MmRecord) where
     same e = ap (λ (q : List ℕ). put_mid 2 (length b - 2) b q) e ∙ put_same 2 (length b - 2) b
 
     -- what the writer answers, by what it found
-    record Outside : Type 0 where
-      answer : a ≡ 24
-      buffer : ys ≡ part
-
-    outside : within r ≡ false → Outside
-    unfolding write_of
+    outside : within r ≡ false → (a ≡ Err OutsideRules) × (ys ≡ part)
+    unfolding write_of written
     outside w =
         let e = rw w at y.is in
-        record { answer = ap (λ (q : ℕ × (ℕ × List ℕ)). q.0) e; buffer = ap (λ (q : ℕ × (ℕ × List ℕ)). q.1.1) e }
+        (ap (λ (q : Result ℕ NotWritten × List ℕ). q.0) e, ap (λ (q : Result ℕ NotWritten × List ℕ). q.1) e)
 
-    record TooLong : Type 0 where
-      answer : a ≡ 11
-      buffer : ys ≡ part
-
-    too_long : within r ≡ true → leb (length x) (length part) ≡ false → TooLong
-    unfolding write_of
+    too_long : within r ≡ true → leb (length x) (length part) ≡ false → (a ≡ Err NoRoom) × (ys ≡ part)
+    unfolding write_of written
     too_long w l =
         let e = rw (w, l) at y.is in
-        record { answer = ap (λ (q : ℕ × (ℕ × List ℕ)). q.0) e; buffer = ap (λ (q : ℕ × (ℕ × List ℕ)). q.1.1) e }
+        (ap (λ (q : Result ℕ NotWritten × List ℕ). q.0) e, ap (λ (q : Result ℕ NotWritten × List ℕ). q.1) e)
 
     record Done : Type 0 where
-      answer : a ≡ 0
-      size : n ≡ length x
-      put : Put x b after 2 (2 + n)
+      answer : a ≡ Ok (length x)
+      put : Put x b after 2 (2 + length x)
 
     done : within r ≡ true → leb (length x) (length part) ≡ true → Done
-    unfolding write_of
+    unfolding write_of written
     done w l =
         let e = rw (w, l) at y.is in
-        let s : n ≡ length x = ap (λ (q : ℕ × (ℕ × List ℕ)). q.1.0) e in
-        let f : ys ≡ x ++ drop (length x) part = ap (λ (q : ℕ × (ℕ × List ℕ)). q.1.1) e in
+        let f : ys ≡ x ++ drop (length x) part = ap (λ (q : Result ℕ NotWritten × List ℕ). q.1) e in
         let k = leb-true (length x) (length part) l in
         record {
-          answer = ap (λ (q : ℕ × (ℕ × List ℕ)). q.0) e;
-          size = s;
-          put = put_part b 2 h (put_of (omega arith) (omega arith) (f ∙ rw (← s)));
+          answer = ap (λ (q : Result ℕ NotWritten × List ℕ). q.0) e;
+          put = put_part b 2 h (put_of (omega arith) (omega arith) f);
         }
 
-    pub marks_outside : a ≡ 24 → Marks r b after 13 0
-    unfolding marked_in
-    marks_outside z =
+    pub marks_not : {e : NotWritten} → a ≡ Err e → Marks r b after (Err e)
+    unfolding marked_in written
+    marks_not {e} z =
         by (within r)
         (λ w. by (leb (length x) (length part))
-        (λ l. absurd (let e = (done w l).answer in omega arith))
-        (λ l. absurd (let e = (too_long w l).answer in omega arith)))
-        (λ w. record { is = rw w (λ i. (13, (0, same (outside w).buffer i))) })
-
-    pub marks_full : (a ≡ 24 → ⊥) → (a ≡ 0 → ⊥) → Marks r b after 11 0
-    unfolding marked_in
-    marks_full f z =
-        by (within r)
-        (λ w. by (leb (length x) (length part))
-        (λ l. absurd (z (done w l).answer))
+        (λ l. absurd (let d = (done w l).answer in cc))
         (λ l.
         let k = leb-false (length x) (length part) l in
-        record { is = rw (w, short b (omega (arith, long))) (λ i. (11, (0, same (too_long w l).buffer i))) }))
-        (λ w. absurd (f (outside w).answer))
+        let (f, s) = too_long w l in
+        let g : Err e ≡ Err NoRoom = sym z ∙ f in
+        record { is = rw (w, short b (omega (arith, long))) (λ i. (g i, same s i)) }))
+        (λ w. let (f, s) = outside w in let g : Err e ≡ Err OutsideRules = sym z ∙ f in record { is = rw w (λ i. (g i, same s i)) })
 
-    written : a ≡ 0 → (within r ≡ true) × Done
-    written z =
+    is_done : {n : ℕ} → a ≡ Ok n → (within r ≡ true) × Done
+    is_done z =
         by (within r)
         (λ w. by (leb (length x) (length part))
         (λ l. (w, done w l))
-        (λ l. absurd (let e = (too_long w l).answer in omega arith)))
-        (λ w. absurd (let e = (outside w).answer in omega arith))
+        (λ l. absurd (let e = (too_long w l).0 in cc)))
+        (λ w. absurd (let e = (outside w).0 in cc))
 
-    pub marks_done : a ≡ 0 → Marks r b (set (set after 0 0xC3) 1 0x5A) 0 (2 + n)
-    unfolding marked_in marked_octets
-    marks_done z =
-        let (w, d) = written z in
-        let s = d.size in
+    size : {n : ℕ} → a ≡ Ok n → n ≡ length x
+    size z = let e = (is_done z).1.answer in cc
+
+    pub marks_done : {n : ℕ} → a ≡ Ok n → Marks r b (set (set after 0 0xC3) 1 0x5A) (Ok (2 + n))
+    unfolding marked_in written marked_octets
+    marks_done {n} z =
+        let (w, d) = is_done z in
+        let s = size z in
         let f = d.put.fits in
         let e : suc (suc (length x)) ≡ 2 + n = omega arith in
+        let j : 2 + length x ≡ suc (suc (length x)) = omega arith in
         let k : set (set after 0 0xC3) 1 0x5A ≡ 0xC3 ∷ 0x5A ∷ (x ++ drop (suc (suc (length x))) b) =
-        ap (λ (q : List ℕ). set (set q 0 0xC3) 1 0x5A) (d.put.buf ∙ append_assoc (take 2 b) x (drop (2 + n) b))
-        ∙ mark_set b (x ++ drop (2 + n) b) h ∙ ap (λ (j : ℕ). 0xC3 ∷ 0x5A ∷ (x ++ drop j b)) (sym e) in
-        record { is = rw (w, le-leb (length (0xC3 ∷ 0x5A ∷ x)) (length b) (omega arith)) (λ i. (0, (sym e i, k i))) }
+        ap (λ (q : List ℕ). set (set q 0 0xC3) 1 0x5A) (d.put.buf ∙ append_assoc (take 2 b) x (drop (2 + length x) b))
+        ∙ mark_set b (x ++ drop (2 + length x) b) h ∙ ap (λ (j : ℕ). 0xC3 ∷ 0x5A ∷ (x ++ drop j b)) j in
+        record { is = rw (w, le-leb (length (0xC3 ∷ 0x5A ∷ x)) (length b) (omega arith)) (λ i. (Ok (sym e i), k i)) }
 
     -- between the two octets of the mark
-    pub marks_second : a ≡ 0 → 1 < length (set after 0 0xC3)
-    marks_second z = omega (arith, length-set after 0 0xC3, (written z).1.put.same)
+    pub marks_second : {n : ℕ} → a ≡ Ok n → 1 < length (set after 0 0xC3)
+    marks_second z = omega (arith, length-set after 0 0xC3, (is_done z).1.put.same)
 
     -- what was written ends within the buffer
-    pub marks_within : a ≡ 0 → 2 + n ≤ length b
-    marks_within z = (written z).1.put.fits
+    pub marks_within : {n : ℕ} → a ≡ Ok n → 2 + n ≤ length b
+    marks_within z = let s = size z in omega (arith, (is_done z).1.put.fits)

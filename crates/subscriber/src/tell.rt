@@ -2,9 +2,11 @@
 ghost use Rattle.subscriber.specs.declared.Notice.TheVariants as N;
 ghost use Rattle.subscriber.specs.Tell.{Tells};
 ghost use Rattle.subscriber.specs.Private.Able.{Roomy};
-ghost use Rattle.subscriber.specs.Private.Marked.{Emits};
+ghost use Rattle.std.specs.Prelude.{◌≡◌};
+ghost use Rattle.subscriber.specs.Private.Marked.{told_number, Emits};
 
 use crate::{Notice, Subscriber, hear, marked, standing};
+use ber::written::NotWritten;
 use mcdr::{MmRecord, Place, places};
 use profile::Profile;
 
@@ -16,22 +18,31 @@ pub struct Told {
     pub written: usize,
 }
 
-// A subscriber closes a record, and next stands in its slot.
-fn emit(r: MmRecord, s: Subscriber, next: Subscriber, out: &mut [u8]) -> Told
-    ensures { Emits r s next out.old out.new result.answer result.subscriber result.written }
+// The number of a refusal here: a record outside the rules would come of a subscriber that no sound node has.
+fn number(e: NotWritten) -> u8
+    ensures { result ≡ told_number e }
 {
-    let w = marked::mark(r, out);
-    if w.answer != 0 {
-        return Told {
-            answer: w.answer,
+    match e {
+        NotWritten::OutsideRules => 13,
+        NotWritten::NoRoom => 11,
+    }
+}
+
+// A subscriber closes a record, and next stands in its slot.
+fn emit(r: &MmRecord, s: Subscriber, next: Subscriber, out: &mut [u8]) -> Told
+    ensures { Emits r.now s next out.old out.new result.answer result.subscriber result.written }
+{
+    match marked::mark(r, out) {
+        Ok(written) => Told {
+            answer: 0,
+            subscriber: next,
+            written,
+        },
+        Err(e) => Told {
+            answer: number(e),
             subscriber: s,
             written: 0,
-        };
-    }
-    Told {
-        answer: 0,
-        subscriber: next,
-        written: w.n,
+        },
     }
 }
 
@@ -59,7 +70,7 @@ fn moved(p: Profile, s: Subscriber, t: u32, q: Place, out: &mut [u8]) -> Told
     let imsi = s.imsi;
     let r = standing::record_of(p, n, t, 19, false);
     let next = hear::opened(p, imsi, t, q, s.closed + 1);
-    emit(r, s, next, out)
+    emit(&r, s, next, out)
 }
 
 fn managed(p: Profile, s: Subscriber, t: u32, out: &mut [u8]) -> Told
@@ -70,7 +81,7 @@ fn managed(p: Profile, s: Subscriber, t: u32, out: &mut [u8]) -> Told
     let at = hear::place_of(s);
     let r = standing::record_of(p, s, t, 20, false);
     let next = hear::opened(p, imsi, t, at, s.closed + 1);
-    emit(r, s, next, out)
+    emit(&r, s, next, out)
 }
 
 fn detached(p: Profile, s: Subscriber, t: u32, cause: u8, out: &mut [u8]) -> Told
@@ -79,7 +90,7 @@ fn detached(p: Profile, s: Subscriber, t: u32, cause: u8, out: &mut [u8]) -> Tol
 {
     let r = standing::record_of(p, s, t, cause, true);
     let next = crate::no_subscriber();
-    emit(r, s, next, out)
+    emit(&r, s, next, out)
 }
 
 // A subscriber hears something at a time, and writes from the start of out: 13 where it cannot do what it is asked, which no subscriber of

@@ -130,8 +130,9 @@ fn write_records(k: Kept) -> u64 {
         if 64 <= at {
             return sum;
         }
-        let w = scdr::write::write_record(records[at], &mut out);
-        sum = wrapping_add_u64(sum, w.n as u64);
+        if let Ok(n) = scdr::write::write_record(&records[at], &mut out) {
+            sum = wrapping_add_u64(sum, n as u64);
+        }
         i = at + 1;
         calls -= 1;
     }

@@ -11,6 +11,7 @@
 pub mod block;
 
 use crate::lent;
+use ber::written::NotWritten;
 use out::Stream;
 use setup::{Command, is_word};
 use shown::Shown;
@@ -36,18 +37,25 @@ fn line(to: &mut Stream, answer: u8, s: &[u8]) {
 // flags are neither 0 nor 1 is refused: a record can't hold anything else.
 fn write_block(to: &mut Stream, b: &[u8], back: bool) {
     if !back & !block::flags_ok(b) {
-        line(to, 24, b"");
+        refused(to, NotWritten::OutsideRules);
         return;
     }
     let mut out = [0u8; 1024];
-    let w = scdr::write::write_record(block::record_of(b), &mut out);
-    written(to, w.answer, octets::front(&out, w.n), back);
+    match scdr::write::write_record(&block::record_of(b), &mut out) {
+        Ok(n) => written(to, octets::front(&out, n), back),
+        Err(e) => refused(to, e),
+    }
 }
 
-// The octets of an S-CDR, or none and the number of the refusal; what they are read as, and the access point name where it lies in them.
-fn written(to: &mut Stream, answer: u8, s: &[u8], back: bool) {
-    line(to, answer, s);
-    if back & (answer == 0) {
+// The number of a refusal.
+fn refused(to: &mut Stream, e: NotWritten) {
+    line(to, e.number(), b"");
+}
+
+// The octets of an S-CDR; what they are read as, and the access point name where it lies in them.
+fn written(to: &mut Stream, s: &[u8], back: bool) {
+    line(to, 0, s);
+    if back {
         read_one(to, s);
         line(to, 0, scdr::read::apn_part(s));
     }
@@ -67,13 +75,15 @@ fn read_one(to: &mut Stream, s: &[u8]) {
 // One block of an M-CDR, in the same way.
 fn write_mm_block(to: &mut Stream, b: &[u8], back: bool) {
     let mut out = [0u8; 1024];
-    let w = mcdr::write::write_record(block::mm_record_of(b), &mut out);
-    mm_written(to, w.answer, octets::front(&out, w.n), back);
+    match mcdr::write::write_record(&block::mm_record_of(b), &mut out) {
+        Ok(n) => mm_written(to, octets::front(&out, n), back),
+        Err(e) => refused(to, e),
+    }
 }
 
-fn mm_written(to: &mut Stream, answer: u8, s: &[u8], back: bool) {
-    line(to, answer, s);
-    if back & (answer == 0) {
+fn mm_written(to: &mut Stream, s: &[u8], back: bool) {
+    line(to, 0, s);
+    if back {
         read_one_mm(to, s);
     }
 }

@@ -9,20 +9,14 @@ fn row(to: &mut Stream, form: &[u8], n: u64, octets: &[u8]) {
 }
 
 fn integer(to: &mut Stream, v: u64) {
-    let r = ber::int::int_octets(v);
-    let octets = r.octets;
-    row(to, b"integer %k ->%_\n", v, octets::front(&octets, r.n));
+    let octets = ber::int::int_octets(v);
+    row(to, b"integer %k ->%_\n", v, &octets);
 }
 
 fn length(to: &mut Stream, n: usize) {
-    let r = ber::length::len_octets(n);
-    let octets = r.octets;
-    row(
-        to,
-        b"length %k ->%_\n",
-        n as u64,
-        octets::front(&octets, r.n),
-    );
+    if let Some(octets) = ber::length::len_octets(n) {
+        row(to, b"length %k ->%_\n", n as u64, &octets);
+    }
 }
 
 // The offset of a zone is minutes from universal time plus 720.

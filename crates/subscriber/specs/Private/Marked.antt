@@ -1,18 +1,24 @@
 -- A record that closes, written after its mark.
-use Rattle.std.specs.Prelude.{◌≡◌, cond, List, ◌++◌, ℕ, leb, length, drop}
+use Rattle.std.specs.Prelude.{◌≡◌, cond, List, ◌++◌, ℕ, leb, length, drop, Result}
+use Rattle.ber.specs.Written.{written}
+use Rattle.ber.specs.declared.written.NotWritten.{NotWritten}
+use Rattle.ber.specs.declared.written.NotWritten.TheVariants.{OutsideRules, NoRoom}
 use Rattle.mcdr.specs.declared.MmRecord.{MmRecord}
 use Rattle.mcdr.specs.Rules.{within}
 use Rattle.subscriber.specs.declared.Subscriber.{Subscriber}
 use Rattle.subscriber.specs.Tell.{marked_octets}
 
--- from the start of a buffer: the answer, how many octets these are, and the buffer
-unfoldable pub marked_in : MmRecord → List ℕ → ℕ × (ℕ × List ℕ)
-marked_in r b =
-    let x = marked_octets r in
-    cond (within r) (cond (leb (length x) (length b)) (0, (length x, x ++ drop (length x) b)) (11, (0, b))) (13, (0, b))
+-- from the start of a buffer: how many octets these are, or why there are none; and the buffer
+unfoldable pub marked_in : MmRecord → List ℕ → Result ℕ NotWritten × List ℕ
+marked_in r b = written (within r) (marked_octets r) b
 
-pub record Marks (r : MmRecord) (b b' : List ℕ) (answer n : ℕ) : Type 0 where
-  pub is : ◌≡◌ {A = ℕ × (ℕ × List ℕ)} (answer, (n, b')) (marked_in r b)
+pub record Marks (r : MmRecord) (b b' : List ℕ) (answer : Result ℕ NotWritten) : Type 0 where
+  pub is : ◌≡◌ {A = Result ℕ NotWritten × List ℕ} (answer, b') (marked_in r b)
+
+-- the number of a refusal: 13 where the record is outside the rules
+abbrev pub told_number : NotWritten → ℕ
+told_number OutsideRules = 13
+told_number NoRoom = 11
 
 -- the same, with the subscriber that closes it, and what stands after that
 unfoldable pub emit_of : MmRecord → Subscriber → Subscriber → List ℕ → ℕ × (Subscriber × (ℕ × List ℕ))

@@ -1,15 +1,24 @@
 -- `ber::length::len_octets` meets its contract: a law for each form.
-use Rattle.ber.proofs.Lengths.{holds_1, holds_2, holds_3, holds_0}
+use mathlib.Core.Path.{◌≡◌, ◌∙◌, sym}
+use Prim.Native.Nat.{◌%◌}
+use native.Mathlib.Omega.{arith}
+use Rattle.ber.proofs.Lengths.{len_1, len_2, len_3}
 use Rattle.ber.proofs.length.len_octets.Goals as goal
-
-pub returns-then-len-lt128 : goal.returns-then-len-lt128
-returns-then-len-lt128 c = holds_1 c.args.len c.if-len-lt128.true
-
-pub returns-then-len-lt256 : goal.returns-then-len-lt256
-returns-then-len-lt256 c = holds_2 c.args.len c.if-len-lt128.false c.if-len-lt256.true
-
-pub returns-then-len-lt65536 : goal.returns-then-len-lt65536
-returns-then-len-lt65536 c = holds_3 c.args.len c.if-len-lt256.false c.if-len-lt65536.true
+use Rattle.ber.proofs.length.len_octets.Goals.{then-len-ge256, else-len-ge256+then-len-ge128, else-len-ge256+else-len-ge128}
 
 pub returns : goal.returns
-returns c = holds_0 c.args.len c.if-len-lt65536.false
+returns c =
+    let n = c.args.len in (
+      omega arith,
+      c.push-2.ensures.items ∙
+          elim c.if-len-ge256.branch [
+            | then-len-ge256 w ↦
+                rw (w.octets-is, w.push-then-len-ge256.ensures.items, w.push.ensures.items, c.new-octets.ensures) (sym (len_3 n (omega arith)))
+            | else-len-ge256+then-len-ge128 w ↦
+                let e : n % 256 ≡ n = omega arith in
+                rw (w.octets-is, w.push-then-len-ge128.ensures.items, c.new-octets.ensures, e) (sym (len_2 n (omega arith) (omega arith)))
+            | else-len-ge256+else-len-ge128 w ↦
+                let e : n % 256 ≡ n = omega arith in
+                rw (w.octets-is, c.new-octets.ensures, e) (sym (len_1 n (omega arith)))
+          ],
+    )

@@ -6,8 +6,5 @@ use Rattle.ber.proofs.tlv.put_all.Goals as goal
 pub returns-then-out-at : goal.returns-then-out-at
 returns-then-out-at c = puts_full (omega arith)
 
-pub returns-then-out-at-2 : goal.returns-then-out-at-2
-returns-then-out-at-2 c = puts_full (omega arith)
-
 pub returns : goal.returns
 returns c = puts (put_over c.args.out.now c.args.at _ (omega arith) (omega arith) c.copy_from_slice.ensures.after)

@@ -1,73 +1,48 @@
 -- `ber::tlv::put_tlv` meets its contract: with room for the whole, tag, length and contents are put one after another.
-use mathlib.Core.Path.{sym, ap}
+use mathlib.Core.Path.{sym, ap, ◌∙◌}
 use mathlib.Core.List.{List, ◌∷◌, ◌++◌}
 use Prim.Native.Nat.{ℕ}
 use native.Mathlib.Omega.{arith}
 use lib.ListN.{length}
+use Rattle.std.specs.Prelude.{Option, Some}
 use Rattle.ber.specs.Tlv.{tlv_enc}
-use Rattle.ber.proofs.Tlvs.{tlv_yes, tlv_no, tlv_length, len_most, len_none, len_heads}
-use Rattle.ber.proofs.Writers.{puts, puts_full, puts_none, puts_is, puts_room, put_is, puts_then, holds_room}
+use Rattle.ber.proofs.Tlvs.{tlv_yes, tlv_no, tlv_length, head_length}
+use Rattle.ber.proofs.Writers.{puts_full, puts_none, puts_is, puts_room, puts_then, puts_next, puts_lost}
 use Rattle.ber.proofs.tlv.put_tlv.Goals as goal
+use Rattle.ber.proofs.tlv.put_tlv.Goals.{then-out-at-via-then-out-at, then-out-at-via-else-out-at+then-out-at-2}
 
 pub returns-then-src-lt128 : goal.returns-then-src-lt128
 returns-then-src-lt128 c = c.put_short.ensures
 
-pub returns-then-n-eq0 : goal.returns-then-n-eq0
-returns-then-n-eq0 c =
-    let a = c.args in puts_is
-    (sym (tlv_no a.tag a.src.now (len_none (length a.src.now) c.len_octets-l.ensures c.if-n-eq0.true))) puts_none
+pub returns-in_err-l : goal.returns-in_err-l
+returns-in_err-l c = rw c.from_residual.ensures (puts_is (sym (tlv_no c.args.tag c.args.src.now c.in_err-l.ensures)) puts_none)
 
 pub returns-then-out-at : goal.returns-then-out-at
 returns-then-out-at c =
     let a = c.args in
-    let h = len_heads (length a.src.now) c.len_octets-l.ensures c.if-n-eq0.false in
-    puts_is (sym (tlv_yes a.tag a.src.now h.short)) (puts_full (omega arith))
+    let h = head_length (length a.src.now) c.in_ok-l.ensures.1 in
+    puts_is (sym (tlv_yes a.tag a.src.now c.in_ok-l.ensures.0)) (puts_full
+    (elim c.then-out-at.branch [
+      | then-out-at-via-then-out-at w ↦ omega arith
+      | then-out-at-via-else-out-at+then-out-at-2 w ↦ omega (arith, h, tlv_length a.tag a.src.now, w.len.ensures.value)
+    ]))
 
-pub overflow_add-n : goal.overflow_add-n
-overflow_add-n c =
-    omega (
-      arith,
-      len_most (length c.args.src.now)
-          c.len_octets-l.ensures,
-    )
+pub returns-in_err-a : goal.returns-in_err-a
+returns-in_err-a c = absurd (puts_lost (omega arith) c.in_err-a.ensures)
 
-pub overflow_add-n-2 : goal.overflow_add-n-2
-overflow_add-n-2 c =
-    let m = length c.args.src.now in
-    omega (
-      arith,
-      len_most m c.len_octets-l.ensures,
-      (len_heads m c.len_octets-l.ensures
-          c.if-n-eq0.false).short,
-    )
-
-pub returns-then-out-at-2 : goal.returns-then-out-at-2
-returns-then-out-at-2 c =
-    let a = c.args in
-    let h = len_heads (length a.src.now) c.len_octets-l.ensures c.if-n-eq0.false in
-    puts_is (sym (tlv_yes a.tag a.src.now h.short)) (puts_full (omega (arith, h.size, tlv_length a.tag a.src.now)))
-
-pub slice_bounds-octets-end : goal.slice_bounds-octets-end
-slice_bounds-octets-end c = holds_room c.len_octets-l.ensures
-
-pub slice_bounds-put_all-end-2 : goal.slice_bounds-put_all-end-2
-slice_bounds-put_all-end-2 c =
-    sym (len_heads (length
-    c.args.src.now)
-    c.len_octets-l.ensures
-    c.if-n-eq0.false).count
+pub returns-in_err-b : goal.returns-in_err-b
+returns-in_err-b c =
+    let p = puts_room (omega arith) c.in_ok-a.ensures in
+    absurd (puts_lost (omega (arith, p.end, p.same, ap length c.deref.ensures.0)) c.in_err-b.ensures)
 
 pub returns : goal.returns
 unfolding tlv_enc
 returns c =
-    let a =
-    c.args in
-    let l =
-    c.len_octets-l in
-    let h =
-    len_heads (length a.src.now) l.ensures
-    c.if-n-eq0.false in
-    let p = puts_room (omega arith) c.put_all-a.ensures in
-    let q = puts_then (omega (arith, h.count)) p c.put_all-b.ensures in
-    let r = puts_then (omega (arith, h.count)) q c.put_all.ensures in
-    puts_is (sym (tlv_yes a.tag a.src.now h.short)) (puts (put_is (ap (λ (z : List ℕ). a.tag ∷ (z ++ a.src.now)) h.octets) r))
+    let a = c.args in
+    let l = c.in_ok-l.ensures in
+    let d = c.deref.ensures.0 in
+    let n = ap length d in
+    let p = puts_room (omega arith) c.in_ok-a.ensures in
+    let q = puts_then (omega (arith, n)) p c.in_ok-b.ensures in
+    let r = puts_next c.put_all-3.result (omega (arith, n)) q c.put_all-3.ensures in
+    puts_is (ap {B = Option (List ℕ)} (λ (z : List ℕ). Some (a.tag ∷ (z ++ a.src.now))) (d ∙ l.1) ∙ sym (tlv_yes a.tag a.src.now l.0)) r

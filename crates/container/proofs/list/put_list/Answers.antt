@@ -1,113 +1,71 @@
--- `container::list::put_list` meets its contract. The loop's invariant: the first i containers have their forms, which stand at the front
+-- `container::list::put_list` meets its contract. The loop's invariant: the containers passed have their forms, which stand at the front
 -- of the array; each is written into the part after them.
-use mathlib.Core.Path.{◌≡◌, refl, ◌∙◌}
+use mathlib.Core.Path.{◌≡◌, refl, sym, ap, ◌∙◌}
 use mathlib.Core.Bool.{◌&&◌}
-use Prim.Native.Nat.{◌≤◌}
 use native.Mathlib.Omega.{arith}
 use lib.Dec.{leb}
-use lib.ListN.{length, take}
-use borrow.Author.Rules.{rules}
+use lib.ListN.{take}
+use lib.Seq.{length-take-le, take-take}
 use Rattle.ber.proofs.Writers.{puts_is}
-use Rattle.ber.proofs.Runs.{filling_none, filling_room, filling_more, filling_bad, filling_ok, filling_all}
+use Rattle.ber.proofs.Runs.{filling_none, filling_room, filling_more, filling_bad, filling_ok, filling_all, filling_inside}
 use Rattle.ber.proofs.Ready.{puts_not, ready, filled_count}
 use Rattle.container.specs.Container.{no_container}
 use Rattle.container.specs.List.{all_formed, containers}
 use Rattle.container.proofs.Lists.{listing, writing, few, many, right}
 use Rattle.container.proofs.list.put_list.Goals as goal
+use Rattle.container.proofs.list.put_list.Goals.{then-n-lt1-via-then-n-lt1, then-n-lt1-via-else-n-lt1+then-n-gt15}
 
 pub returns-then-n-lt1 : goal.returns-then-n-lt1
 returns-then-n-lt1 c =
     let a = c.args in
-    puts_not (leb 1 a.n && leb a.n 15 && all_formed no_container (take a.n a.v)) _ (few a.n _ c.if-n-lt1.true)
+    puts_not (leb 1 a.n && leb a.n 15 && all_formed no_container (take a.n a.v.now)) _
+    (elim c.then-n-lt1.branch [
+      | then-n-lt1-via-then-n-lt1 w ↦ few a.n _ w.if-n-lt1.true
+      | then-n-lt1-via-else-n-lt1+then-n-gt15 w ↦ many a.n _ (omega arith) w.if-n-gt15.true
+    ])
 
-pub returns-then-n-gt15 : goal.returns-then-n-gt15
-returns-then-n-gt15 c =
+pub loop-c-init : goal.loop-c-init
+loop-c-init c = filling_none listing writing _ _ _ refl c.no_container-last.ensures
+
+pub returns-in_err-end : goal.returns-in_err-end
+returns-in_err-end c =
     let a = c.args in
-    puts_not (leb 1 a.n && leb a.n 15 && all_formed no_container (take a.n a.v)) _
-    (many a.n _ (omega (arith, c.if-n-lt1.false)) c.if-n-gt15.true)
-
-pub loop-i-init : goal.loop-i-init
-loop-i-init c = (omega arith, filling_none listing writing c.args.v _ _ refl c.no_container-last.ensures)
-
-pub returns-then-k : goal.returns-then-k
-returns-then-k c =
-    let a = c.args in
-    let l = c.loop-i in
-    let z : length a.v ≡ 15 = search rules in
-    puts_not (leb 1 a.n && leb a.n 15 && all_formed no_container (take a.n a.v)) _
-    (right a.n _ (omega (arith, c.if-n-lt1.false))
-    (omega (arith, c.if-n-gt15.false))
-    ∙ filling_bad listing writing l.invariant.1 _ (omega (
-      arith,
-      c.loop-i-test.true,
-      c.if-n-gt15.false,
-    ))
-    (omega (
-      arith,
-      c.loop-i-test.true,
-      c.if-n-gt15.false,
-    )) c.put_container-k.ensures a.n
-    c.loop-i-test.true
-    (omega (arith, c.if-n-gt15.false)) (omega arith) c.if-k.true)
+    let k = length-take-le a.n a.v.now (omega arith) in
+    rw c.from_residual.ensures
+    (puts_not (leb 1 a.n && leb a.n 15 && all_formed no_container (take a.n a.v.now)) _
+    (right a.n _ (omega arith) (omega arith)
+    ∙ ap (all_formed no_container) (sym (take-take a.n a.n a.v.now (omega arith)))
+    ∙ filling_bad listing writing c.loop-c.invariant _ (omega arith) (omega arith) c.in_err-end.ensures a.n (omega arith) (omega arith)))
 
 pub overflow_add-end : goal.overflow_add-end
 overflow_add-end c =
-    let a = c.args in
-    let l = c.loop-i in
-    let z : length a.v ≡ 15 = search rules in
-    omega (
-      arith,
-      filling_room listing writing l.invariant.1 _ (omega (
-        arith,
-        c.loop-i-test.true,
-        c.if-n-gt15.false,
-      ))
-          (omega (
-            arith,
-            c.loop-i-test.true,
-            c.if-n-gt15.false,
-          )) c.put_container-k.ensures c.if-k.false,
-    )
+    let k = length-take-le c.args.n c.args.v.now (omega arith) in
+    omega (arith, filling_room listing writing c.loop-c.invariant _ (omega arith) (omega arith) c.in_ok-end.ensures)
 
-pub loop-i-preserved : goal.loop-i-preserved
-loop-i-preserved c =
-    let a = c.args in
-    let l = c.loop-i in
-    let z : length a.v ≡ 15 = search rules in (
-      omega arith,
-      filling_more listing writing l.invariant.1 _ (omega (
-        arith,
-        c.loop-i-test.true,
-        c.if-n-gt15.false,
-      ))
-          (omega (
-            arith,
-            c.loop-i-test.true,
-            c.if-n-gt15.false,
-          )) c.put_container-k.ensures c.if-k.false,
-    )
+pub loop-c-preserved : goal.loop-c-preserved
+loop-c-preserved c =
+    let k = length-take-le c.args.n c.args.v.now (omega arith) in
+    filling_more listing writing c.loop-c.invariant _ (omega arith) (omega arith) c.in_ok-end.ensures
 
 pub slice_bounds-list-end-2 : goal.slice_bounds-list-end-2
-slice_bounds-list-end-2 c = omega (arith, c.loop-i.invariant.1.short, c.loop-i.invariant.1.size)
+slice_bounds-list-end-2 c =
+    let k = length-take-le c.args.n c.args.v.now (omega arith) in
+    filling_inside listing writing c.loop-c.invariant c.args.n (omega arith) (omega arith)
 
 pub slice_bounds-put_tlv-end : goal.slice_bounds-put_tlv-end
 slice_bounds-put_tlv-end c =
-    let a = c.args in
-    let l = c.loop-i in
-    let z : length a.v ≡ 15 = search rules in
-    let h : a.n ≤ 15 = omega (arith, c.if-n-gt15.false) in
-    filled_count (filling_all listing writing l.invariant.1 a.n (omega arith) h)
+    let k = length-take-le c.args.n c.args.v.now (omega arith) in
+    filled_count (filling_all listing writing c.loop-c.invariant c.args.n (omega arith) (omega arith))
 
 pub returns : goal.returns
 unfolding containers
 returns c =
     let a = c.args in
-    let l = c.loop-i in
-    let z : length a.v ≡ 15 = search rules in
-    let g : 1 ≤ a.n = omega (arith, c.if-n-lt1.false) in
-    let h : a.n ≤ 15 = omega (arith, c.if-n-gt15.false) in
-    let f = filling_all listing writing l.invariant.1 a.n (omega arith) h in
+    let k = length-take-le a.n a.v.now (omega arith) in
+    let e : c.loop-c.c-index ≡ a.n = omega arith in
+    let w = take-take a.n a.n a.v.now (omega arith) in
+    let f = rw w at (filling_all listing writing c.loop-c.invariant a.n e (omega arith)) in
     puts_is
-    (ready (leb 1 a.n && leb a.n 15 && all_formed no_container (take a.n a.v)) a.tag
-    (right a.n _ g h ∙ filling_ok listing writing l.invariant.1 a.n (omega arith)) f.front (omega (arith, f.most)))
+    (ready (leb 1 a.n && leb a.n 15 && all_formed no_container (take a.n a.v.now)) a.tag
+    (right a.n _ (omega arith) (omega arith) ∙ rw w at (filling_ok listing writing c.loop-c.invariant a.n e)) f.front (omega (arith, f.most)))
     c.put_tlv.ensures

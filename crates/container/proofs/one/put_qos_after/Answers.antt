@@ -1,7 +1,8 @@
 -- `container::one::put_qos_after` meets its contract: a profile under its tag, or nothing.
 use mathlib.Core.Path.{◌∙◌, sym}
-use Rattle.ber.proofs.Writers.{puts_is}
-use Rattle.container.proofs.Fields.{form_own, form_none, nothing_front}
+use native.Mathlib.Omega.{arith}
+use Rattle.ber.proofs.Writers.{puts_is, puts, put_nothing}
+use Rattle.container.proofs.Fields.{form_own, form_none}
 use Rattle.container.proofs.one.put_qos_after.Goals as goal
 
 pub returns-then-is_new : goal.returns-then-is_new
@@ -13,4 +14,4 @@ returns-then-is_new c =
 pub returns : goal.returns
 returns c =
     let a = c.args in
-    puts_is (form_none a.last a.q (sym c.is_new.ensures ∙ c.if-is_new.false)) nothing_front
+    puts_is (form_none a.last a.q (sym c.is_new.ensures ∙ c.if-is_new.false)) (puts (put_nothing (omega arith)))

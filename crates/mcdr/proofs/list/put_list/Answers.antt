@@ -1,100 +1,80 @@
--- `mcdr::list::put_list` meets its contract. The loop's invariant: the first i changes stand at the front of the array; each is written into
+-- `mcdr::list::put_list` meets its contract. The loop's invariant: the changes passed stand at the front of the array; each is written into
 -- the part after them.
-use mathlib.Core.Path.{◌≡◌, refl, ap, ◌∙◌}
-use Prim.Native.Nat.{◌≤◌, ◌<◌}
+use mathlib.Core.Path.{◌≡◌, refl, sym, ap, ◌∙◌}
 use native.Mathlib.Omega.{arith}
-use lib.ListN.{length}
-use borrow.Author.Rules.{rules}
+use lib.Seq.{length-take-le, take-take}
 use Rattle.ber.specs.Tlv.{tlv_form}
 use Rattle.ber.proofs.Tlvs.{tlv_yes}
-use Rattle.ber.proofs.Writers.{puts_is, puts_none, puts_nothing}
+use Rattle.ber.proofs.Writers.{puts_is, puts_none}
 use Rattle.ber.proofs.Ready.{filled_count}
-use Rattle.ber.proofs.Runs.{filling_none, filling_room, filling_more, filling_bad, filling_ok, filling_all}
+use Rattle.ber.proofs.Runs.{filling_none, filling_room, filling_more, filling_bad, filling_ok, filling_all, filling_inside}
 use Rattle.mcdr.specs.Change.{no_change}
 use Rattle.mcdr.specs.Changes.{changes}
 use Rattle.mcdr.proofs.Lists.{listing, writing, form_none, form_many, form_bad, form_some}
 use Rattle.mcdr.proofs.list.put_list.Goals as goal
 
 pub returns-then-n-eq0 : goal.returns-then-n-eq0
-returns-then-n-eq0 c =
-    let a = c.args in
-    puts_is (form_none a.tag a.n a.v c.if-n-eq0.true) (rw c.stay.ensures puts_nothing)
+returns-then-n-eq0 c = let a = c.args in puts_is (form_none a.tag a.n a.v.now c.if-n-eq0.true) c.put_all.ensures
 
 pub returns-then-n-gt15 : goal.returns-then-n-gt15
-returns-then-n-gt15 c =
-    let a = c.args in
-    puts_is (form_many a.tag a.n a.v c.if-n-eq0.false c.if-n-gt15.true) puts_none
+returns-then-n-gt15 c = let a = c.args in puts_is (form_many a.tag a.n a.v.now c.if-n-eq0.false c.if-n-gt15.true) puts_none
 
-pub loop-i-init : goal.loop-i-init
-loop-i-init c = (omega arith, (no_change, filling_none listing writing c.args.v _ no_change refl refl))
+pub loop-c-init : goal.loop-c-init
+loop-c-init c = (no_change, filling_none listing writing _ _ no_change refl refl)
 
 pub slice_bounds-put_change-count : goal.slice_bounds-put_change-count
 slice_bounds-put_change-count c =
-    let f = c.loop-i.invariant.1.1 in
-    omega (arith, f.short, f.size, c.loop-i-test.true, c.if-n-gt15.false)
+    let k = length-take-le c.args.n c.args.v.now (omega arith) in
+    omega (arith, filling_inside listing writing c.loop-c.invariant.1 _ refl (omega arith), c.loop-c.invariant.1.size)
 
 pub slice_bounds-list-start : goal.slice_bounds-list-start
 slice_bounds-list-start c =
-    let f = c.loop-i.invariant.1.1 in
-    omega (arith, f.short, f.size, c.loop-i-test.true, c.if-n-gt15.false)
+    let k = length-take-le c.args.n c.args.v.now (omega arith) in
+    omega (arith, filling_inside listing writing c.loop-c.invariant.1 _ refl (omega arith), c.loop-c.invariant.1.size)
 
 pub slice_bounds-list-end : goal.slice_bounds-list-end
-slice_bounds-list-end c = let f = c.loop-i.invariant.1.1 in omega (arith, f.short, f.size)
+slice_bounds-list-end c =
+    let k = length-take-le c.args.n c.args.v.now (omega arith) in
+    omega (arith, filling_inside listing writing c.loop-c.invariant.1 _ refl (omega arith), c.loop-c.invariant.1.size)
 
-pub returns-then-k : goal.returns-then-k
-returns-then-k c =
-    let long : length c.args.v ≡ 15 =
-    search rules in
-    let few = c.if-n-gt15.false in
+pub returns-in_err-end : goal.returns-in_err-end
+returns-in_err-end c =
     let a = c.args in
-    let l = long in
-    let h : a.n ≤ 15 = omega (arith, few) in
-    let i : c.loop-i.i < 15 = omega (arith, c.loop-i-test.true) in
-    puts_is (form_bad a.tag a.n a.v c.if-n-eq0.false h
-    (filling_bad listing writing c.loop-i.invariant.1.1 _ (omega arith) i c.put_change-k.ensures a.n c.loop-i-test.true
-    (omega arith) (omega arith) c.if-k.true)) puts_none
+    let k = length-take-le a.n a.v.now (omega arith) in
+    rw c.from_residual.ensures
+    (puts_is (form_bad a.tag a.n a.v.now c.if-n-eq0.false (omega arith)
+    (ap (writing.all no_change) (sym (take-take a.n a.n a.v.now (omega arith)))
+    ∙ filling_bad listing writing c.loop-c.invariant.1 _ (omega arith) (omega arith) c.in_err-end.ensures a.n (omega arith) (omega arith))) puts_none)
 
 pub overflow_add-end : goal.overflow_add-end
 overflow_add-end c =
-    let long : length c.args.v ≡ 15 =
-    search rules in
-    let few = c.if-n-gt15.false in
-    let l = long in
-    let i : c.loop-i.i < 15 = omega (arith, c.loop-i-test.true) in
-    omega (arith, filling_room listing writing c.loop-i.invariant.1.1 _ (omega arith) i c.put_change-k.ensures c.if-k.false)
+    let k = length-take-le c.args.n c.args.v.now (omega arith) in
+    omega (arith, filling_room listing writing c.loop-c.invariant.1 _ (omega arith) (omega arith) c.in_ok-end.ensures)
 
-pub loop-i-preserved : goal.loop-i-preserved
-loop-i-preserved c =
-    let long : length c.args.v ≡ 15 =
-    search rules in
-    let few = c.if-n-gt15.false in
-    let l = long in
-    let i : c.loop-i.i < 15 = omega (arith, c.loop-i-test.true) in (
-      omega (arith, c.loop-i-test.true),
-      (_, filling_more listing writing c.loop-i.invariant.1.1 _ (omega arith) i c.put_change-k.ensures c.if-k.false),
-    )
+pub loop-c-preserved : goal.loop-c-preserved
+loop-c-preserved c =
+    let k = length-take-le c.args.n c.args.v.now (omega arith) in
+    (_, filling_more listing writing c.loop-c.invariant.1 _ (omega arith) (omega arith) c.in_ok-end.ensures)
 
 pub slice_bounds-list-end-2 : goal.slice_bounds-list-end-2
 slice_bounds-list-end-2 c =
-    let few = c.if-n-gt15.false in
-    let i = c.loop-i.invariant.0 in
-    omega (arith, c.loop-i.invariant.1.1.short, c.loop-i.invariant.1.1.size)
+    let k = length-take-le c.args.n c.args.v.now (omega arith) in
+    filling_inside listing writing c.loop-c.invariant.1 c.args.n (omega arith) (omega arith)
 
 pub slice_bounds-put_tlv-end : goal.slice_bounds-put_tlv-end
 slice_bounds-put_tlv-end c =
-    let a = c.args in
-    let few = c.if-n-gt15.false in
-    filled_count (filling_all listing writing c.loop-i.invariant.1.1 a.n (omega (arith, c.loop-i-test.false, c.loop-i.invariant.0))
-    (omega (arith, few)))
+    let k = length-take-le c.args.n c.args.v.now (omega arith) in
+    filled_count (filling_all listing writing c.loop-c.invariant.1 c.args.n (omega arith) (omega arith))
 
 pub returns : goal.returns
 unfolding changes
 returns c =
     let a = c.args in
-    let few = c.if-n-gt15.false in
-    let all : c.loop-i.i ≡ a.n = omega (arith, c.loop-i-test.false, c.loop-i.invariant.0) in
-    let f = filling_all listing writing c.loop-i.invariant.1.1 a.n all (omega (arith, few)) in
+    let k = length-take-le a.n a.v.now (omega arith) in
+    let e : c.loop-c.c-index ≡ a.n = omega arith in
+    let w = take-take a.n a.n a.v.now (omega arith) in
+    let f = rw w at (filling_all listing writing c.loop-c.invariant.1 a.n e (omega arith)) in
     puts_is
     (ap (tlv_form a.tag) f.front ∙ tlv_yes a.tag _ (omega (arith, f.most))
-    ∙ form_some a.tag a.n a.v c.if-n-eq0.false (omega (arith, few)) (filling_ok listing writing c.loop-i.invariant.1.1 a.n all))
+    ∙ form_some a.tag a.n a.v.now c.if-n-eq0.false (omega arith) (rw w at (filling_ok listing writing c.loop-c.invariant.1 a.n e)))
     c.put_tlv.ensures

@@ -3,15 +3,30 @@ use mathlib.Core.Path.{refl}
 use Rattle.format.proofs.Maybe.{guard_yes}
 use Rattle.ber.specs.Table.{row_enc}
 use Rattle.ber.specs.Imsi.{imsi_ok}
-use Rattle.ber.proofs.Writers.{wrote, wrote_then, wrote_none}
 use Rattle.mcdr.specs.Table.{Imsi}
+use Rattle.ber.proofs.Writers.{wrote, wrote_then, wrote_cut, wrote_last}
 use Rattle.mcdr.proofs.parts.put_front.Goals as goal
+
+pub returns-in_err-at : goal.returns-in_err-at
+returns-in_err-at c =
+    rw c.from_residual.ensures (wrote_cut _ (wrote refl c.in_err-at.ensures))
+
+pub returns-in_err-at-2 : goal.returns-in_err-at-2
+returns-in_err-at-2 c =
+    rw c.from_residual-in_err-at-2.ensures (wrote_then (wrote refl c.in_ok-at.ensures) (wrote_cut _ (wrote (guard_yes (imsi_ok c.args.imsi) (row_enc Imsi c.args.imsi) c.requires) c.in_err-at-2.ensures)))
+
+pub returns-in_err-at-3 : goal.returns-in_err-at-3
+returns-in_err-at-3 c =
+    rw c.from_residual-in_err-at-3.ensures (wrote_then (wrote refl c.in_ok-at.ensures) (wrote_then (wrote (guard_yes (imsi_ok c.args.imsi) (row_enc Imsi c.args.imsi) c.requires) c.in_ok-at-2.ensures) (wrote_cut _ (wrote refl c.in_err-at-3.ensures))))
+
+pub returns-in_err-at-4 : goal.returns-in_err-at-4
+returns-in_err-at-4 c =
+    rw c.from_residual-in_err-at-4.ensures (wrote_then (wrote refl c.in_ok-at.ensures) (wrote_then (wrote (guard_yes (imsi_ok c.args.imsi) (row_enc Imsi c.args.imsi) c.requires) c.in_ok-at-2.ensures) (wrote_then (wrote refl c.in_ok-at-3.ensures) (wrote_cut _ (wrote refl c.in_err-at-4.ensures)))))
 
 pub returns : goal.returns
 returns c =
-    let v = c.args.imsi in
-    wrote_then (wrote refl c.put_octet-imsi_at.ensures)
-    (wrote_then (wrote (guard_yes (imsi_ok v) (row_enc Imsi v) c.requires) c.put_imsi-sgsn_at.ensures)
-    (wrote_then (wrote refl c.put_address-rac_at.ensures)
-    (wrote_then (wrote refl c.put_octet-lac_at.ensures)
-    (wrote_then (wrote refl c.put_two_octets.ensures) wrote_none))))
+    wrote_then (wrote refl c.in_ok-at.ensures)
+    (wrote_then (wrote (guard_yes (imsi_ok c.args.imsi) (row_enc Imsi c.args.imsi) c.requires) c.in_ok-at-2.ensures)
+    (wrote_then (wrote refl c.in_ok-at-3.ensures)
+    (wrote_then (wrote refl c.in_ok-at-4.ensures)
+    ((wrote_last (wrote refl c.put_two_octets.ensures))))))

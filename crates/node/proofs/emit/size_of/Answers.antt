@@ -5,7 +5,7 @@ use Rattle.format.proofs.Arrays.{length_of_map}
 use Rattle.node.specs.Private.Premises.{ReportFits}
 use Rattle.node.proofs.Fits.{apt_grows}
 use Rattle.node.proofs.ClosedRecord.{closed_within}
-use Rattle.node.proofs.Emits.{counts_closes, counts_on}
+use Rattle.node.proofs.Emits.{has_size, counts_closes, counts_on}
 use borrow.Author.Rules.{rules}
 use Rattle.node.proofs.emit.size_of.Goals as goal
 
@@ -14,6 +14,17 @@ cause_of-requires c = (apt_grows c.args.p c.args.g c.args.t c.args.c c.requires.
 
 pub closed_by-requires : goal.closed_by-requires
 closed_by-requires c = apt_grows c.args.p c.args.g c.args.t c.args.c c.requires.sound_context
+
+pub unwrap-requires : goal.unwrap-requires
+unwrap-requires c =
+    let placed : length c.args.c.current.containers ≡ 15 =
+    search (rules, length_of_map, c.well_formed.1.1.0.1.1.1.1.1.1.1.1.1.1.1.0.1.1.1.1.1.1) in
+    let small : ReportFits c.args.m =
+    record { up = search rules; down = search rules } in
+    let a = c.args in
+    let e = sym c.in-Some.ensures in
+    has_size a.p a.g a.c a.t a.m e c.closed_by.ensures
+    (closed_within a.p a.g a.t a.c c.requires.sound_context placed a.m c.requires.in_range small _ e) c.record_size.ensures
 
 pub returns-in-Some : goal.returns-in-Some
 returns-in-Some c =
@@ -24,7 +35,7 @@ returns-in-Some c =
     let a = c.args in
     let e = sym c.in-Some.ensures in
     counts_closes a.p a.g a.c a.t a.m e c.closed_by.ensures
-    (closed_within a.p a.g a.t a.c c.requires.sound_context placed a.m c.requires.in_range small _ e) c.record_size.ensures
+    (closed_within a.p a.g a.t a.c c.requires.sound_context placed a.m c.requires.in_range small _ e) c.record_size.ensures c.unwrap.ensures
 
 pub returns-in-None : goal.returns-in-None
 returns-in-None c =

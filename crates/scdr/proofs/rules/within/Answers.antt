@@ -13,7 +13,7 @@ slice_bounds-imsi_size-end c = search rules
 
 pub returns : goal.returns
 returns c =
-    let r = c.args.r in
+    let r = c.args.r.now in
     within_is r (ap (λ (n : ℕ). not (eqb n 0)) c.imsi_size-imsi.ensures ∙ imsi_room_lem r.imsi) c.apn_ok-name.ensures
     c.stamp_within-time.ensures c.list_ok.ensures c.unused_blank.ensures
     c.cause_ok-cause.ensures c.number_ok-number.ensures c.change_ok-change.ensures c.node_ok-node.ensures

@@ -1,73 +1,36 @@
 -- `scdr::write::write_record` meets its contract: outside the rules, without room, and written.
-use mathlib.Core.Path.{◌≡◌, sym, ap, ◌∙◌}
-use mathlib.Core.Bool.{true}
-use native.Mathlib.Omega.{arith}
+use mathlib.Core.Path.{sym, subst, ◌∙◌, refl}
 use lib.Dec.{T}
-use lib.ListN.{length}
-use borrow.Author.Rules.{rules as searching}
-use Rattle.format.proofs.Tests.{and_i, true_T}
-use Rattle.ber.proofs.Writers.{puts_is, filled}
-use Rattle.scdr.specs.Rules.{shaped, within}
-use Rattle.scdr.specs.Layout.{rules}
-use Rattle.format.proofs.Arrays.{length_of_map}
-use Rattle.scdr.proofs.Answering.{shaped_is, writes_outside, body_short, octets_form, writes_full, writes_done}
+use Rattle.format.proofs.Tests.{true_T}
+use Rattle.ber.proofs.Writers.{puts_is}
+use Rattle.ber.proofs.Ready.{filled_count, ready_as, made_ready}
+use Rattle.scdr.specs.Rules.{within}
+use Rattle.scdr.proofs.Answering.{writes_outside, octets_form, octets_short, writes_put}
 use Rattle.scdr.proofs.write.write_record.Goals as goal
 
-pub returns-then-not-within : goal.returns-then-not-within
-returns-then-not-within c = writes_outside c.args.r _ (sym c.within.ensures ∙ c.if-not-within.true)
+pub returns-then-not-within-clause-writes : goal.returns-then-not-within-clause-writes
+returns-then-not-within-clause-writes c = writes_outside c.args.r.now _ (sym c.within.ensures ∙ c.if-not-within.true)
 
-pub put_body-n-requires : goal.put_body-n-requires
-put_body-n-requires c = true_T (within c.args.r) (sym c.within.ensures ∙ c.if-not-within.false)
+pub returns-then-not-within-clause-short : goal.returns-then-not-within-clause-short
+returns-then-not-within-clause-short c = λ w. absurd (subst T (sym c.within.ensures ∙ c.if-not-within.true) w)
+
+pub put_body-requires : goal.put_body-requires
+put_body-requires c = (refl, true_T (within c.args.r.now) (sym c.within.ensures ∙ c.if-not-within.false))
+
+pub unwrap-n-requires : goal.unwrap-n-requires
+unwrap-n-requires c = made_ready _ _ _ c.put_body.result c.put_body.ensures
 
 pub slice_bounds-b-end : goal.slice_bounds-b-end
-slice_bounds-b-end c =
-    let known : T (shaped c.args.r) =
-    let r = c.args.r in
-    true_T (shaped r)
-    (shaped_is r (search searching) (search (searching, length_of_map)) (search searching) (omega arith) (omega arith) (omega arith) (omega arith) (omega arith)) in
-    let passed : within c.args.r ≡ true → T (rules c.args.r) =
-    λ w. and_i (shaped c.args.r) (within c.args.r) known (true_T (within c.args.r) w) in
-    let t = passed (sym c.within.ensures
-    ∙ c.if-not-within.false) in
-    (filled c.put_body-n.ensures (body_short c.args.r t)).2
+slice_bounds-b-end c = (ready_as _ _ _ c.put_body.result c.put_body.ensures c.unwrap-n.ensures).inside
 
 pub slice_bounds-put_tlv-end : goal.slice_bounds-put_tlv-end
-slice_bounds-put_tlv-end c =
-    let known : T (shaped c.args.r) =
-    let r = c.args.r in
-    true_T (shaped r)
-    (shaped_is r (search searching) (search (searching, length_of_map)) (search searching) (omega arith) (omega arith) (omega arith) (omega arith) (omega arith)) in
-    let passed : within c.args.r ≡ true → T (rules c.args.r) =
-    λ w. and_i (shaped c.args.r) (within c.args.r) known (true_T (within c.args.r) w) in
-    let t = passed
-    (sym c.within.ensures ∙ c.if-not-within.false) in
-    let f = filled c.put_body-n.ensures (body_short c.args.r t) in
-    f.1 ∙ ap length (sym f.0)
+slice_bounds-put_tlv-end c = filled_count (ready_as _ _ _ c.put_body.result c.put_body.ensures c.unwrap-n.ensures)
 
-pub returns-then-end : goal.returns-then-end
-returns-then-end c =
-    let known : T (shaped c.args.r) =
-    let r = c.args.r in
-    true_T (shaped r)
-    (shaped_is r (search searching) (search (searching, length_of_map)) (search searching) (omega arith) (omega arith) (omega arith) (omega arith) (omega arith)) in
-    let passed : within c.args.r ≡ true → T (rules c.args.r) =
-    λ w. and_i (shaped c.args.r) (within c.args.r) known (true_T (within c.args.r) w) in
-    let r = c.args.r in
-    let w = sym c.within.ensures ∙ c.if-not-within.false in
-    let t = passed w in
-    let f = filled c.put_body-n.ensures (body_short r t) in
-    writes_full r t w (puts_is (octets_form r t f.0) c.put_tlv-end.ensures) c.if-end.true
+pub returns-clause-writes : goal.returns-clause-writes
+returns-clause-writes c =
+    let f = ready_as _ _ _ c.put_body.result c.put_body.ensures c.unwrap-n.ensures in
+    rw c.ok_or.ensures.value
+    (writes_put c.args.r.now c.put_tlv.result (sym c.within.ensures ∙ c.if-not-within.false) (puts_is (octets_form c.args.r.now f.most f.front) c.put_tlv.ensures))
 
-pub returns : goal.returns
-returns c =
-    let known : T (shaped c.args.r) =
-    let r = c.args.r in
-    true_T (shaped r)
-    (shaped_is r (search searching) (search (searching, length_of_map)) (search searching) (omega arith) (omega arith) (omega arith) (omega arith) (omega arith)) in
-    let passed : within c.args.r ≡ true → T (rules c.args.r) =
-    λ w. and_i (shaped c.args.r) (within c.args.r) known (true_T (within c.args.r) w) in
-    let r = c.args.r in
-    let w = sym c.within.ensures ∙ c.if-not-within.false in
-    let t = passed w in
-    let f = filled c.put_body-n.ensures (body_short r t) in
-    writes_done r t w (puts_is (octets_form r t f.0) c.put_tlv-end.ensures) c.if-end.false
+pub returns-clause-short : goal.returns-clause-short
+returns-clause-short c = λ _. octets_short c.args.r.now (ready_as _ _ _ c.put_body.result c.put_body.ensures c.unwrap-n.ensures).most
