@@ -1,5 +1,5 @@
 -- The ways in which one character is put. r says how many wait before, s how many then.
-use Rattle.std.proofs.Common.{refl, [], ◌∷◌, ◌++◌, ◌≡◌, ℕ, ◌+◌, ◌<◌, ◌≤◌, List, set, true, false, lt-ltb, min, Result, Ok, Err, arith}
+use Rattle.std.proofs.Common.{refl, [], ◌∷◌, ◌++◌, ◌≡◌, ℕ, ◌+◌, ◌<◌, List, set, true, false, lt-ltb, min, Result, Ok, arith}
 use Rattle.out.specs.Put.{PutsAll, PutsOne, put_of, count_of}
 
 -- there is room
@@ -11,23 +11,19 @@ in_room text after r s x n kept is lt same =
     record { wrote = true; is = rw (← kept, is, a, b, lt-ltb n 4096 lt, same) }
 
 -- all wait, and are written
-pub alone : {E : Type 0} → (text after : List ℕ) → (r : Result ℕ E) → (x n m : ℕ) → r ≡ Ok n → 4096 ≤ n → m ≡ 0 → after ≡ text → PutsOne text (count_of r) x (set after m x) (min (m + 1) 4096)
+pub alone : (text after : List ℕ) → (w x m : ℕ) → w ≡ 4096 → m ≡ 0 → after ≡ text → PutsOne text w x (set after m x) (min (m + 1) 4096)
 unfolding put_of
-alone text after r x n m is le none same =
-    let a : min n 4096 ≡ 4096 = omega arith in
-    record { wrote = true; is = rw (is, a, none, same) }
+alone text after w x m full none same = record { wrote = true; is = rw (full, none, same) }
 
 -- all wait, and the write fails
-pub lost : {E : Type 0} → (text after : List ℕ) → (r s : Result ℕ E) → (x n : ℕ) → (e : E) → r ≡ Ok n → 4096 ≤ n → s ≡ Err e → after ≡ text → PutsOne text (count_of r) x after (count_of s)
+pub lost : (text after : List ℕ) → (w x r : ℕ) → w ≡ 4096 → r ≡ 4097 → after ≡ text → PutsOne text w x after r
 unfolding put_of
-lost text after r s x n e is le failed same =
-    let a : min n 4096 ≡ 4096 = omega arith in
-    record { wrote = false; is = rw (is, failed, a, same) }
+lost text after w x r full failed same = record { wrote = false; is = rw (full, failed, same) }
 
 -- a write failed before
-pub told : {E : Type 0} → (text after : List ℕ) → (r s : Result ℕ E) → (x : ℕ) → (e : E) → s ≡ r → s ≡ Err e → after ≡ text → PutsOne text (count_of r) x after (count_of s)
+pub told : (text after : List ℕ) → (w x r : ℕ) → r ≡ w → r ≡ 4097 → after ≡ text → PutsOne text w x after r
 unfolding put_of
-told text after r s x e kept failed same = record { wrote = false; is = rw (← kept, failed, same) }
+told text after w x r kept failed same = record { wrote = false; is = rw (← kept, failed, same) }
 
 -- then no character comes out
 pub none_out : (text xs : List ℕ) → PutsAll text 4097 xs text 4097

@@ -3,7 +3,7 @@
 // No contract can say what is written: `put` says what waits after one character, as the write went, and all else puts characters by it.
 #![tactic(auto)]
 
-ghost use Rattle.std.specs.Prelude.{◌≡◌, IfOk, None, Ok, OnErr, OnOk, length};
+ghost use Rattle.std.specs.Prelude.{◌≡◌, IfOk, None, Ok, OnErr, OnOk, length, nat_eq};
 ghost use Rattle.std.specs.Io.{WritesAtMost};
 ghost use Rattle.std.specs.Result.{result_err};
 ghost use Rattle.std.specs.Io.KnownBytes.{Keeps, WriteAppends};
@@ -61,13 +61,19 @@ impl<W: Write> Stream<W> {
         ensures failed { OnErr result (count_of self.new.waiting ≡ 4097) }
         ensures puts { PutsOne self.old.text (count_of self.old.waiting) x self.new.text (count_of self.new.waiting) }
     {
-        if let Ok(ROOM..) = self.waiting {
+        if self.is_full() {
             self.write_out();
         }
         let n = self.waiting?;
         self.text[n] = x;
         self.waiting = Ok(n + 1);
         Ok(())
+    }
+
+    fn is_full(&self) -> bool
+        ensures { result ≡ nat_eq (count_of self.now.waiting) 4096 }
+    {
+        matches!(self.waiting, Ok(ROOM..))
     }
 
     // Writes what waits.
