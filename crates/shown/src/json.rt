@@ -1,7 +1,7 @@
 // Records as JSON, an object a line.
 use crate::values::{Address, Imsi, IsoTime, Name, changes, containers, lasted};
 use container::Container;
-use mcdr::{Change, MmRecord};
+use mcdr::{Change, MmRecord, Place};
 use scdr::Record;
 use std::fmt;
 use std::fmt::{Formatter, Write};
@@ -9,7 +9,9 @@ use std::fmt::{Formatter, Write};
 // An S-CDR.
 pub fn put_record<W: Write>(f: &mut Formatter<W>, r: &Record) -> fmt::Result {
     put_names(f, r)?;
-    put_containers(f, containers(r))?;
+    f.write_str(",\"listOfTrafficVolumes\":[")?;
+    f.write_joined(containers(r).iter().map(Object), ",")?;
+    f.write_str("]")?;
     write!(
         f,
         ",\"recordOpeningTime\":\"{}\",\"duration\":{}",
@@ -54,40 +56,40 @@ fn put_names<W: Write>(f: &mut Formatter<W>, r: &Record) -> fmt::Result {
     )
 }
 
-fn put_containers<W: Write>(f: &mut Formatter<W>, list: &[Container]) -> fmt::Result {
-    f.write_str(",\"listOfTrafficVolumes\":[")?;
-    let mut between = "";
-    for c in list {
-        f.write_str(between)?;
-        put_container(f, c)?;
-        between = ",";
-    }
-    f.write_str("]")
-}
+// An entry of a list, as an object.
+#[derive(Clone, Copy)]
+struct Object<'a, T>(&'a T);
 
-fn put_container<W: Write>(f: &mut Formatter<W>, c: &Container) -> fmt::Result {
-    let q = &c.qos;
-    write!(
-        f,
-        "{{\"qosNegotiated\":{{\"reliability\":{},\"delay\":{}",
-        q.reliability, q.delay
-    )?;
-    write!(
-        f,
-        ",\"precedence\":{},\"peakThroughput\":{}",
-        q.precedence, q.peak
-    )?;
-    write!(
-        f,
-        ",\"meanThroughput\":{}}},\"dataVolumeGPRSUplink\":{}",
-        q.mean, c.uplink
-    )?;
-    write!(
-        f,
-        ",\"dataVolumeGPRSDownlink\":{},\"changeCondition\":{}",
-        c.downlink, c.condition
-    )?;
-    write!(f, ",\"changeTime\":\"{}\"}}", IsoTime(c.time))
+impl<'a> fmt::Display for Object<'a, Container> {
+    fn fmt<W: Write>(&self, f: &mut Formatter<W>) -> fmt::Result {
+        let Container {
+            qos,
+            uplink,
+            downlink,
+            condition,
+            time,
+        } = self.0;
+        write!(
+            f,
+            "{{\"qosNegotiated\":{{\"reliability\":{},\"delay\":{}",
+            qos.reliability, qos.delay
+        )?;
+        write!(
+            f,
+            ",\"precedence\":{},\"peakThroughput\":{}",
+            qos.precedence, qos.peak
+        )?;
+        write!(
+            f,
+            ",\"meanThroughput\":{}}},\"dataVolumeGPRSUplink\":{uplink}",
+            qos.mean
+        )?;
+        write!(
+            f,
+            ",\"dataVolumeGPRSDownlink\":{downlink},\"changeCondition\":{condition}"
+        )?;
+        write!(f, ",\"changeTime\":\"{}\"}}", IsoTime(*time))
+    }
 }
 
 // Why a record closed, and its number, if it has one.
@@ -119,7 +121,12 @@ pub fn put_mm_record<W: Write>(f: &mut Formatter<W>, r: &MmRecord) -> fmt::Resul
         ",\"routingArea\":\"{:02X}\",\"locationAreaCode\":\"{:04X}\"",
         r.place.rac, r.place.lac
     )?;
-    put_changes(f, changes(r))?;
+    let list = changes(r);
+    if !list.is_empty() {
+        f.write_str(",\"changeLocation\":[")?;
+        f.write_joined(list.iter().map(Object), ",")?;
+        f.write_str("]")?;
+    }
     write!(
         f,
         ",\"recordOpeningTime\":\"{}\",\"duration\":{}",
@@ -131,27 +138,15 @@ pub fn put_mm_record<W: Write>(f: &mut Formatter<W>, r: &MmRecord) -> fmt::Resul
     f.write_str("}\n")
 }
 
-fn put_changes<W: Write>(f: &mut Formatter<W>, list: &[Change]) -> fmt::Result {
-    if list.is_empty() {
-        return Ok(());
+impl<'a> fmt::Display for Object<'a, Change> {
+    fn fmt<W: Write>(&self, f: &mut Formatter<W>) -> fmt::Result {
+        let Place { lac, rac } = self.0.place;
+        write!(
+            f,
+            "{{\"locationAreaCode\":\"{lac:04X}\",\"routingAreaCode\":\"{rac:02X}\""
+        )?;
+        write!(f, ",\"changeTime\":\"{}\"}}", IsoTime(self.0.time))
     }
-    f.write_str(",\"changeLocation\":[")?;
-    let mut between = "";
-    for c in list {
-        f.write_str(between)?;
-        put_change(f, c)?;
-        between = ",";
-    }
-    f.write_str("]")
-}
-
-fn put_change<W: Write>(f: &mut Formatter<W>, c: &Change) -> fmt::Result {
-    write!(
-        f,
-        "{{\"locationAreaCode\":\"{:04X}\",\"routingAreaCode\":\"{:02X}\"",
-        c.place.lac, c.place.rac
-    )?;
-    write!(f, ",\"changeTime\":\"{}\"}}", IsoTime(c.time))
 }
 
 // Characters within a string. A name has characters 20 to 7E alone, of which JSON escapes two.
