@@ -9,17 +9,17 @@ use std::fmt::{Formatter, Write};
 // An S-CDR.
 pub fn put_record<W: Write>(f: &mut Formatter<W>, r: &Record) -> fmt::Result {
     put_names(f, r)?;
-    f.write_str(",\"listOfTrafficVolumes\":[")?;
+    f.write_str(r#","listOfTrafficVolumes":["#)?;
     f.write_joined(containers(r).iter().map(Object), ",")?;
     f.write_str("]")?;
     write!(
         f,
-        ",\"recordOpeningTime\":\"{}\",\"duration\":{}",
+        r#","recordOpeningTime":"{}","duration":{}"#,
         IsoTime(r.opening),
         lasted(r)
     )?;
     if r.change {
-        f.write_str(",\"sgsnChange\":true")?;
+        f.write_str(r#","sgsnChange":true"#)?;
     }
     put_closing(f, r.cause, r.number)?;
     put_node_id(f, octets::front(&r.nodeid, r.nodelen))?;
@@ -27,30 +27,30 @@ pub fn put_record<W: Write>(f: &mut Formatter<W>, r: &Record) -> fmt::Result {
 }
 
 fn put_names<W: Write>(f: &mut Formatter<W>, r: &Record) -> fmt::Result {
-    f.write_str("{\"recordType\":18")?;
+    f.write_str(r#"{"recordType":18"#)?;
     if r.network {
-        f.write_str(",\"networkInitiation\":true")?;
+        f.write_str(r#","networkInitiation":true"#)?;
     }
     write!(
         f,
-        ",\"servedIMSI\":\"{}\",\"sgsnAddress\":\"{}\"",
+        r#","servedIMSI":"{}","sgsnAddress":"{}""#,
         Imsi(&r.imsi),
         Address(r.sgsn)
     )?;
     write!(
         f,
-        ",\"chargingID\":{},\"ggsnAddressUsed\":\"{}\"",
+        r#","chargingID":{},"ggsnAddressUsed":"{}""#,
         r.charging,
         Address(r.ggsn)
     )?;
     write!(
         f,
-        ",\"accessPointName\":\"{}\"",
+        r#","accessPointName":"{}""#,
         Escaped(octets::front(&r.apn, r.apnlen))
     )?;
     write!(
         f,
-        ",\"pdpType\":\"{:04X}\",\"servedPDPAddress\":\"{}\"",
+        r#","pdpType":"{:04X}","servedPDPAddress":"{}""#,
         r.pdptype,
         Address(r.address)
     )
@@ -71,65 +71,61 @@ impl<'a> fmt::Display for Object<'a, Container> {
         } = self.0;
         write!(
             f,
-            "{{\"qosNegotiated\":{{\"reliability\":{},\"delay\":{}",
+            r#"{{"qosNegotiated":{{"reliability":{},"delay":{}"#,
             qos.reliability, qos.delay
         )?;
         write!(
             f,
-            ",\"precedence\":{},\"peakThroughput\":{}",
+            r#","precedence":{},"peakThroughput":{}"#,
             qos.precedence, qos.peak
         )?;
         write!(
             f,
-            ",\"meanThroughput\":{}}},\"dataVolumeGPRSUplink\":{uplink}",
+            r#","meanThroughput":{}}},"dataVolumeGPRSUplink":{uplink}"#,
             qos.mean
         )?;
         write!(
             f,
-            ",\"dataVolumeGPRSDownlink\":{downlink},\"changeCondition\":{condition}"
+            r#","dataVolumeGPRSDownlink":{downlink},"changeCondition":{condition}"#
         )?;
-        write!(f, ",\"changeTime\":\"{}\"}}", IsoTime(*time))
+        write!(f, r#","changeTime":"{}"}}"#, IsoTime(*time))
     }
 }
 
 // Why a record closed, and its number, if it has one.
 fn put_closing<W: Write>(f: &mut Formatter<W>, cause: u8, number: u64) -> fmt::Result {
-    write!(f, ",\"causeForRecClosing\":{cause}")?;
+    write!(f, r#","causeForRecClosing":{cause}"#)?;
     if number == 0 {
         return Ok(());
     }
-    write!(f, ",\"recordSequenceNumber\":{number}")
+    write!(f, r#","recordSequenceNumber":{number}"#)
 }
 
 fn put_node_id<W: Write>(f: &mut Formatter<W>, id: &[u8]) -> fmt::Result {
     if id.is_empty() {
         return Ok(());
     }
-    write!(f, ",\"nodeID\":\"{}\"", Escaped(id))
+    write!(f, r#","nodeID":"{}""#, Escaped(id))
 }
 
 // An M-CDR.
 pub fn put_mm_record<W: Write>(f: &mut Formatter<W>, r: &MmRecord) -> fmt::Result {
+    write!(f, r#"{{"recordType":20,"servedIMSI":"{}""#, Imsi(&r.imsi))?;
+    write!(f, r#","sgsnAddress":"{}""#, Address(r.sgsn))?;
     write!(
         f,
-        "{{\"recordType\":20,\"servedIMSI\":\"{}\"",
-        Imsi(&r.imsi)
-    )?;
-    write!(f, ",\"sgsnAddress\":\"{}\"", Address(r.sgsn))?;
-    write!(
-        f,
-        ",\"routingArea\":\"{:02X}\",\"locationAreaCode\":\"{:04X}\"",
+        r#","routingArea":"{:02X}","locationAreaCode":"{:04X}""#,
         r.place.rac, r.place.lac
     )?;
     let list = changes(r);
     if !list.is_empty() {
-        f.write_str(",\"changeLocation\":[")?;
+        f.write_str(r#","changeLocation":["#)?;
         f.write_joined(list.iter().map(Object), ",")?;
         f.write_str("]")?;
     }
     write!(
         f,
-        ",\"recordOpeningTime\":\"{}\",\"duration\":{}",
+        r#","recordOpeningTime":"{}","duration":{}"#,
         IsoTime(r.opening),
         r.duration
     )?;
@@ -143,9 +139,9 @@ impl<'a> fmt::Display for Object<'a, Change> {
         let Place { lac, rac } = self.0.place;
         write!(
             f,
-            "{{\"locationAreaCode\":\"{lac:04X}\",\"routingAreaCode\":\"{rac:02X}\""
+            r#"{{"locationAreaCode":"{lac:04X}","routingAreaCode":"{rac:02X}""#
         )?;
-        write!(f, ",\"changeTime\":\"{}\"}}", IsoTime(self.0.time))
+        write!(f, r#","changeTime":"{}"}}"#, IsoTime(self.0.time))
     }
 }
 
