@@ -43,22 +43,25 @@ pub fn charge(node: Node, held: &[u8], ended: bool, out: &mut [u8]) -> Charged
         let n = framing::next_length(&held[came..]);
         let end = came + n;
         let full = written + 16416;
-        let r = node::step::step(now, &held[came..end], &mut out[written..full]);
-        if r.answer != 0 {
-            return Charged {
-                answer: r.answer,
-                node: now,
-                came,
-                events,
-                last,
-                written,
-            };
+        match node::step::step(now, &held[came..end], &mut out[written..full]) {
+            Ok(stepped) => {
+                now = stepped.node;
+                came = end;
+                events += 1;
+                last = n;
+                written += stepped.written;
+            }
+            Err(refusal) => {
+                return Charged {
+                    answer: refusal.into(),
+                    node: now,
+                    came,
+                    events,
+                    last,
+                    written,
+                };
+            }
         }
-        now = r.node;
-        came = end;
-        events += 1;
-        last = n;
-        written += r.written;
     }
     Charged {
         answer: 0,

@@ -7,7 +7,7 @@ ghost use Rattle.node.specs.Step.{Steps};
 ghost use Rattle.node.specs.Batch.{name_with, Batches};
 ghost use Rattle.host.specs.Begin.{begun, Begins};
 
-use node::{Node, sound};
+use node::{Node, refusal, sound};
 use profile::fault::BadLine;
 use profile::text::read_profile;
 
@@ -23,11 +23,18 @@ pub struct Answer {
 pub fn charging_step(node: &mut Node, event: &[u8], out: &mut [u8]) -> Answer
     ensures { Steps node.old event.now out.old out.new result.answer node.new result.written }
 {
-    let r = node::step::step(*node, event, out);
-    *node = r.node;
-    Answer {
-        answer: r.answer,
-        written: r.written,
+    match node::step::step(*node, event, out) {
+        Ok(stepped) => {
+            *node = stepped.node;
+            Answer {
+                answer: 0,
+                written: stepped.written,
+            }
+        }
+        Err(refusal) => Answer {
+            answer: refusal.into(),
+            written: 0,
+        },
     }
 }
 
@@ -55,7 +62,7 @@ pub fn charging_batch(
     let r = node::batch::batch(*node, id, ggsn, t, volumes, out);
     *node = r.node;
     BatchAnswer {
-        answer: r.answer,
+        answer: refusal::answer_of(r.refusal),
         applied: r.applied,
         written: r.written,
     }
@@ -84,11 +91,9 @@ pub fn begin(text: &[u8]) -> Result<Node, Unfit>
     ensures { result ≡ begun text.now }
 {
     let profile = read_profile(text).map_err(Unfit::Line)?;
-    let made = sound::fresh(profile);
-    if made.answer == 0 {
-        Ok(made.node)
-    } else {
-        Err(Unfit::Range)
+    match sound::fresh(profile) {
+        Ok(node) => Ok(node),
+        Err(_) => Err(Unfit::Range),
     }
 }
 

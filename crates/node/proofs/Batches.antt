@@ -1,49 +1,42 @@
 -- What the code does with a list of reports is what the list's events do one by one.
 use mathlib.Core.Path.{◌≡◌, refl, sym, ap, ◌∙◌}
-use mathlib.Core.Bool.{Bool, true, false, ◌&&◌, ◌||◌}
+use mathlib.Core.Bool.{true, false, ◌||◌}
 use mathlib.Core.List.{List, [], ◌∷◌, map}
 use Prim.Native.Nat.{ℕ, zero, suc, ◌+◌, ◌%◌, ◌^◌, ◌≤◌, ◌<◌}
 use native.Mathlib.Omega.{arith}
-use Rattle.std.specs.Prelude.{Option, None, Some, position}
 use lib.Dec.{leb, ltb, eqb}
 use lib.ListN.{length, get_or}
 use lib.Seq.{set-get_or}
 use borrow.Author.Tests.{eqb-true, eqb-false, leb-false, ltb-false, ne_eqb}
 use Rattle.format.proofs.Tests.{by, both}
-use Rattle.profile.specs.Profile.{profile_ok}
-use Rattle.limits.specs.Sets.{sets_ok}
 use Rattle.event.specs.declared.Name.{Name}
 use Rattle.event.specs.declared.Event.TheVariants as E
 use Rattle.event.specs.Rows.{first_fit}
 use Rattle.event.specs.Traffic.{traffic_event}
 use Rattle.event.proofs.Traffics.{traffic_said}
 use Rattle.context.specs.declared.Context.{Context}
-use Rattle.context.specs.Slots.{slot_of, bears, distinct}
-use Rattle.context.specs.Sound.{slots_ok}
+use Rattle.context.specs.Slots.{slot_of, bears}
 use Rattle.context.proofs.Scans.{slots_ask}
 use Rattle.context.proofs.Sounds.{slot_active}
 use Rattle.history.specs.Lists.{All}
 use Rattle.history.proofs.Lists.{all_at}
 use Rattle.history.proofs.Scans.{first_passes, first_below, asks_at}
 use Rattle.history.proofs.Slots.{neither}
-use Rattle.keys.specs.declared.Slot.{Slot}
-use Rattle.keys.specs.Slots as keys
-use Rattle.subscriber.specs.Subscriber.{slot_of as imsiSlot}
-use Rattle.subscriber.specs.Sound.{slots_ok as subscribersOk}
 use Rattle.node.specs.declared.Node.{Node}
-use Rattle.node.specs.declared.batch.Reports.{Reports}
-use Rattle.node.specs.declared.batch.Reports.TheVariants.{Refuse, Nothing, Tell}
+use Rattle.std.specs.Prelude.{Option, None, Some, position, Ok, Err}
+use Rattle.event.specs.Event.{decoded}
+use Rattle.node.specs.Refusal.{number_of}
+use Rattle.node.specs.Private.Pairs as Reports
 use Rattle.node.specs.Sound.{sound, latest, most_accepted}
 use Rattle.node.specs.Step.{taken, step_of}
 use Rattle.node.specs.Held.{Shaped, Held}
 use Rattle.node.specs.Batch.{Done, pairs_of, reports_of, and_then, one_by_one, list_refusals, batch_by, batch_of, Batches}
-use Rattle.node.specs.Private.Task.{named_task, task_of, timely_task, task_for, done_by}
+use Rattle.node.specs.Private.Task.{named_task, task_of, timely_task, said_task, done_by, answered_by}
 use Rattle.node.specs.Private.Pairs.{Seat, seated, seat_at, moved, seat_step, Listens, Tells, tell_at, first_pair, reports_for}
 use Rattle.node.proofs.Rules.{rules}
 use Rattle.node.proofs.Found.{named_at}
 use Rattle.node.proofs.TableKept.{shapes}
-use Rattle.node.proofs.Calls.{is_sound}
-use Rattle.node.proofs.Tasks.{Tasked, tasked}
+use Rattle.node.proofs.Tasks.{Tasked, tasked_sound}
 use Rattle.node.proofs.Ones.{through_all, alike}
 use Rattle.node.proofs.Seats.{Good, Fine, event, same, kept}
 
@@ -83,11 +76,11 @@ module _ (n : Node) (m : Name) (t : ℕ) (vs b : List ℕ) (h : Held n) (tl : Wo
 
   -- the first pair's event, as the node takes it
   task : (u d : ℕ) → Word u → Word d → sound n ≡ true
-      → Tasked n (traffic_event m t u d) b (timely_task n.profile.sets n.settings n.clock n.accepted (map slot_of n.contexts) (map imsiSlot n.subscribers) t (E.Traffic m u d))
-  unfolding task_for
+      → Tasked n (traffic_event m t u d) b (timely_task n t (E.Traffic m u d))
+  unfolding said_task
   task u d ul dl ok =
       let s = traffic_said m t u d (omega (arith, tl)) (omega (arith, id)) (omega (arith, ggsn)) (omega (arith, ul)) (omega (arith, dl)) in
-      rw s at (tasked n (traffic_event m t u d) b h true ok)
+      rw s at (tasked_sound n (traffic_event m t u d) b h ok (decoded (traffic_event m t u d)) refl)
 
   -- the context in the slot i is told
   pub record Telling (i : ℕ) : Type 0 where
@@ -98,10 +91,10 @@ module _ (n : Node) (m : Name) (t : ℕ) (vs b : List ℕ) (h : Held n) (tl : Wo
     pub few : n.accepted < most_accepted
     pub found : position (bears m) (map slot_of n.contexts) ≡ Some i
 
-  abbrev pub Means : Reports → Type 0
-  Means (Refuse j) = batch_of n m t vs b ≡ still j
-  Means Nothing = batch_of n m t vs b ≡ still 0
-  Means (Tell i) = Telling i
+  abbrev pub Means : Reports.Telling → Type 0
+  Means (Err refusal) = batch_of n m t vs b ≡ still (number_of refusal)
+  Means (Ok None) = batch_of n m t vs b ≡ still 0
+  Means (Ok (Some i)) = Telling i
 
   batch_13 : sound n ≡ false → batch_of n m t vs b ≡ still 13
   unfolding batch_of batch_by list_refusals first_fit
@@ -126,17 +119,17 @@ module _ (n : Node) (m : Name) (t : ℕ) (vs b : List ℕ) (h : Held n) (tl : Wo
         refused k f = goes ∙ first_stops vs w o (eqb-false (length vs) 0 z) k f
 
         late : (ltb latest t || ltb t n.clock) ≡ true → batch_of n m t vs b ≡ still 6
-        unfolding timely_task done_by
+        unfolding timely_task answered_by done_by
         late y = refused (λ i. omega arith) (λ u d k l. (task u d k l ok).done ∙ rw y)
 
         module _ (y : (ltb latest t || ltb t n.clock) ≡ false) where
           many : leb most_accepted n.accepted ≡ true → batch_of n m t vs b ≡ still 7
-          unfolding timely_task done_by
+          unfolding timely_task answered_by done_by
           many x = refused (λ i. omega arith) (λ u d k l. (task u d k l ok).done ∙ rw (y, x))
 
           module _ (x : leb most_accepted n.accepted ≡ false) where
             looked : (f : Option ℕ) → position (bears m) (map slot_of n.contexts) ≡ f → Means (tell_at f)
-            unfolding timely_task task_of named_task done_by
+            unfolding timely_task task_of named_task answered_by done_by
             looked (Some i) q =
                 let v = neither (ltb latest t) (ltb t n.clock) y in
                 record {
@@ -149,15 +142,16 @@ module _ (n : Node) (m : Name) (t : ℕ) (vs b : List ℕ) (h : Held n) (tl : Wo
                 }
             looked None q = refused (λ i. omega arith) (λ u d k l. (task u d k l ok).done ∙ rw (y, x, q))
 
-  pub means : (ok : Bool) → sound n ≡ ok → Means (reports_for ok n.clock n.accepted (map slot_of n.contexts) m t (length vs))
+  pub means : Means (reports_for n m t (length vs))
   unfolding reports_for first_pair
-  means false e = batch_13 e
-  means true e =
-      by (eqb (length vs % 2) 1) (λ o. rw o (batch_14 e o)) (λ o.
-      by (eqb (length vs) 0) (λ z. rw (o, z) (none e o (eqb-true (length vs) 0 z))) (λ z.
-      by (ltb latest t || ltb t n.clock) (λ y. rw (o, z, y) (late e o z y)) (λ y.
-      by (leb most_accepted n.accepted) (λ x. rw (o, z, y, x) (many e o z y x)) (λ x.
-      rw (o, z, y, x) (looked e o z y x (position (bears m) (map slot_of n.contexts)) refl)))))
+  means =
+      by (sound n) (λ e.
+      by (eqb (length vs % 2) 1) (λ o. rw (e, o) (batch_14 e o)) (λ o.
+      by (eqb (length vs) 0) (λ z. rw (e, o, z) (none e o (eqb-true (length vs) 0 z))) (λ z.
+      by (ltb latest t || ltb t n.clock) (λ y. rw (e, o, z, y) (late e o z y)) (λ y.
+      by (leb most_accepted n.accepted) (λ x. rw (e, o, z, y, x) (many e o z y x)) (λ x.
+      rw (e, o, z, y, x) (looked e o z y x (position (bears m) (map slot_of n.contexts)) refl))))))
+      (λ e. rw e (batch_13 e))
 
 -- ---- the context that is told
 
@@ -229,17 +223,11 @@ module _ {n : Node} {m : Name} {t : ℕ} {vs b : List ℕ} {h : Held n} {tl : Wo
         = ap (through_all (seated n i)) y.is ∙ sym seated_all ∙ first ∙ sym (goes n m t vs b h tl id ggsn w k.sound k.even) in
         record { is = rw (e.0, e.1.0, e.1.1.0, e.1.1.1) q }
 
--- ---- as the code finds it out
+-- ---- as the code finds it
 
-pub means_by : (n : Node) (m : Name) (t : ℕ) (vs b : List ℕ) (h : Held n) (tl : Word t) (id : Word m.id) (ggsn : Word m.ggsn) (w : All Word vs)
-    {names : List (Slot Name)} {imsis : List (Slot ℕ)} {good fine ok : Bool} {k : Reports}
-    → (names ≡ map slot_of n.contexts) × (good ≡ slots_ok n.profile.sets n.profile.zone n.clock n.accepted n.contexts)
-    → (imsis ≡ map imsiSlot n.subscribers) × (fine ≡ subscribersOk n.profile.zone n.clock n.accepted n.subscribers)
-    → ok ≡ (profile_ok n.profile && sets_ok n.profile.sets n.settings.sets && leb n.clock latest && leb n.accepted most_accepted && distinct names && good && keys.distinct eqb imsis && fine)
-    → k ≡ reports_for ok n.clock n.accepted names m t (length vs) → Means n m t vs b h tl id ggsn w k
-means_by n m t vs b h tl id ggsn w {ok = ok} looked noted e q =
-    let s : sound n ≡ ok = is_sound n looked noted e in
-    rw q (rw looked.0 (means n m t vs b h tl id ggsn w ok s))
+pub means_at : (n : Node) (m : Name) (t : ℕ) (vs b : List ℕ) (h : Held n) (tl : Word t) (id : Word m.id) (ggsn : Word m.ggsn)
+    (fit : (i : ℕ) → get_or vs i 0 < 2 ^ 32) {k : Reports.Telling} → k ≡ reports_for n m t (length vs) → Means n m t vs b h tl id ggsn (words vs fit) k
+means_at n m t vs b h tl id ggsn fit e = rw e (means n m t vs b h tl id ggsn (words vs fit))
 
 pub batches_still : {n : Node} {m : Name} {t : ℕ} {vs b : List ℕ} {j a c l : ℕ} {n' : Node}
     → batch_of n m t vs b ≡ record { answer = j; applied = 0; left = n; written = 0; buffer = b }

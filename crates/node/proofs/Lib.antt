@@ -15,6 +15,9 @@ pub mod Served
 pub mod Notified
 pub mod Copied
 pub mod Calls
+pub mod Numbered
+pub mod Tries
+pub mod Told
 pub mod Tasks
 pub mod Demands
 pub mod Fixes

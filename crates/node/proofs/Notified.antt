@@ -37,7 +37,8 @@ use Rattle.node.specs.Private.Range.{enrolled, notified_of}
 use Rattle.node.proofs.RefusalRows.{table_rows}
 use Rattle.node.proofs.Rules.{rules}
 use Rattle.node.proofs.Attached.{bearing, vacant, exactly}
-use Rattle.node.proofs.Served.{Sounding, settleds, stays, lone, Outs, outs_refused, outs_done, outs_by}
+use Rattle.node.specs.Private.Task.{Sounding}
+use Rattle.node.proofs.Served.{settleds, stays, lone, Outs, outs_refused, outs_done, outs_by}
 
 module _ (n : Node) (t : ℕ) (v : ToSubscribers) where
   abbrev w : Words

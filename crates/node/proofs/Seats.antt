@@ -1,6 +1,6 @@
 -- A report does to the node what it does to the slot of its name: so all reports of a list do.
 use mathlib.Core.Path.{◌≡◌, refl, sym, ap, ◌∙◌}
-use mathlib.Core.Bool.{true, cond}
+use mathlib.Core.Bool.{cond}
 use mathlib.Core.List.{List, map}
 use Rattle.std.specs.Prelude.{Option, None, Some, position}
 use Prim.Native.Nat.{ℕ, ◌+◌, ◌^◌, ◌≤◌, ◌<◌}
@@ -12,7 +12,7 @@ use borrow.Author.Tests.{le-leb, lt-leb, le-ltb, eqb-true, eqb-false}
 use Rattle.format.proofs.Tests.{by, either}
 use Rattle.event.specs.declared.Name.{Name}
 use Rattle.event.specs.declared.Event.TheVariants as E
-use Rattle.std.specs.Prelude.{Ok}
+use Rattle.std.specs.Prelude.{Ok, Err}
 use Rattle.event.specs.Event.{decoded}
 use Rattle.event.specs.Traffic.{traffic_event}
 use Rattle.event.proofs.Traffics.{traffic_said}
@@ -23,16 +23,18 @@ use Rattle.node.specs.declared.Node.{Node}
 use Rattle.node.specs.declared.Message.{Message}
 use Rattle.node.specs.declared.Settings.{Settings}
 use Rattle.node.specs.declared.task.Task.TheVariants as K
+use Rattle.node.specs.declared.refusal.Refusal.TheVariants.{TooMany}
 use Rattle.node.specs.Meaning.{report}
 use Rattle.node.specs.Hear.{closing, after_closing, hear_with, hear}
 use Rattle.node.specs.Sound.{latest, most_accepted}
 use Rattle.node.specs.Step.{stood, step_of}
 use Rattle.node.specs.Held.{Whole}
 use Rattle.node.specs.Private.Range.{slot_next, slot_out, tried_of, Tries, served_of}
-use Rattle.node.specs.Private.Task.{named_task, task_of, timely_task, task_for, done_by}
+use Rattle.node.specs.Private.Task.{named_task, task_of, timely_task, said_task, done_by, answered_by}
 use Rattle.node.specs.Private.Pairs.{Seat, seated, seat_then, seat_step}
 use Rattle.node.proofs.Emits.{slot_active, slot_free}
-use Rattle.node.proofs.Tasks.{served_one, Tasked, tasked}
+use Rattle.node.proofs.Tries.{served_one}
+use Rattle.node.proofs.Tasks.{Tasked, tasked_sound}
 use Rattle.node.proofs.StepKept.{step_kept}
 use Rattle.node.proofs.BatchKept.{report_octets}
 use Rattle.node.proofs.Ones.{through}
@@ -87,10 +89,10 @@ module _ (n : Node) (i t : ℕ) (d : Context) (m : Name) (until : t ≤ latest) 
     names : map slot_of (N s).contexts ≡ map slot_of n.contexts
     names = map-set_same slot_of n.contexts i s.context d w.name
 
-    task : Tasked (N s) (event v) b (cond (leb most_accepted s.accepted) (K.Refuse 7) (K.One i t h))
-    unfolding task_for timely_task task_of named_task
+    task : Tasked (N s) (event v) b (cond (leb most_accepted s.accepted) (Err TooMany) (Ok (K.One i t h)))
+    unfolding said_task timely_task task_of named_task
     task =
-        let x = tasked (N s) (event v) b w.whole.held true w.whole.sound in
+        let x = tasked_sound (N s) (event v) b w.whole.held w.whole.sound (decoded (event v)) refl in
         rw (said, names, le-ltb latest t until, le-ltb t s.clock w.since, found) at x
 
     there : get_or (N s).contexts i d ≡ s.context
@@ -114,7 +116,7 @@ module _ (n : Node) (i t : ℕ) (d : Context) (m : Name) (until : t ≤ latest) 
         (λ e. rw e)
 
     pub same : step_of (N s) (event v) b ≡ through (seated n i) (seat_step n.profile n.settings t s v b)
-    unfolding seat_step done_by
+    unfolding seat_step answered_by done_by
     same =
         by (leb most_accepted s.accepted)
         (λ e. task.done ∙ rw e)

@@ -29,14 +29,15 @@ use Rattle.node.specs.declared.Settings.{Settings}
 use Rattle.limits.specs.Sets.{has_set, is_next}
 use Rattle.event.specs.declared.Replacement.{Replacement}
 use Rattle.std.specs.Prelude.{Option, None, Some}
-use Rattle.node.specs.Sound.{sound, latest, most_accepted}
 use Rattle.node.specs.Step.{Brought, ToContexts, Words, to_contexts, to_settings, settled_by, handling, subscribing, taken, stood, slots, places, octets_of, activated}
 use Rattle.node.specs.Step.{node_after, records_of, mm_records_of, output, unknown_set, other_edition, outcome}
 use Rattle.node.specs.Held.{Shaped, HeldContext, Held}
 use Rattle.node.specs.Private.Premises.{SoundTable}
+use Rattle.node.specs.Private.Task.{Sounding}
 use Rattle.node.specs.Private.Range.{slot_next, slot_out, Stands, advanced, resettled, served_of, Serves}
 use Rattle.node.proofs.RefusalRows.{table_rows}
 use Rattle.node.proofs.Rules.{rules}
+use Rattle.node.proofs.TableKept.{shapes}
 use Rattle.node.proofs.Found.{contexts, named, idle}
 use Rattle.node.proofs.Found as found
 use Rattle.node.proofs.Attached as attached
@@ -45,18 +46,12 @@ use Rattle.node.proofs.Hearing.{Settled, all_settled, all_after, all_outs, tells
 
 -- ---- a sound node
 
--- a sound node, at a time that it takes, with room for one accepted event more
-pub record Sounding (n : Node) (t : ℕ) : Type 0 where
-  pub sound : sound n ≡ true
-  pub since : n.clock ≤ t
-  pub until : t ≤ latest
-  pub few : n.accepted < most_accepted
-
 module _ (n : Node) (t : ℕ) (s : Sounding n t) where
-  pub ready : SoundTable n.profile n.settings t n.contexts
-  ready = record {
+  pub ready : Held n → SoundTable n.profile n.settings t n.contexts
+  ready h = record {
     due = record { clock = n.clock; accepted = n.accepted; profile = (rules n s.sound).profile; sets = (rules n s.sound).sets; since = s.since; until = s.until; few = s.few };
     sound = (rules n s.sound).slots;
+    shapes = shapes n.contexts h.contexts;
   }
 
   pub apart : distinct contexts n.contexts ≡ true

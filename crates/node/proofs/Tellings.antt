@@ -222,6 +222,9 @@ pub record Due (vs : List ℕ) (accepted k : ℕ) : Type 0 where
   pub up : get_or vs (2 * k) 0 < 2 ^ 32
   pub down : get_or vs (2 * k + 1) 0 < 2 ^ 32
 
+pub due_at : {vs : List ℕ} {accepted k : ℕ} → ((i : ℕ) → get_or vs i 0 < 2 ^ 32) → k < length vs / 2 → accepted + k < most_accepted → Due vs accepted k
+due_at {vs} {accepted} {k} fit pair few = record { pair = pair; few = few; up = fit (2 * k); down = fit (2 * k + 1) }
+
 module _ {p : Profile} {gs : Settings} {clock accepted : ℕ} {c : Context} {t : ℕ} (w : Listens p gs clock accepted c t) (vs b : List ℕ) where
   sounds_first : Sounds p t accepted c
   sounds_first = record { clock = clock; since = w.since; active = w.active; sound = w.sound; shape = w.shape }

@@ -1,3 +1,4 @@
+pub mod Refusal
 pub mod Meaning
 pub mod Hear
 pub mod Sound

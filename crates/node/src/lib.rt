@@ -14,11 +14,16 @@ mod closing;
 mod emit;
 mod meaning;
 mod pairs;
+pub mod refusal;
 pub mod sound;
 mod standing;
 pub mod step;
 mod table;
 mod task;
+
+ghost use Rattle.std.specs.Prelude.{◌≡◌, ◌<◌};
+ghost use Rattle.node.specs.Sound.{most_accepted};
+ghost use Rattle.node.specs.Private.Range.{accepted_at};
 
 use container::Qos;
 use context::Context;
@@ -46,6 +51,17 @@ pub struct Node {
     pub accepted: u64,
     pub contexts: [Context; 16],
     pub subscribers: [Subscriber; 16],
+}
+
+impl Node {
+    // One event more was accepted, at a time.
+    fn accept(&mut self, t: u32)
+        requires { self.old.accepted < most_accepted }
+        ensures { self.new ≡ accepted_at self.old t }
+    {
+        self.clock = t;
+        self.accepted += 1;
+    }
 }
 
 // What an event is to a context that hears it. What it is not is false, or zero.

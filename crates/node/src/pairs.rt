@@ -3,17 +3,21 @@
 // A pair that closes nothing is three additions. So what was reported since the last closing is kept beside the context, and is added to it
 // only when something closes, and at the end: a context has 776 octets, and each function that takes it copies it.
 ghost use Rattle.std.specs.Prelude.{◌≡◌, ◌+◌, ◌^◌, ◌<◌};
+ghost use Rattle.node.specs.Refusal.{answer_of};
 ghost use Rattle.node.specs.Private.Pairs.{counted, Listens, Tells};
 
+use crate::refusal::Refusal;
+use crate::sound::MOST_ACCEPTED;
 use crate::{Settings, closed};
 use container::open;
 use context::Context;
 use profile::Profile;
 
-// What comes of them: 0, or the number that stopped them; how many pairs were applied; the context then, and how many octets these wrote.
+// What comes of them: the refusal that stopped them, if one did; how many pairs were applied; the context then, and how many octets these
+// wrote.
 #[derive(Clone, Copy)]
 pub struct Told {
-    pub answer: u8,
+    pub refusal: Option<Refusal>,
     pub applied: usize,
     pub context: Context,
     pub written: usize,
@@ -24,23 +28,20 @@ fn counted(c: Context, up: u64, down: u64) -> Context
     requires { (c.current.uplink + up < 2 ^ 64) × (c.current.downlink + down < 2 ^ 64) }
     ensures { result ≡ counted c up down }
 {
-    let mut o = c.current;
-    o.uplink = o.uplink + up;
-    o.downlink = o.downlink + down;
     let mut n = c;
-    n.current = o;
+    n.current.uplink += up;
+    n.current.downlink += down;
     n
 }
 
 // What comes of them where they end, or are stopped.
-fn stopped(answer: u8, applied: usize, context: Context, written: usize) -> Told
-    ensures { (result.answer ≡ answer) × ((result.applied ≡ applied) × ((result.context ≡ context) × (result.written ≡ written))) }
+fn stopped(refusal: Option<Refusal>, applied: usize, context: Context, written: usize) -> Told
+    ensures { (result.refusal ≡ refusal) × ((result.applied ≡ applied) × ((result.context ≡ context) × (result.written ≡ written))) }
 {
-    let same = context;
     Told {
-        answer,
+        refusal,
         applied,
-        context: same,
+        context,
         written,
     }
 }
@@ -60,39 +61,35 @@ pub fn tell(
 ) -> Told
     requires { Listens p g clock accepted c t }
     ensures { Tells p g clock accepted c t volumes.now out.old out.new
-        result.answer result.applied result.context result.written }
+        (answer_of result.refusal) result.applied result.context result.written }
 {
-    let o = c.current;
     let mut last = c;
     let mut up: u64 = 0;
     let mut down: u64 = 0;
-    let mut left = open::volume_left(o);
+    let mut left = open::volume_left(c.current);
     let mut at: usize = 0;
-    let mut k: usize = 0;
-    while k < volumes.len() / 2 {
-        if 1000000000000000 <= accepted + k as u64 {
-            return stopped(7, k, counted(last, up, down), at);
+    let pairs = volumes.len() / 2;
+    for k in 0..pairs {
+        if MOST_ACCEPTED <= accepted + k as u64 {
+            return stopped(Some(Refusal::TooMany), k, counted(last, up, down), at);
         }
-        let u = volumes[2 * k];
-        let d = volumes[2 * k + 1];
-        let sum = u as u64 + d as u64;
-        if sum < left {
-            up += u as u64;
-            down += d as u64;
-            left -= sum;
-            k += 1;
+        let u = volumes[2 * k] as u64;
+        let d = volumes[2 * k + 1] as u64;
+        if u + d < left {
+            up += u;
+            down += d;
+            left -= u + d;
             continue;
         }
-        let n = closed::close(p, last, t, up + u as u64, down + d as u64, &mut out[at..]);
+        let n = closed::close(p, last, t, up + u, down + d, &mut out[at..]);
         if n == 0 {
-            return stopped(11, k, counted(last, up, down), at);
+            return stopped(Some(Refusal::NoRoom), k, counted(last, up, down), at);
         }
         last = closed::reopened(p, g, last, t);
         at += n;
         up = 0;
         down = 0;
         left = last.current.limits.volume;
-        k += 1;
     }
-    stopped(0, k, counted(last, up, down), at)
+    stopped(None, pairs, counted(last, up, down), at)
 }

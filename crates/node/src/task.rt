@@ -1,15 +1,16 @@
-// What a call is to do, by the names of the slots and the event. Nothing here has the table in hand: a node has 16,384 octets, and each
-// function that takes it copies it.
-ghost use Rattle.std.specs.Prelude.{◌≡◌, true};
+// What a call is to do, by the names of the slots and the event.
+ghost use Rattle.std.specs.Prelude.{◌≡◌, true, IfOk};
 ghost use Rattle.event.specs.Event.{decoded};
 ghost use Rattle.node.specs.Meaning.{meaning_of};
 ghost use Rattle.node.specs.Private.Premises.{InRange};
 ghost use Rattle.subscriber.specs.Hear.{notice_ok};
-ghost use Rattle.node.specs.Private.Task.{named_task, open_task, replace_task, notify_task, attach_task, task_of, timely_task, task_for, MeaningInRange, TaskInRange};
+ghost use Rattle.node.specs.Private.Task.{named_task, open_task, replace_task, notify_task, attach_task, task_of, timely, said_task, node_task, MeaningInRange, TaskInRange};
 
 use crate::meaning::Meaning;
-use crate::{Message, Settings, meaning};
-use event::{Activation, Event, Name, Replacement};
+use crate::refusal::Refusal;
+use crate::sound::{LATEST, MOST_ACCEPTED, Surveyed};
+use crate::{Message, Node, meaning, sound};
+use event::{Activation, Name, Replacement};
 use keys::Slot;
 use limits::sets;
 use mcdr::Place;
@@ -17,8 +18,6 @@ use subscriber::Notice;
 
 #[derive(Clone, Copy)]
 pub enum Task {
-    // the number of a refusal
-    Refuse(u8),
     // the context in a slot hears something, at a time
     One(usize, u32, Message),
     // all contexts do
@@ -34,137 +33,113 @@ pub enum Task {
 }
 
 // The context of a name hears m.
-fn named(names: &[Slot<Name>], t: u32, name: Name, m: Message) -> Task
+#[tactic(auto, unfolding(crate::specs::Private::Task::named_task))]
+fn named(names: &[Slot<Name>], t: u32, name: Name, m: Message) -> Result<Task, Refusal>
     requires { InRange m }
-    ensures { (result ≡ named_task names.now t name m) × TaskInRange result }
+    ensures is { result ≡ named_task names.now t name m }
+    ensures in_range { IfOk result TaskInRange }
 {
-    match keys::find(names, &name) {
-        Some(i) => Task::One(i, t, m),
-        None => Task::Refuse(8),
-    }
+    let i = keys::find(names, &name).ok_or(Refusal::NotActive)?;
+    Ok(Task::One(i, t, m))
 }
 
 // An activation takes the lowest free slot. Its set must be one of so many.
-fn open(count: usize, names: &[Slot<Name>], t: u32, a: Activation) -> Task
-    ensures { (result ≡ open_task count names.now t a) × TaskInRange result }
+#[tactic(auto, unfolding(crate::specs::Private::Task::open_task))]
+fn open(count: usize, names: &[Slot<Name>], t: u32, a: Activation) -> Result<Task, Refusal>
+    ensures is { result ≡ open_task count names.now t a }
+    ensures in_range { IfOk result TaskInRange }
 {
     if !sets::has(count, a.set) {
-        return Task::Refuse(18);
+        return Err(Refusal::UnknownSet);
     }
     if keys::find(names, &a.name).is_some() {
-        return Task::Refuse(9);
+        return Err(Refusal::Active);
     }
-    match keys::lowest_free(names) {
-        Some(i) => Task::Open(i, t, a),
-        None => Task::Refuse(10),
-    }
+    let i = keys::lowest_free(names).ok_or(Refusal::NoSlot)?;
+    Ok(Task::Open(i, t, a))
 }
 
-// A set of limits is replaced by its next edition. It must be one of so many.
-fn replace(count: usize, g: Settings, t: u32, r: Replacement) -> Task
-    ensures { (result ≡ replace_task count g t r) × TaskInRange result }
+// A set of limits is replaced by its next edition. It must be one that the node has.
+#[tactic(auto, unfolding(crate::specs::Private::Task::replace_task))]
+fn replace(node: &Node, t: u32, r: Replacement) -> Result<Task, Refusal>
+    ensures is { result ≡ replace_task node.now.profile.sets node.now.settings t r }
+    ensures in_range { IfOk result TaskInRange }
 {
-    if !sets::has(count, r.set) {
-        return Task::Refuse(18);
+    if !sets::has(node.profile.sets, r.set) {
+        return Err(Refusal::UnknownSet);
     }
-    let sets = g.sets;
-    if !sets::is_next(sets, r.set, r.edition) {
-        return Task::Refuse(19);
+    if !sets::is_next(node.settings.sets, r.set, r.edition) {
+        return Err(Refusal::Edition);
     }
-    Task::Replace(t, r)
+    Ok(Task::Replace(t, r))
 }
 
 // The subscriber of a name hears m.
-fn notify(imsis: &[Slot<u64>], t: u32, imsi: u64, m: Notice) -> Task
+#[tactic(auto, unfolding(crate::specs::Private::Task::notify_task))]
+fn notify(imsis: &[Slot<u64>], t: u32, imsi: u64, m: Notice) -> Result<Task, Refusal>
     requires { notice_ok m ≡ true }
-    ensures { (result ≡ notify_task imsis.now t imsi m) × TaskInRange result }
+    ensures is { result ≡ notify_task imsis.now t imsi m }
+    ensures in_range { IfOk result TaskInRange }
 {
-    match keys::find(imsis, &imsi) {
-        Some(i) => Task::Notify(i, t, m),
-        None => Task::Refuse(16),
-    }
+    let i = keys::find(imsis, &imsi).ok_or(Refusal::NotAttached)?;
+    Ok(Task::Notify(i, t, m))
 }
 
 // An attach takes the lowest free slot.
-fn attach(imsis: &[Slot<u64>], t: u32, imsi: u64, place: Place) -> Task
-    ensures { (result ≡ attach_task imsis.now t imsi place) × TaskInRange result }
+#[tactic(auto, unfolding(crate::specs::Private::Task::attach_task))]
+fn attach(imsis: &[Slot<u64>], t: u32, imsi: u64, place: Place) -> Result<Task, Refusal>
+    ensures is { result ≡ attach_task imsis.now t imsi place }
+    ensures in_range { IfOk result TaskInRange }
 {
     if keys::find(imsis, &imsi).is_some() {
-        return Task::Refuse(15);
+        return Err(Refusal::Attached);
     }
-    match keys::lowest_free(imsis) {
-        Some(i) => Task::Attach(i, t, place),
-        None => Task::Refuse(17),
-    }
+    let i = keys::lowest_free(imsis).ok_or(Refusal::NoPlace)?;
+    Ok(Task::Attach(i, t, place))
 }
 
 // What an event does that comes in time, by its meaning.
-fn task_of(
-    count: usize,
-    g: Settings,
-    names: &[Slot<Name>],
-    imsis: &[Slot<u64>],
-    t: u32,
-    w: Meaning,
-) -> Task
+#[tactic(auto, unfolding(crate::specs::Private::Task::task_of))]
+fn task_of(node: &Node, seen: &Surveyed, t: u32, w: Meaning) -> Result<Task, Refusal>
     requires { MeaningInRange w }
-    ensures { (result ≡ task_of count g names.now imsis.now t w) × TaskInRange result }
+    ensures is { result ≡ task_of node.now seen.now.names seen.now.imsis t w }
+    ensures in_range { IfOk result TaskInRange }
 {
     match w {
-        Meaning::Opens(a) => open(count, names, t, a),
-        Meaning::Tells(name, m) => named(names, t, name, m),
-        Meaning::TellsAll(m) => Task::All(t, m),
-        Meaning::Attaches(imsi, place) => attach(imsis, t, imsi, place),
-        Meaning::Notifies(imsi, m) => notify(imsis, t, imsi, m),
-        Meaning::Replaces(r) => replace(count, g, t, r),
+        Meaning::Opens(a) => open(node.profile.sets, &seen.names, t, a),
+        Meaning::Tells(name, m) => named(&seen.names, t, name, m),
+        Meaning::TellsAll(m) => Ok(Task::All(t, m)),
+        Meaning::Attaches(imsi, place) => attach(&seen.imsis, t, imsi, place),
+        Meaning::Notifies(imsi, m) => notify(&seen.imsis, t, imsi, m),
+        Meaning::Replaces(r) => replace(node, t, r),
     }
 }
 
-// The time first, then whether one more event may be accepted.
-fn timely(
-    count: usize,
-    g: Settings,
-    clock: u32,
-    accepted: u64,
-    names: &[Slot<Name>],
-    imsis: &[Slot<u64>],
-    t: u32,
-    e: Event,
-) -> Task
-    requires { MeaningInRange (meaning_of e) }
-    ensures { (result ≡ timely_task count g clock accepted names.now imsis.now t e) × TaskInRange result }
+// Is it a time that a node takes, and may it accept one event more?
+#[tactic(auto, unfolding(crate::specs::Private::Task::timely))]
+pub fn timely(node: &Node, t: u32) -> Result<(), Refusal>
+    ensures { result ≡ timely node.now t }
 {
-    if 3155759999 < t {
-        return Task::Refuse(6);
+    if LATEST < t || t < node.clock {
+        Err(Refusal::Time)
+    } else if MOST_ACCEPTED <= node.accepted {
+        Err(Refusal::TooMany)
+    } else {
+        Ok(())
     }
-    if t < clock {
-        return Task::Refuse(6);
-    }
-    if 1000000000000000 <= accepted {
-        return Task::Refuse(7);
-    }
-    task_of(count, g, names, imsis, t, meaning::meaning_of(e))
 }
 
 // The rows of the refusal table before room is looked for: 13, then those of the event's octets, then those of the time and the name.
-#[tactic(auto, unfolding(crate::specs::Private::Task::task_for))]
-pub fn task_for(
-    sound: bool,
-    count: usize,
-    g: Settings,
-    clock: u32,
-    accepted: u64,
-    names: &[Slot<Name>],
-    imsis: &[Slot<u64>],
-    event: &[u8],
-) -> Task
-    ensures { (result ≡ task_for sound count g clock accepted names.now imsis.now (decoded event.now)) × TaskInRange result }
+#[tactic(auto, unfolding(crate::specs::Private::Task::node_task, crate::specs::Private::Task::said_task, crate::specs::Private::Task::timely_task, crate::specs::Private::Task::timely))]
+pub fn task_for(node: &Node, event: &[u8]) -> Result<Task, Refusal>
+    ensures is { result ≡ node_task node.now (decoded event.now) }
+    ensures in_range { IfOk result TaskInRange }
 {
-    if !sound {
-        return Task::Refuse(13);
+    let seen = sound::survey(node);
+    if !seen.sound {
+        return Err(Refusal::Unsound);
     }
-    match event::decode(event) {
-        Ok((t, e)) => timely(count, g, clock, accepted, names, imsis, t, e),
-        Err(refusal) => Task::Refuse(refusal.into()),
-    }
+    let (t, e) = event::decode(event)?;
+    timely(node, t)?;
+    task_of(node, &seen, t, meaning::meaning_of(e))
 }

@@ -248,6 +248,5 @@ impl Command {
 pub fn node_of(p: Profile) -> Node
     ensures { result ≡ (fresh_of p).1 }
 {
-    let m = node::sound::fresh(p);
-    m.node
+    node::sound::fresh(p).unwrap_or(node::sound::no_node())
 }

@@ -8,7 +8,7 @@
 mod reports;
 
 use crate::records::block::two;
-use node::Node;
+use node::{Node, refusal};
 use out::Stream;
 use profile::Profile;
 use setup::{Command, Turns};
@@ -92,18 +92,25 @@ fn ask(node: Node, batch: bool, octets: &[u8], out: &mut [u8]) -> Called {
     if batch {
         let r = reports::told(node, octets, out);
         Called {
-            answer: r.answer,
+            answer: refusal::answer_of(r.refusal),
             applied: Some(r.applied),
             node: r.node,
             written: r.written,
         }
     } else {
-        let r = node::step::step(node, octets, out);
-        Called {
-            answer: r.answer,
-            applied: None,
-            node: r.node,
-            written: r.written,
+        match node::step::step(node, octets, out) {
+            Ok(stepped) => Called {
+                answer: 0,
+                applied: None,
+                node: stepped.node,
+                written: stepped.written,
+            },
+            Err(refusal) => Called {
+                answer: refusal.into(),
+                applied: None,
+                node,
+                written: 0,
+            },
         }
     }
 }

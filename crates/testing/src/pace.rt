@@ -51,9 +51,10 @@ fn run_events(profile: Profile, s: &[u8]) -> u64 {
             node = setup::node_of(profile);
         }
         at = after_event(s, from);
-        let r = node::step::step(node, octets::part(s, from, at), &mut out);
-        node = r.node;
-        sum = wrapping_add_u64(sum, r.written as u64);
+        if let Ok(stepped) = node::step::step(node, octets::part(s, from, at), &mut out) {
+            node = stepped.node;
+            sum = wrapping_add_u64(sum, stepped.written as u64);
+        }
         calls -= 1;
     }
     sum

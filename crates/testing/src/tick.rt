@@ -29,10 +29,16 @@ fn run_last(profile: Profile, s: &[u8]) -> Ran {
     let mut calls: u32 = 5000;
     while 0 < calls {
         let next = after_event(s, at);
-        let r = node::step::step(node, octets::part(s, at, next), &mut out);
-        ran = counted(ran, r.written as u64, s.len() <= next);
-        if next < s.len() {
-            node = r.node;
+        let last = s.len() <= next;
+        let mut written = 0;
+        if let Ok(stepped) = node::step::step(node, octets::part(s, at, next), &mut out) {
+            written = stepped.written;
+            if !last {
+                node = stepped.node;
+            }
+        }
+        ran = counted(ran, written as u64, last);
+        if !last {
             at = next;
         }
         calls -= 1;

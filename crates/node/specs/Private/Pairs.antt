@@ -1,5 +1,6 @@
 -- The slot that a list of reports names, by itself: what the reports do to it, pair by pair; and what a list is to do.
-use Rattle.std.specs.Prelude.{◌≡◌, Bool, true, false, cond, ◌||◌, List, ℕ, ◌+◌, ◌%◌, ◌≤◌, leb, ltb, eqb, set, Option, None, Some, position}
+use Rattle.std.specs.Prelude.{◌≡◌, true, cond, ◌||◌, List, ℕ, ◌+◌, ◌%◌, ◌≤◌, leb, ltb, eqb, set}
+use Rattle.std.specs.Prelude.{Option, None, Some, position, Result, Ok, Err}
 use Rattle.container.specs.Open as O
 use Rattle.profile.specs.declared.Profile.{Profile}
 use Rattle.profile.specs.Profile.{profile_ok}
@@ -8,14 +9,14 @@ use Rattle.event.specs.declared.Name.{Name}
 use Rattle.context.specs.declared.Context.{Context}
 use Rattle.context.specs.Slots.{bears}
 use Rattle.context.specs.Sound.{context_ok}
-use Rattle.keys.specs.declared.Slot.{Slot}
 use Rattle.node.specs.declared.Node.{Node}
 use Rattle.node.specs.declared.Settings.{Settings}
-use Rattle.node.specs.declared.batch.Reports.{Reports}
-use Rattle.node.specs.declared.batch.Reports.TheVariants.{Refuse, Nothing, Tell}
+use Rattle.node.specs.declared.refusal.Refusal.{Refusal}
+use Rattle.node.specs.declared.refusal.Refusal.TheVariants.{Time, TooMany, NotActive, Unsound, OddList}
+use Rattle.node.specs.Private.Task.{names_of}
 use Rattle.node.specs.Meaning.{report}
 use Rattle.node.specs.Hear.{going}
-use Rattle.node.specs.Sound.{latest, most_accepted}
+use Rattle.node.specs.Sound.{sound, latest, most_accepted}
 use Rattle.node.specs.Held.{Shaped}
 use Rattle.node.specs.Batch.{Done, pairs_of, one_by_one}
 use Rattle.node.specs.Private.Range.{tried_of}
@@ -80,18 +81,21 @@ pub record Tells (p : Profile) (g : Settings) (clock accepted : ℕ) (c : Contex
       (one_by_one (seat_step p g t) (seat_at clock accepted t 0 c) (pairs_of vs) b)
   pub few : accepted + applied ≤ most_accepted
 
--- ---- what a list of k numbers is to do
+-- ---- the slot that a list of k numbers is told to
 
-abbrev pub tell_at : Option ℕ → Reports
-tell_at (Some i) = Tell i
-tell_at None = Refuse 8
+abbrev pub Telling : Type 0
+Telling = Result (Option ℕ) Refusal
+
+abbrev pub tell_at : Option ℕ → Telling
+tell_at (Some i) = Ok (Some i)
+tell_at None = Err NotActive
 
 -- 6, 7 and 8 of the first pair
-unfoldable pub first_pair : ℕ → ℕ → List (Slot Name) → Name → ℕ → Reports
-first_pair clock accepted names m t =
-    cond (ltb latest t || ltb t clock) (Refuse 6) (cond (leb most_accepted accepted) (Refuse 7) (tell_at (position (bears m) names)))
+unfoldable pub first_pair : Node → Name → ℕ → Telling
+first_pair n m t =
+    cond (ltb latest t || ltb t n.clock) (Err Time)
+    (cond (leb most_accepted n.accepted) (Err TooMany) (tell_at (position (bears m) (names_of n))))
 
 -- 13, then 14, then an empty list
-unfoldable pub reports_for : Bool → ℕ → ℕ → List (Slot Name) → Name → ℕ → ℕ → Reports
-reports_for false clock accepted names m t k = Refuse 13
-reports_for true clock accepted names m t k = cond (eqb (k % 2) 1) (Refuse 14) (cond (eqb k 0) Nothing (first_pair clock accepted names m t))
+unfoldable pub reports_for : Node → Name → ℕ → ℕ → Telling
+reports_for n m t k = cond (sound n) (cond (eqb (k % 2) 1) (Err OddList) (cond (eqb k 0) (Ok None) (first_pair n m t))) (Err Unsound)

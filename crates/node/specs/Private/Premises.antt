@@ -10,7 +10,9 @@ use Rattle.context.specs.declared.Context.{Context}
 use Rattle.context.specs.Sound.{context_ok, slot_ok, slots_ok}
 use Rattle.node.specs.declared.Message.{Message}
 use Rattle.node.specs.declared.Settings.{Settings}
+use Rattle.history.specs.Lists.{All}
 use Rattle.node.specs.Sound.{latest, most_accepted}
+use Rattle.node.specs.Held.{Shaped}
 
 -- what an event in range is to a context: nothing is reported where nothing is counted; a QoS is in range; a release closes with its cause,
 -- and what closes without one closes with 20
@@ -50,7 +52,9 @@ pub record SoundContext (p : Profile) (g : Settings) (t : ℕ) (c : Context) : T
 pub record SoundSlot (p : Profile) (g : Settings) (t : ℕ) (c : Context) : Type 0 where
   pub due : Due p g t
   pub sound : slot_ok p.sets p.zone due.clock due.accepted c ≡ true
+  pub shape : Shaped c
 
 pub record SoundTable (p : Profile) (g : Settings) (t : ℕ) (cs : List Context) : Type 0 where
   pub due : Due p g t
   pub sound : slots_ok p.sets p.zone due.clock due.accepted cs ≡ true
+  pub shapes : All Shaped cs

@@ -43,9 +43,22 @@ tried_of p g t h c b =
 pub record Tries (p : Profile) (g : Settings) (t : ℕ) (h : Message) (c : Context) (b b' : List ℕ) (answer : ℕ) (c' : Context) (written : ℕ) : Type 0 where
   pub is : ◌≡◌ {A = ℕ × (Context × (ℕ × List ℕ))} (answer, (c', (written, b'))) (tried_of p g t h c b)
 
+-- the same of the whole table
+unfoldable pub tried_all : Profile → Settings → ℕ → Message → List Context → List ℕ → ℕ × (List Context × (ℕ × List ℕ))
+tried_all p g t h cs b =
+    let x = along 0 16 (slot_out p g t h) cs in
+    cond (leb (length x) (length b)) (0, (across 0 16 (slot_next p g t h) cs, (length x, x ++ drop (length x) b))) (11, (cs, (0, b)))
+
+pub record TriesAll (p : Profile) (g : Settings) (t : ℕ) (h : Message) (cs : List Context) (b b' : List ℕ) (answer : ℕ) (cs' : List Context) (written : ℕ) : Type 0 where
+  pub is : ◌≡◌ {A = ℕ × (List Context × (ℕ × List ℕ))} (answer, (cs', (written, b'))) (tried_all p g t h cs b)
+
 -- the node at a time, one event on, with this table
 abbrev pub advanced : Node → ℕ → List Context → Node
 advanced n t cs = record { profile = n.profile; settings = n.settings; clock = t; accepted = n.accepted + 1; contexts = cs; subscribers = n.subscribers }
+
+-- one event on, with the same tables
+abbrev pub accepted_at : Node → ℕ → Node
+accepted_at n t = advanced n t n.contexts
 
 -- the same with another table of subscribers
 abbrev pub enrolled : Node → ℕ → List Subscriber → Node

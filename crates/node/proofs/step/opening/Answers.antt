@@ -9,8 +9,8 @@ unfolding activated
 returns c =
     rw (
       c.imsi_of-imsi.ensures,
-      checked_name c.args.event.now c.check_apn-checked.ensures c.requires.name,
-      c.opened-current.ensures,
+      checked_name c.args.event.now c.check_apn.ensures c.requires.name,
+      c.opened.ensures,
       c.limits_of-limits.ensures,
       sym c.requires.size,
     )
