@@ -3,7 +3,8 @@
 //
 // sound has the rules of a node and a fresh one; step the whole call. Under it: task finds out what a call is to do; meaning says who
 // hears an event and what it is to them, closing what that does to an open record, standing what then stands, emit what is written, table
-// how the slots hear one after another. batch takes a list of reports: pairs runs it on one context, closed closes its full records.
+// how the slots hear one after another; refusal has the refusals by name. batch takes a list of reports: pairs runs it on one context,
+// closed closes its full records.
 //
 // No public function has a `requires`: each answers for every input.
 #![tactic(auto)]
