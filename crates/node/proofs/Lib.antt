@@ -17,7 +17,6 @@ pub mod Copied
 pub mod Calls
 pub mod Numbered
 pub mod Tries
-pub mod Told
 pub mod Tasks
 pub mod Demands
 pub mod Fixes

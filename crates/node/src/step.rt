@@ -11,6 +11,7 @@ ghost use Rattle.node.specs.Private.Task.{Does, Doable};
 use crate::refusal::Refusal;
 use crate::task::Task;
 use crate::{Node, Settings, emit, table, task};
+use ber::written::NotWritten;
 use calendar::Stamp;
 use container::open;
 use context::Context;
@@ -87,14 +88,10 @@ fn notify(
     ensures { MatchResult result (λ written. Tells p t m s.old out.old out.new 0 s.new written)
         (λ refusal. Tells p t m s.old out.old out.new (number_of refusal) s.new 0) }
 {
-    let told = tell::tell(p, *s, t, m, out);
-    if told.answer == 0 {
-        *s = told.subscriber;
-        Ok(told.written)
-    } else if told.answer == 11 {
-        Err(Refusal::NoRoom)
-    } else {
-        Err(Refusal::Unsound)
+    match tell::tell(p, s, t, m, out) {
+        Ok(written) => Ok(written),
+        Err(NotWritten::NoRoom) => Err(Refusal::NoRoom),
+        Err(NotWritten::OutsideRules) => Err(Refusal::Unsound),
     }
 }
 

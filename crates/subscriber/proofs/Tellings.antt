@@ -4,7 +4,6 @@ use mathlib.Core.Bool.{Bool, true, false, and-true, and-false}
 use Rattle.std.specs.Prelude.{Option, None, Some, Result, Ok, Err}
 use Rattle.ber.specs.Written.{written}
 use Rattle.ber.specs.declared.written.NotWritten.{NotWritten}
-use Rattle.ber.specs.declared.written.NotWritten.TheVariants.{OutsideRules, NoRoom}
 use mathlib.Core.List.{List, [], ◌∷◌, append-nil}
 use Prim.Native.Nat.{ℕ, ◌+◌, ◌^◌, ◌≤◌, ◌<◌}
 use native.Mathlib.Omega.{arith}
@@ -22,44 +21,28 @@ use Rattle.subscriber.specs.declared.Notice.{Notice}
 use Rattle.subscriber.specs.declared.Notice.TheVariants.{Moved, Managed, Detached}
 use Rattle.subscriber.specs.Subscriber.{place_of}
 use Rattle.subscriber.specs.Hear.{opened, listed, record_of, fifteenth, closes_with, hear}
-use Rattle.subscriber.specs.Tell.{stood, marked_octets, octets_of, all_within, able, told_of, Tells}
+use Rattle.subscriber.specs.Tell.{stood, marked_octets, octets_of, all_within, able, told_of, answer_of, written_of, Tells}
 use Rattle.subscriber.specs.Private.Able.{Roomy}
-use Rattle.subscriber.specs.Private.Marked.{marked_in, Marks, told_number, emit_of, Emits}
+use Rattle.subscriber.specs.Private.Marked.{marked_in, Marks, emit_of, Emits}
 
 -- ---- a record that closes
 
-same_Ok : {m n : ℕ} → ◌≡◌ {A = Result ℕ NotWritten} (Ok m) (Ok n) → m ≡ n
-same_Ok e = cc
-
-same_Err : {e f : NotWritten} → ◌≡◌ {A = Result ℕ NotWritten} (Err e) (Err f) → e ≡ f
-same_Err e = cc
-
-module _ {r : MmRecord} {b b' : List ℕ} (s z : Subscriber) {a : Result ℕ NotWritten} (m : Marks r b b' a) where
-  -- it was not written
-  pub emits_not : {e : NotWritten} {n : ℕ} → a ≡ Err e → n ≡ told_number e → Emits r s z b b' n s 0
+module _ {r : MmRecord} {b b' : List ℕ} (s z : Subscriber) where
+  pub emits_not : {e : NotWritten} → Marks r b b' (Err e) → Emits r s z b b' (answer_of (Err e)) s 0
   unfolding marked_in emit_of written
-  emits_not {e} {n} k f =
+  emits_not {e} m =
       by (within r)
       (λ w. by (leb (length (marked_octets r)) (length b))
       (λ l. absurd (let q = ap (λ (q : Result ℕ NotWritten × List ℕ). q.0) (rw (w, l) at m.is) in cc))
-      (λ l.
-      let q = rw (w, l) at m.is in
-      let g : e ≡ NoRoom = same_Err (sym k ∙ ap (λ (q : Result ℕ NotWritten × List ℕ). q.0) q) in
-      record { is = rw (w, l) (λ i. ((f ∙ ap told_number g) i, (s, (0, (q i).1)))) }))
-      (λ w.
-      let q = rw w at m.is in
-      let g : e ≡ OutsideRules = same_Err (sym k ∙ ap (λ (q : Result ℕ NotWritten × List ℕ). q.0) q) in
-      record { is = rw w (λ i. ((f ∙ ap told_number g) i, (s, (0, (q i).1)))) })
+      (λ l. let q = rw (w, l) at m.is in record { is = rw (w, l) (λ i. (answer_of ((q i).0), (s, (0, (q i).1)))) }))
+      (λ w. let q = rw w at m.is in record { is = rw w (λ i. (answer_of ((q i).0), (s, (0, (q i).1)))) })
 
-  pub emits_done : {n : ℕ} → a ≡ Ok n → Emits r s z b b' 0 z n
+  pub emits_done : {n : ℕ} → Marks r b b' (Ok n) → Emits r s z b b' 0 z n
   unfolding marked_in emit_of written
-  emits_done {n} k =
+  emits_done {n} m =
       by (within r)
       (λ w. by (leb (length (marked_octets r)) (length b))
-      (λ l.
-      let q = rw (w, l) at m.is in
-      let g : n ≡ length (marked_octets r) = same_Ok (sym k ∙ ap (λ (q : Result ℕ NotWritten × List ℕ). q.0) q) in
-      record { is = rw (w, l) (λ i. (0, (z, (g i, (q i).1)))) })
+      (λ l. let q = rw (w, l) at m.is in record { is = rw (w, l) (λ i. (0, (z, (written_of ((q i).0), (q i).1)))) })
       (λ l. absurd (let q = ap (λ (q : Result ℕ NotWritten × List ℕ). q.0) (rw (w, l) at m.is) in cc)))
       (λ w. absurd (let q = ap (λ (q : Result ℕ NotWritten × List ℕ). q.0) (rw w at m.is) in cc))
 

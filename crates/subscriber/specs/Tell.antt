@@ -1,6 +1,8 @@
 -- What is answered where a subscriber hears something: what stands in its slot then, and the record that it closes, written after its mark.
 use Rattle.std.specs.Prelude.{◌≡◌, Bool, true, cond, ◌&&◌, List, [], ◌∷◌, ◌++◌, ℕ, ◌^◌, leb, ltb, length, drop}
-use Rattle.std.specs.Prelude.{Option}
+use Rattle.std.specs.Prelude.{Option, Result, Ok, Err}
+use Rattle.ber.specs.declared.written.NotWritten.{NotWritten}
+use Rattle.ber.specs.declared.written.NotWritten.TheVariants.{OutsideRules, NoRoom}
 use Rattle.profile.specs.declared.Profile.{Profile}
 use Rattle.history.specs.Lists.{each}
 use Rattle.history.specs.Slots as S
@@ -41,6 +43,17 @@ told_of p t m s b =
     cond (able p t m s)
     (cond (leb (length x) (length b)) (0, (stood (hear p s t m).next, (length x, x ++ drop (length x) b))) (11, (s, (0, b))))
     (13, (s, (0, b)))
+
+-- the number of an answer: 0 where it is none of a refusal
+abbrev pub answer_of : Result ℕ NotWritten → ℕ
+answer_of (Ok n) = 0
+answer_of (Err NoRoom) = 11
+answer_of (Err OutsideRules) = 13
+
+-- and how many octets are written
+abbrev pub written_of : Result ℕ NotWritten → ℕ
+written_of (Ok n) = n
+written_of (Err e) = 0
 
 pub record Tells (p : Profile) (t : ℕ) (m : Notice) (s : Subscriber) (b b' : List ℕ) (answer : ℕ) (s' : Subscriber) (written : ℕ) : Type 0 where
   pub is : ◌≡◌ {A = ℕ × (Subscriber × (ℕ × List ℕ))} (answer, (s', (written, b'))) (told_of p t m s b)

@@ -9,20 +9,17 @@ use mcdr::{Place, changes};
 use profile::Profile;
 
 // The place in force.
-pub fn place_of(s: Subscriber) -> Place
-    ensures { result ≡ place_of s }
+#[tactic(auto, unfolding(crate::specs::Subscriber::place_of))]
+pub fn place_of(s: &Subscriber) -> Place
+    ensures { result ≡ place_of s.now }
 {
-    let v = s.changes;
-    let p = s.place;
-    changes::place_now(v, s.count, p)
+    changes::place_now(s.changes, s.count, s.place)
 }
 
 // A subscriber whose record opens at a time and a place, after so many that are closed.
 pub fn opened(p: Profile, imsi: [u8; 8], t: u32, place: Place, closed: u64) -> Subscriber
     ensures { result ≡ opened p imsi t place closed }
 {
-    let none = changes::no_change();
-    let changes = [none; 15];
     Subscriber {
         active: 1,
         imsi,
@@ -31,7 +28,7 @@ pub fn opened(p: Profile, imsi: [u8; 8], t: u32, place: Place, closed: u64) -> S
             seconds: t,
             zone: p.zone,
         },
-        changes,
+        changes: [changes::no_change(); 15],
         count: 0,
         closed,
     }

@@ -54,18 +54,15 @@ pub enum Notice {
 pub fn no_subscriber() -> Subscriber
     ensures { result ≡ no_subscriber }
 {
-    let none = changes::no_change();
-    let imsi = [0u8; 8];
-    let changes = [none; 15];
     Subscriber {
         active: 0,
-        imsi,
+        imsi: [0; 8],
         place: Place { lac: 0, rac: 0 },
         opening: Stamp {
             seconds: 0,
             zone: 0,
         },
-        changes,
+        changes: [changes::no_change(); 15],
         count: 0,
         closed: 0,
     }

@@ -5,4 +5,4 @@ use Rattle.subscriber.proofs.no_subscriber.Goals as goal
 
 pub returns : goal.returns
 unfolding fill_to no_changes
-returns c = rw c.no_change-none.ensures
+returns c = rw c.no_change.ensures

@@ -2,7 +2,6 @@
 use Rattle.std.specs.Prelude.{◌≡◌, cond, List, ◌++◌, ℕ, leb, length, drop, Result}
 use Rattle.ber.specs.Written.{written}
 use Rattle.ber.specs.declared.written.NotWritten.{NotWritten}
-use Rattle.ber.specs.declared.written.NotWritten.TheVariants.{OutsideRules, NoRoom}
 use Rattle.mcdr.specs.declared.MmRecord.{MmRecord}
 use Rattle.mcdr.specs.Rules.{within}
 use Rattle.subscriber.specs.declared.Subscriber.{Subscriber}
@@ -14,11 +13,6 @@ marked_in r b = written (within r) (marked_octets r) b
 
 pub record Marks (r : MmRecord) (b b' : List ℕ) (answer : Result ℕ NotWritten) : Type 0 where
   pub is : ◌≡◌ {A = Result ℕ NotWritten × List ℕ} (answer, b') (marked_in r b)
-
--- the number of a refusal: 13 where the record is outside the rules
-abbrev pub told_number : NotWritten → ℕ
-told_number OutsideRules = 13
-told_number NoRoom = 11
 
 -- the same, with the subscriber that closes it, and what stands after that
 unfoldable pub emit_of : MmRecord → Subscriber → Subscriber → List ℕ → ℕ × (Subscriber × (ℕ × List ℕ))

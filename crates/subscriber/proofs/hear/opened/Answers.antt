@@ -4,4 +4,4 @@ use Rattle.subscriber.proofs.hear.opened.Goals as goal
 
 pub returns : goal.returns
 unfolding no_changes
-returns c = rw c.no_change-none.ensures
+returns c = rw c.no_change.ensures

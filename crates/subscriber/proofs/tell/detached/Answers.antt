@@ -6,5 +6,5 @@ use Rattle.subscriber.proofs.tell.detached.Goals as goal
 pub returns : goal.returns
 returns c =
     let a = c.args in
-    tells_closes a.p a.t (Detached a.cause) a.s c.requires (hears_detached a.p a.s a.t a.cause)
-    c.no_subscriber-next.ensures (rw c.record_of-r.ensures at c.emit.ensures)
+    tells_closes a.p a.t (Detached a.cause) a.s.now c.requires (hears_detached a.p a.s.now a.t a.cause)
+    c.no_subscriber.ensures (rw c.record_of-r.ensures at c.emit.ensures)

@@ -6,5 +6,5 @@ use Rattle.subscriber.proofs.tell.managed.Goals as goal
 pub returns : goal.returns
 returns c =
     let a = c.args in
-    tells_closes a.p a.t Managed a.s c.requires (hears_managed a.p a.s a.t)
+    tells_closes a.p a.t Managed a.s.now c.requires (hears_managed a.p a.s.now a.t)
     (rw c.place_of-at.ensures at c.opened-next.ensures) (rw c.record_of-r.ensures at c.emit.ensures)
