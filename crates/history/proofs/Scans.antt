@@ -1,18 +1,16 @@
 -- An array of slots looked at: a test of each, the first place that passes one, what is read off each.
 use mathlib.Core.Path.{◌≡◌, refl, sym, ap, ◌∙◌}
 use mathlib.Core.Bool.{Bool, true, false, ◌&&◌}
-use mathlib.Core.List.{List, [], ◌∷◌, ◌++◌, map}
+use mathlib.Core.List.{List, [], ◌∷◌, map}
 use Rattle.std.specs.Prelude.{None, Some, position, is_none}
 use Rattle.std.specs.List.{position_from}
 use Rattle.std.specs.Array.{IsMapOf}
 use Rattle.std.proofs.lemmas.List.{ext_get_or}
 use Rattle.std.specs.Fn.{Mut, Called}
 use Rattle.std.proofs.lemmas.Iterator.Adapters.{position_from-zero}
-use Prim.Native.Nat.{ℕ, zero, suc, ◌+◌, ◌≤◌, ◌<◌}
-use native.Mathlib.Numerals.{add-one}
+use Prim.Native.Nat.{ℕ, zero, suc, ◌+◌, ◌<◌}
 use native.Mathlib.Omega.{arith}
-use lib.ListN.{length, take, drop, get_or, set, length-map, length-set, drop_of_length-le, get_or-map}
-use lib.Seq.{drop-cons, take-suc, take-suc-set, take_all}
+use lib.ListN.{length, get_or, length-map, get_or-map}
 use Rattle.history.specs.Lists.{All}
 use Rattle.history.specs.Slots.{Naming, bears, none_bears, distinct, through}
 use Rattle.history.proofs.Lists.{by, both, none≢some}
@@ -128,50 +126,3 @@ pub mapped : {F A C : Type 0} {g : Mut F (C × Unit {0}) A} {k : F} (f : C → A
 mapped f d {cs} {xs} m e gives =
     ext_get_or (f d) xs (map f cs) (omega (arith, m.long, length-map cs f))
     (λ i h. let w = m.at i d (f d) (omega (arith, m.long)) in gives w.0 _ _ w.1 w.2 ∙ sym (get_or-map f cs i d))
-
--- ---- what f reads off the first i slots is copied
-
-pub record Copied {A C : Type 0} (f : C → A) (cs : List C) (xs : List A) (i : ℕ) : Type 0 where
-  pub size : length xs ≡ length cs
-  pub front : take i xs ≡ take i (map f cs)
-
-pub copied_none : {A C : Type 0} {f : C → A} {cs : List C} {xs : List A} → length xs ≡ length cs → Copied f cs xs 0
-copied_none e = record { size = e; front = refl }
-
-module _ {A C : Type 0} {f : C → A} {cs : List C} {xs : List A} {i : ℕ} (s : Copied f cs xs i) where
-  pub copied_more : (d : C) → i < length cs → Copied f cs (set xs i (f (get_or cs i d))) (i + 1)
-  copied_more d h =
-      let x = f (get_or cs i d) in
-      let w : take (suc i) (map f cs) ≡ take i (map f cs) ++ (x ∷ []) =
-      take-suc (map f cs) i (f d) (omega (arith, length-map cs f)) ∙ rw (get_or-map f cs i d) in
-      record {
-        size = length-set xs i x ∙ s.size;
-        front = rw (add-one, take-suc-set xs i x (omega (arith, s.size)), w, s.front);
-      }
-
-  pub copied_all : length cs ≤ i → xs ≡ map f cs
-  copied_all h = sym (take_all i xs (omega (arith, s.size))) ∙ s.front ∙ take_all i (map f cs) (omega (arith, length-map cs f))
-
--- ---- both in one loop: what f reads off the slots is copied, and a rule asked of each
-
-pub record Looking {A C : Type 0} (f : C → A) (rule : List C → Bool) (cs : List C) (xs : List A) (good : Bool) (i : ℕ) : Type 0 where
-  pub copied : Copied f cs xs i
-  pub left : (good && rule (drop i cs)) ≡ rule cs
-
-pub looking_none : {A C : Type 0} {f : C → A} {rule : List C → Bool} {cs : List C} {xs : List A} → length xs ≡ length cs → Looking f rule cs xs true 0
-looking_none e = record { copied = copied_none e; left = refl }
-
-module _ {A C : Type 0} {f : C → A} {rule : List C → Bool} {p : C → Bool} (k : Asks rule (λ c cs. p c)) {cs : List C} {xs : List A} {good : Bool} {i : ℕ}
-    (s : Looking f rule cs xs good i) where
-  pub looking_more : (d : C) → i < length cs → {r : Bool} → r ≡ p (get_or cs i d) → Looking f rule cs (set xs i (f (get_or cs i d))) (good && r) (i + 1)
-  looking_more d h {r} e =
-      let z : rule (drop i cs) ≡ (r && rule (drop (suc i) cs)) = rw (drop-cons cs i d h, e) (k.step (get_or cs i d) (drop (suc i) cs)) in
-      let w : (good && (r && rule (drop (suc i) cs))) ≡ rule cs = ap (λ (x : Bool). good && x) (sym z) ∙ s.left in
-      record { copied = copied_more s.copied d h; left = rw (add-one i) (by good (λ g. rw g (rw g at w)) (λ g. rw g (rw g at w))) }
-
-  pub looking_end : length cs ≤ i → (xs ≡ map f cs) × (good ≡ rule cs)
-  looking_end h = (
-    copied_all s.copied h,
-    let w : (good && true) ≡ rule cs = ap (λ (x : Bool). good && x) (sym (ap rule (drop_of_length-le cs h) ∙ k.none)) ∙ s.left in
-        by good (λ g. rw g (rw g at w)) (λ g. rw g (rw g at w)),
-  )
