@@ -1,7 +1,7 @@
 -- The table that the calendar makes: the code's must be this one, entry for entry, which antt computes.
 use mathlib.Core.Path.{◌≡◌, sym, ap, ◌∙◌}
 use mathlib.Core.List.{List, [], ◌∷◌}
-use Prim.Native.Nat.{ℕ, zero, suc, ◌+◌, ◌*◌, ◌/◌, ◌%◌, ◌≤◌, ◌<◌}
+use Prim.Native.Nat.{ℕ, zero, suc, ◌+◌, ◌<◌}
 use native.Mathlib.Nat.{le_of_suc-le-suc, not-suc-le-zero, zero-add, add-zero, add-suc, suc-add}
 use native.Mathlib.Omega.{arith}
 use lib.ListN.{get_or}
@@ -27,35 +27,11 @@ from (suc n) k f e (suc i) h =
 pub table_of : (l : List ℕ) → l ≡ days 1200 0 0 → Table l
 table_of l e = record { begins = λ k h. ap (λ (m : List ℕ). get_or m k 0) e ∙ from 1200 0 0 start k h ∙ ap first_day (zero-add k) }
 
--- ---- a look at it, at a place that is told by numbers
+-- ---- a look at it
 
--- an entry, by another name of its place
-pub entry_is : (f : ℕ) {p j r : ℕ} → p ≡ j → r ≡ first_day (f + j) → r ≡ first_day (f + p)
-entry_is f e q = rw e q
-
--- an entry of four years
-pub years_is : {m j r : ℕ} → m ≤ 1200 → m / 48 ≡ j → r ≡ first_day (j * 48 + m % 48) → Is (first_day m) 36525 r
-years_is {m} {j} h e q =
-    let n : j * 48 + m % 48 ≡ m = omega arith in
-    let s = q ∙ ap first_day n in
-    record { same = s; most = omega (arith, below m h) }
-
--- what a `match` on k knows past its arms 0 to n - 1: that k is none of these
-unfoldable pub Past : ℕ → ℕ → Type 0
-Past zero k = Unit {0}
-Past (suc n) k = Past n k × (k ≡ n → ⊥)
-
-passed : (n k : ℕ) → Past n k → n ≤ k
-unfolding Past
-passed zero k p = omega arith
-passed (suc n) k p = let h = passed n k p.0 in let q = p.1 in omega arith
-
--- where k is at most n, it is n
-pub last : (n k : ℕ) → Past n k → k < suc n → k ≡ n
-last n k p h = omega (arith, passed n k p)
+pub look : (l : List ℕ) → Table l → (m : ℕ) {r : ℕ} → m < 1200 → r ≡ get_or l m 0 → Is (first_day m) 36525 r
+look l t m h e = let s = e ∙ t.begins m h in record { same = s; most = omega (arith, below m (omega arith)) }
 
 -- past all entries: the day after 2099
-pub after_all : {m : ℕ} → m ≤ 1200 → Past 25 (m / 48) → Is (first_day m) 36525 36525
-after_all {m} h p =
-    let e : m ≡ 1200 = omega (arith, passed 25 (m / 48) p) in
-    record { same = sym (ap first_day e ∙ end); most = omega arith }
+pub after_all : (m : ℕ) → m ≡ 1200 → Is (first_day m) 36525 36525
+after_all m e = record { same = sym (ap first_day e ∙ end); most = omega arith }

@@ -1,20 +1,21 @@
 -- Any two answers that meet a promise for the same inputs are equal: a promise of each form leaves nothing open.
 use mathlib.Core.Path.{◌≡◌, sym, ◌∙◌}
-use mathlib.Core.Bool.{Bool}
 use mathlib.Core.List.{List}
 use Prim.Native.Nat.{ℕ}
 use native.Mathlib.Omega.{arith}
 use lib.ListN.{length}
 use lib.Seq.{ext_get_or}
 use Rattle.calendar.specs.declared.Stamp.{Stamp}
-use Rattle.calendar.specs.Stamp.{Stamped}
+use Rattle.std.specs.Prelude.{Option}
+use Rattle.std.specs.Bool.{then_some}
+use Rattle.calendar.specs.Stamp.{stamp_ok, stamp_enc}
 use Rattle.calendar.specs.Private.Bound.{Is}
 use Rattle.calendar.specs.Private.Date.{Dated, Lasts}
 use Rattle.calendar.specs.Private.Table.{Table}
 
 -- what the writer promises
-pub stamped_fixes : {t : Stamp} {a b : Bool} {x y : List ℕ} → Stamped t a x → Stamped t b y → (a ≡ b) × (x ≡ y)
-stamped_fixes p q = (p.within ∙ sym q.within, p.form ∙ sym q.form)
+pub stamped_fixes : (t : Stamp) {x y : Option (List ℕ)} → x ≡ then_some (stamp_ok t) (stamp_enc t) → y ≡ then_some (stamp_ok t) (stamp_enc t) → x ≡ y
+stamped_fixes t p q = p ∙ sym q
 
 -- ---- what private functions promise
 

@@ -184,3 +184,27 @@ module _ (d q : ℕ) (h : d < 36525) (e : q ≡ near d) where
       (λ (a : (month_day d).0 ≤ q).
       absurd (omega (arith, next_one (month_day d).0, later ((month_day d).0 + 1) (q + 1) (omega arith), l.starts, l.inside)))
       (λ (a : q < (month_day d).0). omega (arith, near_month.1))
+
+-- ---- a day's date, as the code finds it: n is the day four weeks before
+
+module _ (d n : ℕ) (h : d < 36525) (e : n ≡ d - 28) where
+  quotient : n * 16 / 487 ≡ near d
+  quotient = ap (λ (i : ℕ). i * 16 / 487) e
+
+  pub near_begins : {g : ℕ} → g ≡ first_day (n * 16 / 487) → g ≤ d
+  near_begins b = rw b (near_first d (n * 16 / 487) h quotient)
+
+  pub date_near : {f g : ℕ} → f ≡ first_day (n * 16 / 487 + 1) → d < f → g ≡ first_day (n * 16 / 487) → Dated d (n * 16 / 487) (d - g)
+  date_near a u b = dated d _ _ h (near_here d (n * 16 / 487) h quotient (rw a at u)) b
+
+  pub date_next : {f : ℕ} → f ≡ first_day (n * 16 / 487 + 1) → f ≤ d → Dated d (n * 16 / 487 + 1) (d - f)
+  date_next a u = dated d _ _ h (near_next d (n * 16 / 487) h quotient (rw a at u)) a
+
+-- ---- a month's days: they end where the next one's begin
+
+module _ (k : ℕ) {f g : ℕ} (h : k < 1200) (e : f ≡ first_day k) (q : g ≡ first_day (k + 1)) where
+  pub ends_later : f ≤ g
+  ends_later = omega (arith, next_one k)
+
+  pub month_lasts : Lasts k f (g - f)
+  month_lasts = lasts k f (g - f) h e (omega (arith, next_one k))

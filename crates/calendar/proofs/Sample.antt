@@ -7,7 +7,7 @@ use Prim.Native.Nat.{ℕ}
 use lib.Dec.{T}
 use Rattle.format.specs.Format.{eqs}
 use Rattle.calendar.specs.Month.{month_len, first_day, seek, month_day}
-use Rattle.calendar.specs.Stamp.{stamp_ok, stamp_enc, stamp_val, stamp, blank}
+use Rattle.calendar.specs.Stamp.{stamp_ok, stamp_enc, stamp_val, stamp}
 
 -- the time and zone have these octets
 abbrev row : ℕ → ℕ → List ℕ → Bool
@@ -24,8 +24,8 @@ bench = tt
 abbrev at : ℕ → ℕ → ℕ → List ℕ
 at s h m = 0x00 ∷ 0x01 ∷ 0x01 ∷ 0x00 ∷ 0x00 ∷ 0x00 ∷ s ∷ h ∷ m ∷ []
 
--- what the writer answers for a time out of range is no time
-pub no_blank : stamp.dec blank ≡ None
+-- nine zeros are no time
+pub no_blank : stamp.dec (0 ∷ 0 ∷ 0 ∷ 0 ∷ 0 ∷ 0 ∷ 0 ∷ 0 ∷ 0 ∷ []) ≡ None
 unfolding month_len first_day seek month_day stamp_ok stamp_enc stamp_val
 no_blank = refl
 

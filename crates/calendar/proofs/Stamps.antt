@@ -12,7 +12,8 @@ use Rattle.format.specs.Format.{Law, eqs}
 use Rattle.format.proofs.Formats.{checked_law, eqs_refl, eqs_eq}
 use Rattle.format.proofs.Tests.{by, and_l, and_r, T_true, true_T}
 use Rattle.calendar.specs.declared.Stamp.{Stamp}
-use Rattle.calendar.specs.declared.StampRead.TheVariants.{Time, NoTime}
+use Rattle.std.specs.Prelude.{None, Some, IsTrue, ◌↔◌}
+use Rattle.std.specs.Bool.{then_some}
 use Rattle.calendar.specs.Month.{month_len, first_day, month_day}
 use Rattle.calendar.specs.Stamp.{
   stamp_ok,
@@ -20,9 +21,6 @@ use Rattle.calendar.specs.Stamp.{
   stamp_enc,
   stamp_val,
   stamp,
-  stamp_read,
-  blank,
-  Stamped,
   bcd,
   unbcd,
   sign,
@@ -103,24 +101,28 @@ pub form_of : (t : Stamp) {k p c : ℕ} {o : List ℕ} → k ≡ (month_day (t.s
 unfolding stamp_enc
 form_of t k p c e = e ∙ (λ i. octets_of (k i, p i) (c i) t.zone)
 
-pub stamped_yes : (t : Stamp) {o : List ℕ} → stamp_ok t ≡ true → o ≡ stamp_enc t → Stamped t true o
-stamped_yes t h e = record { within = sym h; form = rw h e }
+module _ (t : Stamp) where
+  pub stamped_yes : {o : List ℕ} → stamp_ok t ≡ true → o ≡ stamp_enc t → Some o ≡ then_some (stamp_ok t) (stamp_enc t)
+  stamped_yes h e = rw (h, e)
 
-pub stamped_no : (t : Stamp) → stamp_ok t ≡ false → Stamped t false blank
-stamped_no t h = record { within = sym h; form = rw h refl }
+  pub stamped_no : stamp_ok t ≡ false → None ≡ then_some {T = List ℕ} (stamp_ok t) (stamp_enc t)
+  stamped_no h = rw h
 
--- and back: where the time is in range, the writer's octets are its form
-pub stamped_form : {t : Stamp} {ok : Bool} {o : List ℕ} → Stamped t ok o → stamp_ok t ≡ true → o ≡ stamp_enc t
-stamped_form w h = rw h at w.form
+  -- and back: where there are octets the time is in range, and they are its form
+  pub stamped_some : {o : List ℕ} → Some o ≡ then_some (stamp_ok t) (stamp_enc t) → (stamp_ok t ≡ true) × (o ≡ stamp_enc t)
+  stamped_some e = by (stamp_ok t) (λ h. (h, let x = rw h at e in cc)) (λ h. absurd (let x = rw h at e in cc))
+
+  pub stamped_none : None ≡ then_some {T = List ℕ} (stamp_ok t) (stamp_enc t) → stamp_ok t ≡ false
+  stamped_none e = by (stamp_ok t) (λ h. absurd (let x = rw h at e in cc)) (λ h. h)
 
 -- ---- what the reader answers
 
 -- octets that say a value out of range are no time
-out : (s : List ℕ) → stamp_ok (stamp_val s) ≡ false → NoTime ≡ stamp_read (stamp.dec s)
+out : (s : List ℕ) → stamp_ok (stamp_val s) ≡ false → None ≡ stamp.dec s
 out s h = rw h
 
 -- octets that are not those of what they say are no time
-differ : (s : List ℕ) → (stamp_enc (stamp_val s) ≡ s → ⊥) → NoTime ≡ stamp_read (stamp.dec s)
+differ : (s : List ℕ) → (stamp_enc (stamp_val s) ≡ s → ⊥) → None ≡ stamp.dec s
 differ s n = rw (both_not (stamp_ok (stamp_val s)) (eqs (stamp_enc (stamp_val s)) s) (λ t. n (eqs_eq (stamp_enc (stamp_val s)) s t)))
   where
     both_not : (a b : Bool) → (T b → ⊥) → (a && b) ≡ false
@@ -129,11 +131,11 @@ differ s n = rw (both_not (stamp_ok (stamp_val s)) (eqs (stamp_enc (stamp_val s)
     both_not false b h = refl
 
 -- nor are octets that are not nine
-pub read_length : (s : List ℕ) → (length s ≡ 9 → ⊥) → NoTime ≡ stamp_read (stamp.dec s)
+pub read_length : (s : List ℕ) → (length s ≡ 9 → ⊥) → None ≡ stamp.dec s
 read_length s n = differ s (λ e. n (sym (ap length e) ∙ length_stamp (stamp_val s)))
 
 -- nor those that name a month past 2099
-pub read_late : (s : List ℕ) → 1200 ≤ month_val (get_or s 0 0) (get_or s 1 0) → NoTime ≡ stamp_read (stamp.dec s)
+pub read_late : (s : List ℕ) → 1200 ≤ month_val (get_or s 0 0) (get_or s 1 0) → None ≡ stamp.dec s
 unfolding stamp_ok stamp_val
 read_late s h =
     out s (ap (λ (b : Bool). b && leb (stamp_val s).zone 1560)
@@ -159,25 +161,20 @@ module _ (s : List ℕ) (h : stamp_ok (stamp_val s) ≡ true) (e : stamp_enc (st
       omega arith
 
 -- so octets that name a day past its month, or a second past its day, are no time
-unless : (s : List ℕ) → (stamp_ok (stamp_val s) ≡ true → stamp_enc (stamp_val s) ≡ s → ⊥) → NoTime ≡ stamp_read (stamp.dec s)
+unless : (s : List ℕ) → (stamp_ok (stamp_val s) ≡ true → stamp_enc (stamp_val s) ≡ s → ⊥) → None ≡ stamp.dec s
 unless s n = by (stamp_ok (stamp_val s)) (λ h. differ s (n h)) (out s)
 
 pub read_day : (s : List ℕ) {k n p : ℕ} → k ≡ month_val (get_or s 0 0) (get_or s 1 0) → n ≡ month_len k → p ≡ unbcd (get_or s 2 0) - 1
-    → n ≤ p → NoTime ≡ stamp_read (stamp.dec s)
+    → n ≤ p → None ≡ stamp.dec s
 read_day s a b c n = let q = ap month_len a in unless s (λ h e. omega (arith, day_said s h e))
 
-pub read_clock : (s : List ℕ) {c : ℕ} → c ≡ clock_val (get_or s 3 0) (get_or s 4 0) (get_or s 5 0) → 86400 ≤ c → NoTime ≡ stamp_read (stamp.dec s)
+pub read_clock : (s : List ℕ) {c : ℕ} → c ≡ clock_val (get_or s 3 0) (get_or s 4 0) (get_or s 5 0) → 86400 ≤ c → None ≡ stamp.dec s
 read_clock s a n = unless s (λ h e. omega (arith, clock_said s h e))
 
--- what was put together of the octets' parts is what they say
-pub value : (s : List ℕ) {k f d c z : ℕ} → k ≡ month_val (get_or s 0 0) (get_or s 1 0) → f ≡ first_day k → d ≡ unbcd (get_or s 2 0) - 1
-    → c ≡ clock_val (get_or s 3 0) (get_or s 4 0) (get_or s 5 0) → z ≡ zone_val (get_or s 6 0) (get_or s 7 0) (get_or s 8 0)
-    → ◌≡◌ {A = Stamp} (record { seconds = (f + d) * 86400 + c; zone = z }) (stamp_val s)
-unfolding stamp_val
-value s k f d c z = let g = f ∙ ap first_day k in λ i. record { seconds = (g i + d i) * 86400 + c i; zone = z i }
+-- ---- what was put together of the octets' parts: month k, which begins on day f and has n days, day p of it, second c and zone z
 
 -- its octets are made of the same parts
-pub form_there : (f k p c z : ℕ) {o : List ℕ} → k < 1200 → f ≡ first_day k → p < month_len k → c < 86400 → o ≡ octets_of (k, p) c z
+form_there : (f k p c z : ℕ) {o : List ℕ} → k < 1200 → f ≡ first_day k → p < month_len k → c < 86400 → o ≡ octets_of (k, p) c z
     → o ≡ stamp_enc (record { seconds = (f + p) * 86400 + c; zone = z })
 form_there f k p c z h e l u =
     let d : first_day k + p ≡ ((f + p) * 86400 + c) / 86400 = omega arith in
@@ -186,21 +183,31 @@ form_there f k p c z h e l u =
     (sym (place_there k p h l) ∙ ap (λ (x : ℕ). (month_day x).1) d)
     (omega arith)
 
--- the ways out: s says t
-module _ (s : List ℕ) {t : Stamp} (e : t ≡ stamp_val s) where
-  pub read_out : stamp_ok t ≡ false → NoTime ≡ stamp_read (stamp.dec s)
-  read_out h = out s (ap stamp_ok (sym e) ∙ h)
+module _ (s : List ℕ) {k f p c z : ℕ} (a : k ≡ month_val (get_or s 0 0) (get_or s 1 0)) (b : f ≡ first_day k) (d : p ≡ unbcd (get_or s 2 0) - 1)
+    (u : c ≡ clock_val (get_or s 3 0) (get_or s 4 0) (get_or s 5 0)) (v : z ≡ zone_val (get_or s 6 0) (get_or s 7 0) (get_or s 8 0)) where
+  abbrev time : Stamp
+  time = record { seconds = (f + p) * 86400 + c; zone = z }
 
-  -- whose octets are o
-  module _ {o : List ℕ} (w : o ≡ stamp_enc t) where
+  -- it is what they say
+  said : time ≡ stamp_val s
+  unfolding stamp_val
+  said = let g = b ∙ ap first_day a in λ i. record { seconds = (g i + d i) * 86400 + u i; zone = v i }
+
+  pub read_out : stamp_ok time ≡ false → None ≡ stamp.dec s
+  read_out h = out s (ap stamp_ok (sym said) ∙ h)
+
+  -- in range, and with the octets o, which are those of the time or are not
+  module _ (h : k < 1200) {n : ℕ} (e : n ≡ month_len k) (l : p < n) (g : c < 86400) (r : stamp_ok time ≡ true) {o : List ℕ} (w : o ≡ octets_of (k, p) c z) where
     again : o ≡ stamp_enc (stamp_val s)
-    again = w ∙ ap stamp_enc e
+    again = form_there f k p c z h b (omega (arith, e)) g w ∙ ap stamp_enc said
 
-    pub read_differs : (o ≡ s → ⊥) → NoTime ≡ stamp_read (stamp.dec s)
-    read_differs n = differ s (λ q. n (again ∙ q))
-
-    pub read_there : stamp_ok t ≡ true → o ≡ s → Time t ≡ stamp_read (stamp.dec s)
-    read_there h q =
-        let x = ap stamp_ok (sym e) ∙ h in
+    there : o ≡ s → Some time ≡ stamp.dec s
+    there q =
+        let x = ap stamp_ok (sym said) ∙ r in
         let y = T_true (eqs (stamp_enc (stamp_val s)) s) (subst (λ (z : List ℕ). T (eqs z s)) (sym (sym again ∙ q)) (eqs_refl s)) in
-        rw (x, y) (ap Time e)
+        rw (x, y) (ap Some said)
+
+    -- by a test of the two
+    pub read : (b : Bool) → (IsTrue b ↔ (o ≡ s)) → then_some b time ≡ stamp.dec s
+    read true q = there (q.0 refl)
+    read false q = differ s (λ e. let x : ◌≡◌ {A = Bool} false true = q.1 (again ∙ e) in absurd (cc))

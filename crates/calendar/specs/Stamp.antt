@@ -1,12 +1,9 @@
 -- TimeStamp: nine octets YY MM DD hh mm ss S hh mm, in BCD. S is 2B for an offset of zero or more, 2D below zero; the offset's
 -- size follows it.
-use Rattle.std.specs.Prelude.{Bool, cond, ◌&&◌, List, [], ◌∷◌, ◌≡◌, ℕ, ◌+◌, ◌-◌, ◌*◌, ◌/◌, ◌%◌, ltb, leb, eqb, get_or}
-use Rattle.std.specs.Prelude.{Option, None, Some}
+use Rattle.std.specs.Prelude.{Bool, cond, ◌&&◌, List, [], ◌∷◌, ℕ, ◌+◌, ◌-◌, ◌*◌, ◌/◌, ◌%◌, ltb, leb, eqb, get_or}
 use Rattle.format.specs.Format.{Fmt, checked}
 use Rattle.calendar.specs.Month.{first_day, month_day}
 use Rattle.calendar.specs.declared.Stamp.{Stamp}
-use Rattle.calendar.specs.declared.StampRead.{StampRead}
-use Rattle.calendar.specs.declared.StampRead.TheVariants.{Time, NoTime}
 
 -- The clock is local seconds since 2000-01-01 00:00:00, 0 to 3,155,759,999 at the end of 2099. The offset from universal time is
 -- -720 to 840 minutes, and the zone that is kept of it is 720 more: 0 to 1560.
@@ -68,23 +65,9 @@ stamp_val s = record {
   zone = zone_val (get_or s 6 0) (get_or s 7 0) (get_or s 8 0);
 }
 
--- ---- the format, and what the functions answer
+-- ---- the format
 
 -- The time stamps: exactly the octets that a time and a zone in range give, each read back as these (`stamp_law` of
 -- proofs/Stamps.antt).
 abbrev pub stamp : Fmt Stamp
 stamp = checked stamp_ok stamp_enc stamp_val 9
-
--- what a reader answers
-abbrev pub stamp_read : Option Stamp → StampRead
-stamp_read None = NoTime
-stamp_read (Some t) = Time t
-
--- nine octets that are no time stamp
-abbrev pub blank : List ℕ
-blank = 0 ∷ 0 ∷ 0 ∷ 0 ∷ 0 ∷ 0 ∷ 0 ∷ 0 ∷ 0 ∷ []
-
--- what a writer answers: whether t is in range, and its octets if it is
-pub record Stamped (t : Stamp) (ok : Bool) (octets : List ℕ) : Type 0 where
-  pub within : ok ≡ stamp_ok t
-  pub form : octets ≡ cond (stamp_ok t) (stamp_enc t) blank

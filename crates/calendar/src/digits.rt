@@ -1,5 +1,5 @@
 // Two decimal digits in an octet.
-ghost use Rattle.std.specs.Prelude.{◌<◌, ◌-◌, ◌≡◌};
+ghost use Rattle.std.specs.Prelude.{◌<◌, ◌≡◌};
 ghost use Rattle.calendar.specs.Private.Bound.{Is};
 ghost use Rattle.calendar.specs.Stamp.{bcd, unbcd};
 
@@ -15,16 +15,5 @@ pub fn to_bcd(n: u32) -> u8
 pub fn of_bcd(x: u8) -> u32
     ensures { Is (unbcd x) 165 result }
 {
-    let n = x as u32;
-    n / 16 * 10 + n % 16
-}
-
-// One less, and 0 of 0: months and days count from 1 in octets, and from 0 here.
-pub fn less_one(n: u32) -> u32
-    ensures { result ≡ n - 1 }
-{
-    if n == 0 {
-        return 0;
-    }
-    n - 1
+    u32::from(x / 16 * 10 + x % 16)
 }

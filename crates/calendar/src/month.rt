@@ -1,11 +1,11 @@
 // Months, counted from January 2000.
-ghost use Rattle.std.specs.Prelude.{◌≡◌, ◌-◌, ◌<◌};
+ghost use Rattle.std.specs.Prelude.{◌≡◌, ◌<◌};
 ghost use Rattle.calendar.specs.Private.Bound.{Is};
 ghost use Rattle.calendar.specs.Private.Date.{Dated, Lasts};
 ghost use Rattle.calendar.specs.Stamp.{month_val};
 
-use crate::digits::{less_one, of_bcd};
-use crate::look::first_day;
+use crate::digits::of_bcd;
+use crate::table::first_day;
 
 // The date of a day: its month, and its place there, counted from 0.
 #[derive(Clone, Copy)]
@@ -14,33 +14,24 @@ pub struct Date {
     pub place: u32,
 }
 
-// Four weeks earlier; 0 where that lies before 2000.
-fn four_weeks_before(day: u32) -> u32
-    ensures { result ≡ day - 28 }
-{
-    if day < 28 {
-        return 0;
-    }
-    day - 28
-}
-
 // A mean month has 30.4375 days, which is 487 / 16. The day four weeks earlier, divided by that, gives the month before the day's or, late in
 // a month, that month (`near_month` of proofs/Months.antt). So mostly one look at the month after it is enough, and never more than two.
 pub fn date_of(day: u32) -> Date
     requires { day < 36525 }
     ensures { Dated day result.month result.place }
 {
-    let near = four_weeks_before(day) * 16 / 487;
+    let near = day.saturating_sub(28) * 16 / 487;
     let next = first_day(near + 1);
     if next <= day {
-        return Date {
+        Date {
             month: near + 1,
             place: day - next,
-        };
-    }
-    Date {
-        month: near,
-        place: day - first_day(near),
+        }
+    } else {
+        Date {
+            month: near,
+            place: day - first_day(near),
+        }
     }
 }
 
@@ -63,9 +54,9 @@ pub fn days_of(month: u32) -> Days
     }
 }
 
-// The month that the octets YY MM name. It lies past 2099 for some that name none.
+// The month that the octets YY MM name; months count from 1 there. It lies past 2099 for some that name none.
 pub fn month_named(year: u8, month: u8) -> u32
     ensures { Is (month_val year month) 2144 result }
 {
-    of_bcd(year) * 12 + less_one(of_bcd(month))
+    of_bcd(year) * 12 + of_bcd(month).saturating_sub(1)
 }

@@ -1,8 +1,11 @@
 // The table of the calendar: the day on which each month from 2000 to 2099 begins.
+ghost use Rattle.std.specs.Prelude.{◌≤◌};
+ghost use Rattle.calendar.specs.Month.{first_day};
+ghost use Rattle.calendar.specs.Private.Bound.{Is};
 ghost use Rattle.calendar.specs.Private.Table.{Table};
 
 // Month k, counted from January 2000, begins FIRST[k] days after 2000-01-01.
-const FIRST: [u16; 1200] = [
+static FIRST: [u16; 1200] = [
     0, 31, 60, 91, 121, 152, 182, 213, 244, 274, 305, 335, 366, 397, 425, 456, 486, 517, 547, 578,
     609, 639, 670, 700, 731, 762, 790, 821, 851, 882, 912, 943, 974, 1004, 1035, 1065, 1096, 1127,
     1155, 1186, 1216, 1247, 1277, 1308, 1339, 1369, 1400, 1430, 1461, 1492, 1521, 1552, 1582, 1613,
@@ -94,8 +97,19 @@ const FIRST: [u16; 1200] = [
 ];
 
 // The table. That it is the calendar's is proved here, by one test over all its entries.
-pub fn first_days() -> [u16; 1200]
-    ensures { Table result }
+pub fn first_days() -> &'static [u16; 1200]
+    ensures { Table result.now }
 {
-    FIRST
+    &FIRST
+}
+
+// The day on which a month begins; after the last month of the table, the day after 2099.
+pub fn first_day(month: u32) -> u32
+    requires { month ≤ 1200 }
+    ensures { Is (first_day month) 36525 result }
+{
+    if month == 1200 {
+        return 36525;
+    }
+    u32::from(first_days()[month as usize])
 }

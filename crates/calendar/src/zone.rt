@@ -8,20 +8,14 @@ use crate::digits::of_bcd;
 pub fn sign_of(zone: u16) -> u8
     ensures { result ≡ sign zone }
 {
-    if zone < 720 {
-        return 0x2D;
-    }
-    0x2B
+    if zone < 720 { 0x2D } else { 0x2B }
 }
 
 // The offset's size, in minutes.
 pub fn away_of(zone: u16) -> u32
     ensures { result ≡ away zone }
 {
-    if 720 <= zone {
-        return zone as u32 - 720;
-    }
-    720 - zone as u32
+    u32::from(zone.abs_diff(720))
 }
 
 // The zone that the octets S hh mm name: below zero it is at least 0, whatever they say.
@@ -29,11 +23,9 @@ pub fn zone_of(sign: u8, hours: u8, minutes: u8) -> u16
     ensures { result ≡ zone_val sign hours minutes }
 {
     let size = of_bcd(hours) * 60 + of_bcd(minutes);
-    if sign != 0x2D {
-        return (720 + size) as u16;
+    if sign == 0x2D {
+        720_u32.saturating_sub(size) as u16
+    } else {
+        (720 + size) as u16
     }
-    if 720 < size {
-        return 0;
-    }
-    (720 - size) as u16
 }

@@ -22,8 +22,7 @@ use Rattle.ber.specs.Private.Wrote.{Wrote}
 use Rattle.ber.specs.Private.Filled.{Filled}
 use Rattle.ber.proofs.Ready.{filled_of}
 use Rattle.calendar.specs.declared.Stamp.{Stamp}
-use Rattle.calendar.specs.declared.StampRead.TheVariants as S
-use Rattle.calendar.specs.Stamp.{stamp_read, stamp_ok}
+use Rattle.calendar.specs.Stamp.{stamp_ok}
 use Rattle.container.specs.declared.Qos.{Qos}
 use Rattle.container.specs.declared.Container.{Container}
 use Rattle.container.specs.Qos.{qos_ok, same_qos, Reliability, Delay, Precedence, Peak, Mean, qos_table, qos, no_qos, to_qos, of_qos}
@@ -38,16 +37,6 @@ use Rattle.container.proofs.Formats.{qos_law, qos_good, told_none, told_some, co
 pub reads_as : {A : Type 0} {blank v w : A} {p : List ℕ → Option (A × List ℕ)} {s : List ℕ} {at next : ℕ} → v ≡ w → Reads blank p s at w next
     → Reads blank p s at v next
 reads_as {blank = blank} {p = p} {s = s} {at = at} {next = next} e r = subst (λ v. Reads blank p s at v next) (sym e) r
-
--- what a reader of times answered
-
-pub time_none : (o : Option Stamp) → S.NoTime ≡ stamp_read o → o ≡ None
-time_none None h = refl
-time_none (Some t) h = cc
-
-pub time_some : (o : Option Stamp) (t : Stamp) → S.Time t ≡ stamp_read o → o ≡ Some t
-time_some None t h = cc
-time_some (Some u) t h = cc
 
 -- ---- a profile, of octets s that are all its contents
 

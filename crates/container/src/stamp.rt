@@ -8,7 +8,7 @@ ghost use Rattle.calendar.specs.Stamp.{stamp, stamp_ok, stamp_enc};
 ghost use Rattle.container.specs.Container.{no_stamp};
 
 use ber::tlv;
-use calendar::{Stamp, StampRead};
+use calendar::Stamp;
 
 // What was read, and the place after it: zeros and NOWHERE where it is not there.
 #[derive(Clone, Copy)]
@@ -34,7 +34,7 @@ pub fn stamp_at(s: &[u8], at: usize, tag: u8) -> StampAt
         };
     }
     let contents = &s[from..to];
-    let StampRead::Time(v) = calendar::stamp_of(contents) else {
+    let Some(v) = calendar::stamp_of(contents) else {
         return StampAt {
             v: Stamp {
                 seconds: 0,
@@ -50,9 +50,5 @@ pub fn stamp_at(s: &[u8], at: usize, tag: u8) -> StampAt
 pub fn put_stamp(out: &mut [u8], at: usize, tag: u8, t: Stamp) -> Option<usize>
     ensures { Puts (guard (stamp_ok t) (tlv_enc tag (stamp_enc t))) out.old out.new at result }
 {
-    let x = calendar::stamp_octets(t);
-    if !x.ok {
-        return None;
-    }
-    tlv::put_tlv(out, at, tag, &x.octets)
+    tlv::put_tlv(out, at, tag, &calendar::stamp_octets(t)?)
 }

@@ -82,7 +82,7 @@ impl fmt::Display for IsoTime {
 }
 
 // A time, with what stands before the hour and before the zone. Its nine octets are two digits of ten each, but for the seventh, which is the
-// sign of the zone.
+// sign of the zone. A time out of range is shown as nine zeros.
 fn put_time<W: fmt::Write>(
     f: &mut fmt::Formatter<W>,
     t: Stamp,
@@ -99,7 +99,7 @@ fn put_time<W: fmt::Write>(
         sign,
         zone_hour,
         zone_minute,
-    ] = calendar::stamp_octets(t).octets;
+    ] = calendar::stamp_octets(t).unwrap_or([0; 9]);
     let sign = char::from(sign);
     write!(
         f,

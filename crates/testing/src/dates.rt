@@ -5,19 +5,19 @@
 // Standard input has times of six octets each: the seconds, and the zone. A line a time out: its nine octets in hex, and the seconds and
 // the zone that these are read as; or the word none, where the time or the zone is out of range (docs/FORMATS.md).
 use crate::records::block;
-use calendar::{Stamp, StampRead};
+use calendar::Stamp;
 use out::Stream;
 use std::io::{Read, Stderr};
 use template::four;
 
-// One time. The octets of one that is out of range are all 0, which is no time.
+// One time.
 fn write_time(to: &mut Stream, t: Stamp) {
-    let w = calendar::stamp_octets(t);
-    let octets = w.octets;
-    if let StampRead::Time(back) = calendar::stamp_of(&octets) {
-        let v = four(back.seconds as u64, back.zone as u64, 0, 0);
-        template::write(to, b"%x %k %l\n", &v, &octets);
-        return;
+    if let Some(octets) = calendar::stamp_octets(t) {
+        if let Some(back) = calendar::stamp_of(&octets) {
+            let v = four(u64::from(back.seconds), u64::from(back.zone), 0, 0);
+            template::write(to, b"%x %k %l\n", &v, &octets);
+            return;
+        }
     }
     template::write(to, b"none\n", &four(0, 0, 0, 0), b"");
 }

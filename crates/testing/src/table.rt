@@ -21,9 +21,9 @@ fn length(to: &mut Stream, n: usize) {
 
 // The offset of a zone is minutes from universal time plus 720.
 fn time(to: &mut Stream, form: &[u8], seconds: u32, zone: u16) {
-    let r = calendar::stamp_octets(Stamp { seconds, zone });
-    let octets = r.octets;
-    row(to, form, seconds as u64, &octets);
+    if let Some(octets) = calendar::stamp_octets(Stamp { seconds, zone }) {
+        row(to, form, u64::from(seconds), &octets);
+    }
 }
 
 fn imsi(to: &mut Stream, form: &[u8], s: &[u8]) {
