@@ -12,7 +12,7 @@ use octets::{chars, names};
 pub fn fields_ok(c: &Context) -> bool
     ensures { result ≡ fields_ok c.now }
 {
-    c.flags <= 3 && imsi::imsi_size(&c.imsi) != 0 && names::apn_ok(c.apn, c.apnlen)
+    c.flags <= 3 && imsi::imsi_size(&c.imsi).is_some() && names::apn_ok(c.apn, c.apnlen)
 }
 
 // Are there fewer closed records than accepted events?

@@ -1,10 +1,10 @@
 -- What is in range, by what the code finds.
 use mathlib.Core.Path.{◌≡◌, refl, ap}
-use mathlib.Core.Bool.{Bool, true, false, not, ◌&&◌}
+use mathlib.Core.Bool.{Bool, true, false, ◌&&◌}
 use mathlib.Core.List.{List}
+use Rattle.std.specs.Prelude.{Option, is_some}
 use Prim.Native.Nat.{ℕ, ◌<◌}
 use native.Mathlib.Omega.{arith}
-use lib.Dec.{eqb}
 use lib.ListN.{length, drop, length-append, length-drop, take-append-drop}
 use borrow.Author.Tests.{ne_eqb}
 use Rattle.ber.specs.Imsi.{imsi_ok, imsi_room}
@@ -37,6 +37,6 @@ subscriber_short s h =
       length-drop 7 s,
     )))
 
-pub subscriber_is : (s : List ℕ) {d : ℕ} → d ≡ imsi_room (subscriber_imsi s) → not (eqb d 0) ≡ subscriber_ok s
+pub subscriber_is : (s : List ℕ) {d : Option ℕ} → d ≡ imsi_room (subscriber_imsi s) → is_some d ≡ subscriber_ok s
 unfolding subscriber_ok
 subscriber_is s e = rw (e, imsi_room_lem (subscriber_imsi s))

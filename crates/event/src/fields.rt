@@ -57,7 +57,7 @@ fn activate_ok(s: &[u8]) -> bool
 {
     s.len() >= 37
         && octets::octet(s, 15) <= 3
-        && imsi::imsi_size(&s[16..24]) != 0
+        && imsi::imsi_size(&s[16..24]).is_some()
         && qos_profile::qos_ok(qos_at(s, 30))
         && names::check_apn(&s[37..]).n != 0
 }
@@ -98,7 +98,7 @@ pub fn release_cause(s: &[u8]) -> Option<u8>
 fn subscriber_ok(s: &[u8]) -> bool
     ensures { result ≡ subscriber_ok s.now }
 {
-    s.len() >= 15 && imsi::imsi_size(&s[7..15]) != 0
+    s.len() >= 15 && imsi::imsi_size(&s[7..15]).is_some()
 }
 
 // The number that the IMSI of a subscriber spells.

@@ -9,7 +9,7 @@ use octets::names;
 pub fn within(r: &MmRecord) -> bool
     ensures { result ≡ within r.now }
 {
-    let imsi = imsi::imsi_size(&r.imsi) != 0;
+    let imsi = imsi::imsi_size(&r.imsi).is_some();
     let time = calendar::stamp_within(r.opening);
     let list = changes::changes_ok(r.changes, r.count, r.opening, r.place)
         & changes::unused_blank(r.changes, r.count);

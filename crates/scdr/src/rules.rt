@@ -10,7 +10,7 @@ use octets::names;
 pub fn within(r: &Record) -> bool
     ensures { result ≡ within r.now }
 {
-    let imsi = imsi::imsi_size(&r.imsi) != 0;
+    let imsi = imsi::imsi_size(&r.imsi).is_some();
     let name = names::apn_ok(r.apn, r.apnlen);
     let time = calendar::stamp_within(r.opening);
     let list = rules::list_ok(r.containers, r.count, r.opening)

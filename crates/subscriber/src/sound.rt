@@ -23,7 +23,7 @@ pub fn open_ok(zone: u16, clock: u32, s: &Subscriber) -> bool
 pub fn subscriber_ok(zone: u16, clock: u32, accepted: u64, s: &Subscriber) -> bool
     ensures { result ≡ subscriber_ok zone clock accepted s.now }
 {
-    imsi::imsi_size(&s.imsi) != 0 && s.closed < accepted && open_ok(zone, clock, s)
+    imsi::imsi_size(&s.imsi).is_some() && s.closed < accepted && open_ok(zone, clock, s)
 }
 
 // Is every field of a slot zero?

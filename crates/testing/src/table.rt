@@ -27,7 +27,9 @@ fn time(to: &mut Stream, form: &[u8], seconds: u32, zone: u16) {
 }
 
 fn imsi(to: &mut Stream, form: &[u8], s: &[u8]) {
-    row(to, form, 0, octets::front(s, ber::imsi::imsi_size(s)));
+    if let Some(n) = ber::imsi::imsi_size(s) {
+        row(to, form, 0, octets::front(s, n));
+    }
 }
 
 pub fn write_rows(to: &mut Stream) {

@@ -6,7 +6,7 @@ use Rattle.ber.proofs.Imsis.{halves_length, leading_stop, leading_more, leading_
 use Rattle.ber.proofs.imsi.digits.Goals as goal
 
 pub loop-i-init : goal.loop-i-init
-loop-i-init c = (omega arith, omega arith)
+loop-i-init c = omega arith
 
 pub returns-then-half-ge10 : goal.returns-then-half-ge10
 returns-then-half-ge10 c =
@@ -14,7 +14,7 @@ returns-then-half-ge10 c =
     let hs = halves c.args.s.now in
     omega (
       arith,
-      l.invariant.1,
+      l.invariant,
       leading_stop hs l.i (omega (arith, halves_length c.args.s.now))
           (omega (arith, c.half.ensures)),
     )
@@ -22,14 +22,11 @@ returns-then-half-ge10 c =
 pub loop-i-preserved : goal.loop-i-preserved
 loop-i-preserved c =
     let l = c.loop-i in
-    let hs = halves c.args.s.now in (
-      omega arith,
-      sym (leading_more hs l.i (omega (arith, halves_length c.args.s.now))
-          (omega (arith, c.half.ensures))) ∙ l.invariant.1,
-    )
+    let hs = halves c.args.s.now in
+    sym (leading_more hs l.i (omega (arith, halves_length c.args.s.now)) (omega (arith, c.half.ensures))) ∙ l.invariant
 
 pub returns : goal.returns
 returns c =
     let l = c.loop-i in
     let hs = halves c.args.s.now in
-    omega (arith, l.invariant.1, leading_end hs l.i (omega (arith, halves_length c.args.s.now)))
+    omega (arith, l.invariant, leading_end hs l.i (omega (arith, halves_length c.args.s.now)))

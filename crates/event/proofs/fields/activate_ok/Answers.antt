@@ -11,7 +11,7 @@ use Rattle.event.proofs.Tried.{activate_short}
 use Rattle.event.proofs.fields.activate_ok.Goals as goal
 use Rattle.event.proofs.fields.activate_ok.Goals.{then-s-ge37, else-s-ge37}
 use Rattle.event.proofs.fields.activate_ok.Goals.{then-octet-le3, else-octet-le3}
-use Rattle.event.proofs.fields.activate_ok.Goals.{then-imsi_size-ne0, else-imsi_size-ne0}
+use Rattle.event.proofs.fields.activate_ok.Goals.{then-is_some, else-is_some}
 
 pub returns-then-qos_ok : goal.returns-then-qos_ok
 unfolding activate_ok
@@ -24,7 +24,7 @@ returns-else-qos_ok c =
       | then-s-ge37 a ↦
           elim c.if-octet-le3.branch [
             | then-octet-le3 b ↦
-                elim c.if-imsi_size-ne0.branch [ then-imsi_size-ne0 d ↦ grind (arith, common_steps, imsi_room_lem) | else-imsi_size-ne0 d ↦ grind (arith, common_steps, imsi_room_lem) ]
+                elim c.if-is_some.branch [ then-is_some d ↦ grind (arith, common_steps, imsi_room_lem) | else-is_some d ↦ grind (arith, common_steps, imsi_room_lem) ]
             | else-octet-le3 b ↦ grind (arith, common_steps)
           ]
       | else-s-ge37 a ↦ c.if-qos_ok.false ∙ activate_short c.args.s.now a.if-s-ge37.false

@@ -1,4 +1,4 @@
--- `subscriber::sound::subscriber_ok` meets its contract: an IMSI has a size that is not 0.
+-- `subscriber::sound::subscriber_ok` meets its contract: an IMSI has a size.
 use Rattle.std.proofs.Common.{arith}
 use Rattle.std.proofs.lemmas.Grind.{common_steps}
 use Rattle.ber.proofs.Imsis.{imsi_room_lem}
