@@ -16,31 +16,20 @@ ghost use Rattle.octets.specs.Part.{part_of};
 pub fn octet(s: &[u8], at: usize) -> u8
     ensures { result ≡ get_or s.now at 0 }
 {
-    if at < s.len() {
-        return s[at];
-    }
-    0
+    s.get(at).copied().unwrap_or(0)
 }
 
 // The octets of s from one place to another; none where that is no part of s.
+#[tactic(auto, unfolding(crate::specs::Part::part_of))]
 pub fn part(s: &[u8], a: usize, b: usize) -> &[u8]
     ensures { result.now ≡ part_of a b s.now }
 {
-    if b < a {
-        return &s[..0];
-    }
-    if s.len() < b {
-        return &s[..0];
-    }
-    &s[a..b]
+    s.get(a..b).unwrap_or(&[])
 }
 
 // The first n octets of s; all where there are fewer.
 pub fn front(s: &[u8], n: usize) -> &[u8]
     ensures { result.now ≡ take n s.now }
 {
-    if n < s.len() {
-        return &s[..n];
-    }
-    s
+    &s[..n.min(s.len())]
 }

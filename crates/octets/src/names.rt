@@ -7,6 +7,7 @@ ghost use Rattle.octets.specs.Names.{stored, apn_ok, checked_apn, node_ok};
 
 use crate::chars;
 use crate::chars::Class;
+use std::array;
 
 // An access point name as it is stored: n octets of it, and zeros after them. What is no name has none, and n 0.
 #[derive(Clone, Copy)]
@@ -16,20 +17,22 @@ pub struct Checked {
 }
 
 // Are the first n octets of a characters of the class, and is every later one zero?
+#[tactic(auto, unfolding(crate::specs::Names::stored))]
 fn is_stored(class: Class, a: &[u8], n: usize) -> bool
     ensures { result ≡ stored class a.now n }
 {
     if a.len() < n {
         return false;
     }
-    chars::all_chars(class, &a[..n]) & chars::zeros(&a[n..])
+    let (name, rest) = a.split_at(n);
+    chars::all_chars(class, name) && chars::zeros(rest)
 }
 
 // An access point name of 1 to 63 characters as a record and a node have it, its unused octets zero.
 pub fn apn_ok(apn: [u8; 63], n: usize) -> bool
     ensures { result ≡ apn_ok apn n }
 {
-    (1 <= n) & is_stored(Class::Apn, &apn, n)
+    1 <= n && is_stored(Class::Apn, &apn, n)
 }
 
 // The octets of s with A to Z lowered, filled up with zeros.
@@ -37,13 +40,7 @@ fn lowered(s: &[u8]) -> [u8; 63]
     requires { length s.now ≤ 63 }
     ensures { result ≡ fill_to 63 0 (lowered s.now) }
 {
-    let mut apn = [0u8; 63];
-    let mut i = 0;
-    while i < s.len() {
-        apn[i] = chars::lower(s[i]);
-        i += 1;
-    }
-    apn
+    array::from_fn(|i| chars::lower(crate::octet(s, i)))
 }
 
 // The check of an access point name as an event spells it: the name with its letters lowered, which is one of a record, or none.

@@ -1,21 +1,15 @@
 -- `octets::chars::all_chars` meets its contract: one law over the class.
-use mathlib.Core.Path.{sym, ◌∙◌}
-use borrow.Author.Tests.{not-true, not-false}
-use Rattle.octets.proofs.Passed.{passed_none, passed_more, passed_stop, passed_end}
+use mathlib.Core.Path.{◌∙◌}
+use borrow.Author.Tests.{tests}
+use Rattle.std.proofs.Common.{rules}
+use Rattle.std.proofs.lemmas.Iterator.{YieldsList-from_slice}
+use Rattle.std.proofs.lemmas.Iterator.Search.{all_from_yields_List}
+use Rattle.octets.specs.Chars.{char_of}
+use Rattle.octets.proofs.Passed.{all_is}
 use Rattle.octets.proofs.chars.all_chars.Goals as goal
 
-pub loop-i-init : goal.loop-i-init
-loop-i-init c = passed_none _ _
-
-pub returns-then-not-is_char : goal.returns-then-not-is_char
-returns-then-not-is_char c =
-    passed_stop _ _ _ c.loop-i.invariant c.loop-i-test.true
-    (sym c.is_char.ensures ∙ not-true _ c.if-not-is_char.true-raw)
-
-pub loop-i-preserved : goal.loop-i-preserved
-loop-i-preserved c =
-    passed_more _ _ _ c.loop-i.invariant c.loop-i-test.true
-    (sym c.is_char.ensures ∙ not-false _ c.if-not-is_char.false-raw)
-
 pub returns : goal.returns
-returns c = passed_end _ _ _ c.loop-i.invariant c.loop-i-test.false
+returns c =
+    let a = c.args in
+    all_from_yields_List (char_of a.class) _ _ c.all.result c.all.ensures.ran (YieldsList-from_slice a.s.now cc) (λ x b q k. search (rules, tests))
+    ∙ all_is (char_of a.class) a.s.now
