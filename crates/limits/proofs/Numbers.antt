@@ -6,8 +6,8 @@ use Prim.Native.Nat.{ℕ, zero, suc, ◌+◌, ◌-◌, ◌≤◌, ◌<◌}
 use native.Mathlib.Numerals.{add-one, unary_clauses}
 use native.Mathlib.Omega.{arith}
 use lib.Dec.{leb, ltb, eqb}
-use lib.ListN.{length, take, drop, get_or, set, length-set, drop_of_length-le}
-use lib.Seq.{drop-cons, take-suc, take-suc-set}
+use lib.ListN.{length, drop, get_or, set, length-set, drop_of_length-le}
+use lib.Seq.{drop-cons}
 use borrow.Author.Tests.{lt-ltb, le-ltb, leb-true, le-leb, lt-leb, eqb-true, eq-eqb}
 use Rattle.format.proofs.Tests.{both, either}
 use Rattle.limits.specs.declared.Limits.{Limits}
@@ -21,6 +21,11 @@ pub at_number : (number : ℕ) (ss : List LimitSet) → 1 ≤ number → set_at 
 unfolding set_at
 at_number zero ss h = absurd (omega arith)
 at_number (suc i) ss h = simp unary_clauses
+
+pub none_at : (number : ℕ) (ss : List LimitSet) → number < 1 → no_set ≡ set_at number ss
+unfolding set_at
+none_at zero ss h = refl
+none_at (suc i) ss h = absurd (omega arith)
 
 pub in_number : (number : ℕ) (s : LimitSet) (ss : List LimitSet) → 1 ≤ number → replaced number s ss ≡ set ss (number - 1) s
 unfolding replaced
@@ -112,29 +117,6 @@ unfolding first_editions
 given_length n [] = refl
 given_length zero (l ∷ ls) = ap suc (given_length zero ls)
 given_length (suc n) (l ∷ ls) = ap suc (given_length n ls)
-
--- the first i of an array are what is given
-pub record Given (n : ℕ) (ls : List Limits) (r : List LimitSet) (i : ℕ) : Type 0 where
-  pub same : take i r ≡ take i (first_editions n ls)
-  pub long : length r ≡ length ls
-
-module _ {n : ℕ} {ls : List Limits} {r : List LimitSet} {i : ℕ} (g : Given n ls r i) where
-  pub given_more : (l : Limits) → i < length ls → Given n ls (set r i (given (ltb i n) (get_or ls i l))) (i + 1)
-  given_more l h = record {
-    same =
-        rw (add-one i) (take-suc-set r i _ (omega (arith, g.long))
-        ∙ rw (g.same, ← given_at n ls i no_set l h) (sym (take-suc (first_editions n ls) i no_set (omega (arith, given_length n ls)))));
-    long = length-set r i _ ∙ g.long;
-  }
-
-  pub given_all : length ls ≤ i → r ≡ first_editions n ls
-  given_all h = sym (take_all r i (omega (arith, g.long))) ∙ g.same ∙ take_all (first_editions n ls) i (omega (arith, given_length n ls))
-    where
-      take_all : (l : List LimitSet) (i : ℕ) → length l ≤ i → take i l ≡ l
-      take_all [] zero h = refl
-      take_all [] (suc i) h = refl
-      take_all (x ∷ l) zero h = absurd (omega arith)
-      take_all (x ∷ l) (suc i) h = ap (λ (m : List LimitSet). x ∷ m) (take_all l i (omega arith))
 
 -- ---- what a sound node may count on
 

@@ -12,7 +12,7 @@ ghost use Rattle.limits.specs.Limits.{limits_ok, no_limits, blank_limits};
 
 // Octets counted, seconds open, changes of QoS and tariff.
 #[repr(C)]
-#[derive(Clone, Copy)]
+#[derive(Clone, Copy, Debug, PartialEq, Eq)]
 pub struct Limits {
     pub volume: u64,
     pub seconds: u32,
@@ -21,22 +21,20 @@ pub struct Limits {
 
 // A set of limits as a node has it: its limits, and their edition, which is 0 where the set is not used.
 #[repr(C)]
-#[derive(Clone, Copy)]
+#[derive(Clone, Copy, Debug, PartialEq, Eq)]
 pub struct LimitSet {
     pub edition: u16,
     pub limits: Limits,
 }
 
 // Are the limits in range?
+#[tactic(auto, unfolding(crate::specs::Limits::limits_ok))]
 pub fn limits_ok(l: Limits) -> bool
     ensures { result ≡ limits_ok l }
 {
-    (1 <= l.volume)
-        & (l.volume <= 1000000000000)
-        & (1 <= l.seconds)
-        & (l.seconds <= 604800)
-        & (1 <= l.changes)
-        & (l.changes <= 15)
+    matches!(l.volume, 1..=1000000000000)
+        && matches!(l.seconds, 1..=604800)
+        && matches!(l.changes, 1..=15)
 }
 
 // No limits: all zero, which is out of range. What stands where there is no set.
@@ -51,8 +49,9 @@ pub fn no_limits() -> Limits
 }
 
 // Are they all zero?
+#[tactic(auto, unfolding(crate::specs::Limits::blank_limits))]
 pub fn is_blank(l: Limits) -> bool
     ensures { result ≡ blank_limits l }
 {
-    (l.volume == 0) & (l.seconds == 0) & (l.changes == 0)
+    l == no_limits()
 }

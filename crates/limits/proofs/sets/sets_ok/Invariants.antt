@@ -6,7 +6,4 @@ use Rattle.limits.specs.Sets.{used_ok}
 use Rattle.limits.proofs.sets.sets_ok.Given as goal
 
 abbrev pub invariant-loop-i : goal.invariant-loop-i
-invariant-loop-i l = used_ok (l.count - l.i) (drop l.i l.sets) ≡ used_ok l.count l.sets
-
-abbrev pub decreases-loop-i : goal.decreases-loop-i
-decreases-loop-i l = 8 - l.i
+invariant-loop-i l = used_ok (l.count - l.i) (drop l.i l.s-items) ≡ used_ok l.count l.s-items
