@@ -13,6 +13,7 @@ use lib.ListN.{length, take, drop, get_or, set, length-set, length-append, lengt
 use lib.Seq.{take_all, take-suc, take-suc-set, take-take, get_or-take, length-take-le, drop-set-lt, drop-drop, take_at}
 use borrow.Author.Tests.{le-leb, lt-leb}
 use borrow.Rule.Slice.PartMut.{mid_of, put_mid}
+use Rattle.std.specs.Bool.{then_some}
 use Rattle.format.specs.Maybe.{bind, guard}
 use Rattle.format.specs.Format.{Fmt}
 use Rattle.format.proofs.Tests.{by, T_true, true_T, and_l, and_r}
@@ -20,10 +21,11 @@ use Rattle.format.proofs.Maybe.{bind_bind, bind_same}
 use Rattle.format.proofs.Blanks.{Blank}
 use Rattle.ber.specs.Tlv.{tlv_enc}
 use Rattle.ber.specs.Field.{first, run_dec, run_enc}
+use Rattle.ber.specs.Read.{read_at}
 use Rattle.ber.specs.Write.{put, Puts}
 use Rattle.ber.specs.Private.Wrote.{Put}
 use Rattle.ber.specs.Private.Filled.{Filled}
-use Rattle.ber.proofs.Readers.{Got, Rest, rest_whole, run_end, run_past, run_full, run_more}
+use Rattle.ber.proofs.Readers.{Rest, rest_whole, read_found, got, first_leaves, run_end, run_lost, run_full, run_more}
 use Rattle.ber.proofs.Writers.{put_then, put_is, put_nothing, put_part, part_room, puts_is, puts_room, puts_lost}
 use Rattle.std.proofs.lemmas.Option.{none-some}
 
@@ -46,10 +48,16 @@ module _ {A : Type 0} (k : Run A) where
   abbrev pub list_dec : ℕ → List ℕ → Option (List A)
   list_dec lo s = bind (rest k.blank.value k.places s) (λ vs. guard (leb lo (length vs)) vs)
 
+  -- a list in the array: how many values it has, and they with blank ones after
+  abbrev pub in_places : Option (List A) → Option (ℕ × List A)
+  in_places None = None
+  in_places (Some vs) = Some (length vs, vs ++ k.blank.many (k.places - length vs))
+
 module _ {A : Type 0} (k : Run A) (s : List ℕ) where
   -- n were read into v, up to a place, z the last of them: what stands there, after z, is what stands at the front; the rest of v is blank
   pub record SoFar (v : List A) (n at : ℕ) (z : A) : Type 0 where
     pub most : n ≤ k.places
+    pub inside : at ≤ length s
     pub size : length v ≡ k.places
     pub blank : drop n v ≡ k.blank.many (k.places - n)
     pub rest : (o : Option (List A)) → Rest (rest k z (k.places - n)) s at o
@@ -64,6 +72,7 @@ module _ {A : Type 0} (k : Run A) (s : List ℕ) where
       let j : k.places ≡ k.places - 0 = omega arith in
       record {
         most = omega arith;
+        inside = omega arith;
         size = l;
         blank = e ∙ ap k.blank.many j;
         rest = λ o r. rw (bind_id o, j) (rw w at r);
@@ -72,12 +81,15 @@ module _ {A : Type 0} (k : Run A) (s : List ℕ) where
   one_less : (n : ℕ) → drop 1 (k.blank.many (suc n)) ≡ k.blank.many n
   one_less n = ap (drop 1) (k.blank.more n)
 
-  pub sofar_more : {v : List A} {n at m : ℕ} {z c : A} → SoFar v n at z → at < length s → n < k.places → Got (first k.tag (k.form z)) s at c m
+  pub sofar_more : {v : List A} {n at m : ℕ} {z c : A} → SoFar v n at z → at < length s → n < k.places → read_at (first k.tag (k.form z)) s at ≡ Some (c, m)
       → SoFar (set v n c) (n + 1) m c
-  sofar_more {v} {n} {at} {m} {z} {c} f h i g =
+  sofar_more {v} {n} {at} {m} {z} {c} f h i d =
+      let (_, j, _) = read_found (first k.tag (k.form z)) s at (first_leaves k.tag (k.form z)) d in
+      let g = got (first k.tag (k.form z)) s at (first_leaves k.tag (k.form z)) d in
       let e : suc (k.places - (n + 1)) ≡ k.places - n = omega arith in
       record {
         most = omega arith;
+        inside = j;
         size = length-set v n c ∙ f.size;
         blank = drop-set-lt (n + 1) v n c (omega arith) ∙ sym (drop-drop 1 n v) ∙ ap (drop 1) (f.blank ∙ ap k.blank.many (sym e))
             ∙ one_less (k.places - (n + 1));
@@ -107,8 +119,10 @@ module _ {A : Type 0} (k : Run A) (s : List ℕ) where
     sofar_rest = rw sofar_count (sym (take-append-drop n v) ∙ ap (λ (z : List A). take n v ++ z) f.blank)
 
     -- a value was not there
-    pub list_cut : length s < at → list_dec k lo s ≡ None
-    list_cut h = rw (rest_whole (f.rest None (run_past k.tag k.form s z (k.places - n) at h)))
+    pub list_lost : at < length s → n < k.places → read_at (first k.tag (k.form z)) s at ≡ None → list_dec k lo s ≡ None
+    list_lost h i e =
+        let w : suc (k.places - (n + 1)) ≡ k.places - n = omega arith in
+        rw (rest_whole (f.rest None (subst (λ (j : ℕ). Rest (rest k z j) s at None) w (run_lost k.tag k.form s z (k.places - (n + 1)) at h e))))
 
     -- the array is full, and there are more octets
     pub list_long : at < length s → k.places ≤ n → list_dec k lo s ≡ None
@@ -116,12 +130,13 @@ module _ {A : Type 0} (k : Run A) (s : List ℕ) where
         let w : 0 ≡ k.places - n = omega (arith, f.most) in
         rw (rest_whole (f.rest None (subst (λ (j : ℕ). Rest (rest k z j) s at None) w (run_full k.tag k.form s z at h))))
 
-    -- so few are too few
-    pub list_few : at ≡ length s → n < lo → list_dec k lo s ≡ None
-    list_few e h = rw (whole e, lt-leb lo (length (take n v)) (omega (arith, sofar_count)))
-
-    pub list_some : at ≡ length s → lo ≤ n → list_dec k lo s ≡ Some (take n v)
-    list_some e h = rw (whole e, le-leb lo (length (take n v)) (omega (arith, sofar_count)))
+    -- all of s was read: how many there are, and they with blank ones after, if they are enough
+    pub list_done : (at < length s → ⊥) → then_some (leb lo n) (n, v) ≡ in_places k (list_dec k lo s)
+    list_done h =
+        let w = whole (omega (arith, f.inside)) in
+        by (leb lo n)
+        (λ y. rw (y, w, sofar_count, y, ← sofar_rest, sofar_count))
+        (λ q. rw (q, w, sofar_count, q))
 
 -- ---- writing
 

@@ -1,24 +1,25 @@
 -- The laws of a table of fields, by recursion over its rows: of its layout, of rows that are read one after another, of rows that are written so.
-use mathlib.Core.Path.{◌≡◌, refl, sym, ap, subst, ◌∙◌}
+use mathlib.Core.Path.{◌≡◌, refl, sym, ap, ◌∙◌}
 use mathlib.Core.Bool.{Bool, true, false, not, ◌&&◌, ◌||◌}
 use Rattle.std.specs.Prelude.{Option, None, Some}
-use Rattle.std.proofs.lemmas.Option.{none-some, same_Some}
+use Rattle.std.proofs.lemmas.Option.{same_Some}
 use mathlib.Core.List.{List, [], ◌∷◌, ◌++◌, append_assoc}
 use Prim.Native.Nat.{ℕ, ◌+◌, ◌≤◌}
 use native.Mathlib.Omega.{arith}
 use lib.Dec.{T, ltb, eqb}
-use lib.ListN.{length, drop, length-append}
-use borrow.Author.Tests.{eqb-true, eqb-false}
+use lib.ListN.{length, length-append}
+use borrow.Author.Tests.{eq-eqb, ne_eqb}
 use Rattle.format.specs.Maybe.{bind, guard}
 use Rattle.format.specs.Format.{Fmt, Law, mapped, refined}
 use Rattle.format.proofs.Tests.{by, either, and_l, and_r}
+use Rattle.format.proofs.Maybe.{bind_bind, bind_same}
 use Rattle.ber.specs.Tlv.{tlv_enc, head}
-use Rattle.ber.specs.Field.{new, Avoids}
-use Rattle.ber.specs.Table.{Row, always, if_set, if_any, if_new, Value, Values, row, layout, row_good, row_enc, row_dec, tag, tags, among, distinct}
+use Rattle.ber.specs.Field.{end, new, Avoids}
+use Rattle.ber.specs.Table.{Row, always, if_set, if_any, if_new, Value, Values, row, layout, row_good, row_enc, row_dec, rows_at, both, tag, tags, among, distinct}
 use Rattle.ber.proofs.Tlvs.{tlv_fits}
 use Rattle.ber.proofs.Fields.{Caps, field_law, end_law, optional_law, flag_law, unless_known_law, field_avoids, optional_avoids, flag_avoids}
-use Rattle.ber.proofs.Readers.{here_yes, here_no, Leaves, Got, Rest, rest_whole, rest_field, rest_flag, rest_mapped, rest_refined, end_yes, end_no}
-use Rattle.ber.proofs.Readers.{first_leaves, maybe_leaves, flagged_leaves}
+use Rattle.ber.specs.Read.{here, read_at}
+use Rattle.ber.proofs.Readers.{here_yes, here_no, Leaves, got, read_lost, end_is, flag_dec, first_leaves, maybe_leaves, flagged_leaves}
 
 -- ---- the law of a layout
 
@@ -79,69 +80,131 @@ row_leaves (if_set t c) = flagged_leaves t c
 row_leaves (if_any t x) = maybe_leaves t x
 row_leaves (if_new t x k) = new_leaves t x k
 
-rest_row : (r : Row) {B : Type 0} (e : Fmt B) {s : List ℕ} {at m : ℕ} {v : Value r} {o : Option B}
-    → Got (row_dec r) s at v m → Rest e.dec s m o → Rest (row r e).dec s at (bind o (λ b. Some (v, b)))
-rest_row (always t x) e g z = rest_field g z
-rest_row (if_set t c) e g z = rest_flag t c e g z
-rest_row (if_any t x) e g z = rest_field g z
-rest_row (if_new t x k) e g z = rest_field g z
+-- ---- THE law of a table: its rows read one after another are its layout
 
--- from a place of s on they say these values, and end at another place
-abbrev pub Gets : List ℕ → (rs : List Row) → ℕ → Values rs → ℕ → Type 0
-Gets s [] at v next = at ≡ next
-Gets s (r ∷ rs) at v next = (m : ℕ) × Got (row_dec r) s at v.0 m × Gets s rs m v.1 next
+-- a layout reads its first row, and then the others
+row_is : (r : Row) {B : Type 0} (e : Fmt B) (z : List ℕ) → (row r e).dec z ≡ bind (row_dec r z) (λ q. bind (e.dec q.1) (λ b. Some (q.0, b)))
+row_is (always t x) e z = refl
+row_is (if_set t c) e z = flag_dec t c e z
+row_is (if_any t x) e z = refl
+row_is (if_new t x k) e z = refl
+
+-- it counts where it is all of s
+abbrev pub ended : {A : Type 0} → List ℕ → Option (A × ℕ) → Option A
+ended s o = bind o (λ q. guard (eqb q.1 (length s)) q.0)
 
 module _ (s : List ℕ) where
-  -- that is the end of s
-  pub rows_yes : (rs : List Row) (at : ℕ) (v : Values rs) (next : ℕ) → Gets s rs at v next → next ≡ length s → Rest (layout rs).dec s at (Some v)
-  rows_yes [] at v next g e = end_yes s at (g ∙ e)
-  rows_yes (r ∷ rs) at v next (m, g, gs) e = rest_row r (layout rs) g (rows_yes rs m v.1 next gs e)
-
-  pub rows_no : (rs : List Row) (at : ℕ) (v : Values rs) (next : ℕ) → Gets s rs at v next → (next ≡ length s → ⊥) → Rest (layout rs).dec s at None
-  rows_no [] at v next g n = end_no s at (λ e. n (sym g ∙ e))
-  rows_no (r ∷ rs) at v next (m, g, gs) n = rest_row r (layout rs) g (rows_no rs m v.1 next gs n)
-
-  -- what was got before a place of s was got from one
-  pub got_found : {A : Type 0} (p : List ℕ → Option (A × List ℕ)) (at next : ℕ) (v : A) → Got p s at v next → next ≤ length s
-      → (at ≤ length s) × (p (drop at s) ≡ Some (v, drop next s))
-  got_found p at next v g h =
+  end_at : (at : ℕ) → bind (here s at) end.dec ≡ guard (eqb at (length s)) tt
+  end_at at =
       either at (length s)
-      (λ k. (k, rw (here_yes s at k, here_yes s next h) at g.is))
-      (λ k. absurd (none-some (v, drop next s) (rw (here_no s at k, here_yes s next h) at g.is)))
+      (λ k. rw (here_yes s at k) (end_is s at k))
+      (λ k. rw (here_no s at k, ne_eqb at (length s) (omega arith)))
 
-  pub rows_place : (rs : List Row) (at : ℕ) (v : Values rs) (next : ℕ) → Gets s rs at v next → next ≤ length s → at ≤ length s
-  rows_place [] at v next g h = omega arith
-  rows_place (r ∷ rs) at v next (m, g, gs) h = (got_found (row_dec r) at m v.0 g (rows_place rs m v.1 next gs h)).0
+  pub layout_at : (rs : List Row) (at : ℕ) → bind (here s at) (layout rs).dec ≡ ended s (rows_at s rs at)
+  layout_at [] at = end_at at
+  layout_at (r ∷ rs) at =
+      bind_same (here s at) (row r (layout rs)).dec _ (row_is r (layout rs))
+      ∙ sym (bind_bind (here s at) (row_dec r) then_rest)
+      ∙ go (layout_at rs) (read_at (row_dec r) s at) refl
+    where
+      then_rest : Value r × List ℕ → Option (Value r × Values rs)
+      then_rest q = bind ((layout rs).dec q.1) (λ b. Some (q.0, b))
+
+      both_of : (v : Value r) (o : Option (Values rs × ℕ))
+          → bind (ended s o) (λ b. Some (v, b)) ≡ ended {A = Value r × Values rs} s (bind o (λ q. Some ((v, q.0), q.1)))
+      both_of v None = refl
+      both_of v (Some q) = by (eqb q.1 (length s)) (λ y. rw y) (λ n. rw n)
+
+      go : ((m : ℕ) → bind (here s m) (layout rs).dec ≡ ended s (rows_at s rs m)) → (o : Option (Value r × ℕ)) → read_at (row_dec r) s at ≡ o
+          → bind (bind (here s at) (row_dec r)) then_rest
+          ≡ ended {A = Value r × Values rs} s (bind o (λ p. bind (rows_at s rs p.1) (λ q. Some ((p.0, q.0), q.1))))
+      go rest None e = rw (read_lost (row_dec r) s at e)
+      go rest (Some p) e =
+          ap (λ (o : Option (Value r × List ℕ)). bind o then_rest) (got (row_dec r) s at (row_leaves r) e).is
+          ∙ bind_bind (here s p.1) (λ y. Some (p.0, y)) then_rest
+          ∙ sym (bind_bind (here s p.1) (layout rs).dec (λ b. Some (p.0, b)))
+          ∙ ap (λ (o : Option (Values rs)). bind o (λ b. Some (p.0, b))) (rest p.1)
+          ∙ both_of p.0 (rows_at s rs p.1)
+
+  -- of all of s
+  pub layout_is : (rs : List Row) → (layout rs).dec s ≡ ended s (rows_at s rs 0)
+  layout_is rs = sym (ap (λ (o : Option (List ℕ)). bind o (layout rs).dec) (here_yes s 0 (omega arith))) ∙ layout_at rs 0
+
+  -- rows that end where s does are the layout, and it is read as what they say
+  pub rows_yes : (rs : List Row) (at : ℕ) (v : Values rs) (next : ℕ) → rows_at s rs at ≡ Some (v, next) → next ≡ length s
+      → bind (here s at) (layout rs).dec ≡ Some v
+  rows_yes rs at v next e n = layout_at rs at ∙ rw (e, eq-eqb next (length s) n)
+
+  -- and those that end elsewhere are none
+  pub rows_no : (rs : List Row) (at : ℕ) (v : Values rs) (next : ℕ) → rows_at s rs at ≡ Some (v, next) → (next ≡ length s → ⊥)
+      → bind (here s at) (layout rs).dec ≡ None
+  rows_no rs at v next e n = layout_at rs at ∙ rw (e, ne_eqb next (length s) n)
+
+  -- of all of s, as the value that the rows say, if it passes a test
+  pub table_is : {A : Type 0} (rs : List Row) (to : Values rs → A) (back : A → Values rs) (ok : A → Bool)
+      → (refined ok (mapped to back (layout rs))).dec s ≡ bind (rows_at s rs 0) (λ q. guard (eqb q.1 (length s) && ok (to q.0)) (to q.0))
+  table_is {A} rs to back ok =
+      ap (λ (o : Option (Values rs)). bind {A = A} (bind o (λ v. Some (to v))) (λ a. guard (ok a) a)) (layout_is rs)
+      ∙ go (rows_at s rs 0)
+    where
+      go : (o : Option (Values rs × ℕ))
+          → bind {A = A} (bind (ended s o) (λ v. Some (to v))) (λ a. guard (ok a) a) ≡ bind o (λ q. guard (eqb q.1 (length s) && ok (to q.0)) (to q.0))
+      go None = refl
+      go (Some q) = by (eqb q.1 (length s)) (λ y. rw y) (λ n. rw n)
+
+  -- the rows of two tables one after another
+  pub rows_then : (rs qs : List Row) (at : ℕ)
+      → rows_at s (rs ++ qs) at ≡ bind (rows_at s rs at) (λ p. bind (rows_at s qs p.1) (λ q. Some (both rs qs p.0 q.0, q.1)))
+  rows_then [] qs at = sym (bind_id (rows_at s qs at))
+    where
+      bind_id : {A : Type 0} (o : Option (A × ℕ)) → bind o (λ q. Some (q.0, q.1)) ≡ o
+      bind_id None = refl
+      bind_id (Some q) = refl
+  rows_then (r ∷ rs) qs at = go (rows_then rs qs) (read_at (row_dec r) s at)
+    where
+      pick : (v : Value r) (o : Option (Values rs × ℕ))
+          → bind {A = Values (rs ++ qs) × ℕ} {B = Values (r ∷ (rs ++ qs)) × ℕ} (bind o (λ p. bind (rows_at s qs p.1) (λ q. Some (both rs qs p.0 q.0, q.1)))) (λ q. Some ((v, q.0), q.1))
+          ≡ bind {A = Values (r ∷ rs) × ℕ} (bind o (λ q. Some ((v, q.0), q.1))) (λ p. bind (rows_at s qs p.1) (λ q. Some (both (r ∷ rs) qs p.0 q.0, q.1)))
+      pick v None = refl
+      pick v (Some p) = bind_bind (rows_at s qs p.1) (λ q. Some (both rs qs p.0 q.0, q.1)) (λ q. Some ((v, q.0), q.1))
+
+      go : ((m : ℕ) → rows_at s (rs ++ qs) m ≡ bind (rows_at s rs m) (λ p. bind (rows_at s qs p.1) (λ q. Some (both rs qs p.0 q.0, q.1))))
+          → (o : Option (Value r × ℕ))
+          → bind {B = Values (r ∷ (rs ++ qs)) × ℕ} o (λ p. bind (rows_at s (rs ++ qs) p.1) (λ q. Some ((p.0, q.0), q.1)))
+          ≡ bind {A = Values (r ∷ rs) × ℕ} (bind o (λ p. bind (rows_at s rs p.1) (λ q. Some ((p.0, q.0), q.1))))
+          (λ p. bind (rows_at s qs p.1) (λ q. Some (both (r ∷ rs) qs p.0 q.0, q.1)))
+      go rest None = refl
+      go rest (Some p) = ap (λ (o : Option (Values (rs ++ qs) × ℕ)). bind o (λ q. Some ((p.0, q.0), q.1))) (rest p.1) ∙ pick p.0 (rows_at s rs p.1)
+
+-- The rows read one after another, with what is made of them in the end: as code reads them.
+abbrev pub rows_with : {C : Type 0} → List ℕ → (rs : List Row) → ℕ → (Values rs → ℕ → Option C) → Option C
+rows_with s [] at k = k tt at
+rows_with s (r ∷ rs) at k = bind (read_at (row_dec r) s at) (λ p. rows_with s rs p.1 (λ v n. k (p.0, v) n))
+
+module _ {C : Type 0} (s : List ℕ) where
+  pub with_at : (rs : List Row) (at : ℕ) (k : Values rs → ℕ → Option C) → bind (rows_at s rs at) (λ q. k q.0 q.1) ≡ rows_with s rs at k
+  with_at [] at k = refl
+  with_at (r ∷ rs) at k = go (λ m v. with_at rs m (λ w n. k (v, w) n)) (read_at (row_dec r) s at)
+    where
+      go : ((m : ℕ) (v : Value r) → bind (rows_at s rs m) (λ q. k (v, q.0) q.1) ≡ rows_with s rs m (λ w n. k (v, w) n))
+          → (o : Option (Value r × ℕ))
+          → bind {A = Values (r ∷ rs) × ℕ} (bind o (λ p. bind (rows_at s rs p.1) (λ q. Some ((p.0, q.0), q.1)))) (λ q. k q.0 q.1)
+          ≡ bind o (λ p. rows_with s rs p.1 (λ v n. k (p.0, v) n))
+      go rest None = refl
+      go rest (Some p) = bind_bind {B = Values (r ∷ rs) × ℕ} (rows_at s rs p.1) (λ q. Some ((p.0, q.0), q.1)) (λ q. k q.0 q.1) ∙ rest p.1 p.0
+
+  pub with_bind : {B : Type 0} (rs : List Row) (at : ℕ) (k : Values rs → ℕ → Option B) (g : B → Option C)
+      → bind (rows_with s rs at k) g ≡ rows_with s rs at (λ v n. bind (k v n) g)
+  with_bind [] at k g = refl
+  with_bind {B} (r ∷ rs) at k g = go (λ m v. with_bind rs m (λ w n. k (v, w) n) g) (read_at (row_dec r) s at)
+    where
+      go : ((m : ℕ) (v : Value r) → bind (rows_with s rs m (λ w n. k (v, w) n)) g ≡ rows_with s rs m (λ w n. bind (k (v, w) n) g))
+          → (o : Option (Value r × ℕ))
+          → bind (bind o (λ p. rows_with s rs p.1 (λ v n. k (p.0, v) n))) g ≡ bind o (λ p. rows_with s rs p.1 (λ v n. bind (k (p.0, v) n) g))
+      go rest None = refl
+      go rest (Some p) = rest p.1 p.0
 
 -- ---- rows in parts
-
--- the values of some rows and of those that follow
-abbrev pub both : (rs qs : List Row) → Values rs → Values qs → Values (rs ++ qs)
-both [] qs v w = w
-both (r ∷ rs) qs v w = (v.0, both rs qs v.1 w)
-
--- All of s, as the value that the rows of a table say, if it passes a test.
-module _ {A : Type 0} (rs : List Row) (to : Values rs → A) (back : A → Values rs) (ok : A → Bool) (s : List ℕ) (v : Values rs) (next : ℕ)
-    (g : Gets s rs 0 v next) where
-  whole : {o : Option (Values rs)} → Rest (layout rs).dec s 0 o
-      → (refined ok (mapped to back (layout rs))).dec s ≡ bind {A = A} (bind {B = A} o (λ a. Some (to a))) (λ a. guard (ok a) a)
-  whole r = rest_whole (rest_refined ok (mapped to back (layout rs)) (rest_mapped to back (layout rs) r))
-
-  table_is : (refined ok (mapped to back (layout rs))).dec s ≡ guard (eqb next (length s) && ok (to v)) (to v)
-  table_is = by (eqb next (length s))
-      (λ y. rw y (whole (rows_yes s rs 0 v next g (eqb-true next (length s) y))))
-      (λ n. rw n (whole (rows_no s rs 0 v next g (eqb-false next (length s) n))))
-
-  pub table_yes : (eqb next (length s) && ok (to v)) ≡ true → (refined ok (mapped to back (layout rs))).dec s ≡ Some (to v)
-  table_yes y = table_is ∙ rw y
-
-  pub table_no : (eqb next (length s) && ok (to v)) ≡ false → (refined ok (mapped to back (layout rs))).dec s ≡ None
-  table_no n = table_is ∙ rw n
-
-pub rows_then : (s : List ℕ) (rs qs : List Row) (at m next : ℕ) (v : Values rs) (w : Values qs) → Gets s rs at v m → Gets s qs m w next
-    → Gets s (rs ++ qs) at (both rs qs v w) next
-rows_then s [] qs at m next v w g h = subst (λ (k : ℕ). Gets s qs k w next) (sym g) h
-rows_then s (r ∷ rs) qs at m next v w (n, g, gs) h = (n, g, rows_then s rs qs n m next v.1 w gs h)
 
 row_enc_lem : (r : Row) {B : Type 0} (e : Fmt B) (v : Value r) (b : B) → (row r e).enc (v, b) ≡ row_enc r v ++ e.enc b
 row_enc_lem (always t x) e v b = refl

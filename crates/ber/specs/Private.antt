@@ -1,4 +1,3 @@
 -- What only private functions promise, here and in the crates above: no part of what a reader has to believe.
 pub mod Filled
-pub mod Stay
 pub mod Wrote

@@ -1,8 +1,10 @@
 -- Fields as a table: a row a field, with its tag, when it is there, and its values. The layout of the fields is their table read off.
 use Rattle.std.specs.Prelude.{Bool, true, false, not, cond, ◌&&◌, ◌||◌, List, [], ◌∷◌, ◌++◌, ℕ, eqb}
-use Rattle.std.specs.Prelude.{Option}
+use Rattle.std.specs.Prelude.{Option, Some}
+use Rattle.format.specs.Maybe.{bind}
 use Rattle.format.specs.Format.{Fmt, exactly}
 use Rattle.ber.specs.Tlv.{tlv_enc}
+use Rattle.ber.specs.Read.{read_at}
 use Rattle.ber.specs.Field.{first, field, end, opt_good, opt_enc, maybe, optional, there, flagged, flag, new_good, new_enc, new, unless_known, ◌▸◌}
 
 pub data Row : Type 1 where
@@ -62,6 +64,16 @@ row_dec (always t x) s = first t x s
 row_dec (if_set t c) s = flagged t c s
 row_dec (if_any t x) s = maybe t x s
 row_dec (if_new t x k) s = new t x k s
+
+-- what the rows say one after another from a place of s on, and the place after them
+abbrev pub rows_at : List ℕ → (rs : List Row) → ℕ → Option (Values rs × ℕ)
+rows_at s [] at = Some (tt, at)
+rows_at s (r ∷ rs) at = bind (read_at (row_dec r) s at) (λ p. bind (rows_at s rs p.1) (λ q. Some ((p.0, q.0), q.1)))
+
+-- the values of some rows and of those that follow
+abbrev pub both : (rs qs : List Row) → Values rs → Values qs → Values (rs ++ qs)
+both [] qs v w = w
+both (r ∷ rs) qs v w = (v.0, both rs qs v.1 w)
 
 -- ---- the tags of a table
 

@@ -39,6 +39,7 @@ pub fn charge(node: Node, held: &[u8], ended: bool, out: &mut [u8]) -> Charged
     let mut events: usize = 0;
     let mut last: usize = 0;
     let mut written: usize = 0;
+    // From event to event, each as long as its kind is: no index is counted.
     while is_ready(ended, held.len() - came, out.len() - written) {
         let n = framing::next_length(&held[came..]);
         let end = came + n;

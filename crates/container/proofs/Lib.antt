@@ -7,6 +7,5 @@ pub mod Stepwise
 pub mod Opens
 pub mod Padded
 pub mod OpenRules
-pub mod Listings
 pub mod Printed
 pub mod Fixes

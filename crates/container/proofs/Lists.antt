@@ -9,12 +9,15 @@ use lib.Dec.{T, leb}
 use lib.ListN.{length, take, drop}
 use lib.Seq.{take_at, drop_at}
 use borrow.Author.Tests.{le-leb, lt-leb}
-use Rattle.ber.specs.Tlv.{tlv_enc}
+use Rattle.format.specs.Maybe.{bind}
+use Rattle.ber.specs.Read.{read_at}
+use Rattle.ber.specs.Tlv.{tlv_enc, tlv_dec}
 use Rattle.ber.proofs.Tlvs.{tlv_fits}
-use Rattle.ber.proofs.Runs.{Run, list_dec, SoFar, sofar_count, sofar_rest, list_some, Test}
+use Rattle.ber.proofs.Readers.{into, first_at}
+use Rattle.ber.proofs.Runs.{Run, list_dec, in_places, Test}
 use Rattle.container.specs.declared.Container.{Container}
 use Rattle.container.specs.Container.{container_tag, formed, container}
-use Rattle.container.specs.List.{all_formed, containers, no_containers, listed, Listed}
+use Rattle.container.specs.List.{all_formed, containers, in_array, lists_at, padded}
 use Rattle.container.proofs.Formats.{container_law, container_good, container_most}
 use Rattle.container.proofs.Padded.{blank}
 
@@ -24,40 +27,28 @@ use Rattle.container.proofs.Padded.{blank}
 abbrev pub listing : Run Container
 listing = record { tag = container_tag; form = container; places = 15; blank = blank }
 
-module _ (s : List ℕ) where
-  pub list_is : containers.dec s ≡ list_dec listing 1 s
-  unfolding containers
-  list_is = refl
+pub list_is : (s : List ℕ) → containers.dec s ≡ list_dec listing 1 s
+unfolding containers
+list_is s = refl
 
-  pub list_there : {v : List Container} {n at : ℕ} {z : Container} → SoFar listing s v n at z → at ≡ length s → 1 ≤ n → Listed (containers.dec s) true n v
-  list_there {v} {n} f e h =
-      let d : containers.dec s ≡ Some (take n v) = list_is ∙ list_some listing s 1 f e h in
-      record { found = rw d; count = rw d (sym (sofar_count listing s 1 f)); values = rw d (sofar_rest listing s 1 f) }
+pub array_is : (o : Option (List Container)) → in_places listing o ≡ in_array o
+array_is None = refl
+array_is (Some cs) = refl
 
-  pub listed_none : {ok : Bool} {n : ℕ} {v : List Container} → containers.dec s ≡ None → (ok ≡ false) × (n ≡ 0) × (v ≡ no_containers 15) → Listed
-      (containers.dec s) ok n v
-  listed_none d h = record { found = rw d h.0; count = rw d h.1; values = rw d h.2 }
-
--- what who called the reader of lists knows
-pub listed_some : {o : Option (List Container)} {n : ℕ} {v : List Container} → Listed o true n v → o ≡ Some (take n v)
-listed_some {o} {n} {v} r = go o r
+-- under a tag
+pub lists_is : (s : List ℕ) (at t : ℕ) → lists_at s at t ≡ bind (read_at (tlv_dec t) s at) (λ p. bind (in_array (containers.dec p.0)) (λ v. Some (v, p.1)))
+unfolding lists_at
+lists_is s at t = rw (first_at t containers s at) (go (read_at (tlv_dec t) s at))
   where
-    go : (o : Option (List Container)) → Listed o true n v → o ≡ Some (take n v)
-    go None r = absurd (subst T r.found tt)
-    go (Some cs) r = ap {B = Option (List Container)} Some (sym (ap (take n) r.values ∙ take_at cs (no_containers (15 - length cs)) n (sym r.count)))
+    step : (o : Option (List Container)) (n : ℕ)
+        → bind {A = List Container × ℕ} {B = (ℕ × List Container) × ℕ} (bind o (λ cs. Some (cs, n))) (λ p. Some ((length p.0, padded p.0), p.1)) ≡ bind (in_array o) (λ v. Some (v, n))
+    step None n = refl
+    step (Some cs) n = refl
 
-pub listed_not : {o : Option (List Container)} {n : ℕ} {v : List Container} → Listed o false n v → o ≡ None
-listed_not {o} {n} {v} r = go o r
-  where
-    go : (o : Option (List Container)) → Listed o false n v → o ≡ None
-    go None r = refl
-    go (Some cs) r = absurd (subst T (sym r.found) tt)
-
--- the places after the list are blank
-pub listed_rest : {o : Option (List Container)} {ok : Bool} {n : ℕ} {v : List Container} → Listed o ok n v → drop n v ≡ no_containers (15 - n)
-listed_rest {o} {ok} {n} {v} r =
-    ap (drop n) r.values ∙ drop_at (listed o) (no_containers (15 - length (listed o))) n (sym r.count) ∙ ap (λ (k : ℕ). no_containers (15 - k))
-    (sym r.count)
+    go : (o : Option (List ℕ × ℕ))
+        → bind {B = (ℕ × List Container) × ℕ} (into containers.dec o) (λ p. Some ((length p.0, padded p.0), p.1)) ≡ bind o (λ p. bind (in_array (containers.dec p.0)) (λ v. Some (v, p.1)))
+    go None = refl
+    go (Some p) = step (containers.dec p.0) p.1
 
 -- ---- writing
 

@@ -2,10 +2,10 @@
 use Rattle.std.specs.Prelude.{◌≡◌, Bool, true, false, not, ◌&&◌, List, [], ◌∷◌, ◌++◌, ℕ, zero, suc, ◌-◌, leb, ltb, eqb, length, take}
 use Rattle.std.specs.Bool.{beq}
 use Rattle.std.specs.Prelude.{Option, None, Some}
-use Rattle.format.specs.Maybe.{guard}
+use Rattle.format.specs.Maybe.{bind, guard}
 use Rattle.format.specs.Format.{Fmt}
 use Rattle.ber.specs.Field.{first, many}
-use Rattle.ber.specs.Read.{Reads}
+use Rattle.ber.specs.Read.{read_at}
 use Rattle.ber.specs.Tlv.{tlv_enc}
 use Rattle.calendar.specs.declared.Stamp.{Stamp}
 use Rattle.container.specs.declared.Qos.{Qos}
@@ -76,26 +76,14 @@ no_containers (suc n) = no_container ∷ no_containers n
 abbrev pub padded : List Container → List Container
 padded cs = cs ++ no_containers (15 - length cs)
 
--- is something there; and the list, none where there is none
-abbrev pub is_there : Option (List Container) → Bool
-is_there None = false
-is_there (Some cs) = true
+-- what the reader of lists answers, where the octets are a list: how many it has, and they in an array of 15
+abbrev pub in_array : Option (List Container) → Option (ℕ × List Container)
+in_array None = None
+in_array (Some cs) = Some (length cs, padded cs)
 
-abbrev pub listed : Option (List Container) → List Container
-listed None = []
-listed (Some cs) = cs
-
--- What the reader of lists answers, where the octets are the list o: whether there is one, how many it has, and they.
-pub record Listed (o : Option (List Container)) (ok : Bool) (n : ℕ) (v : List Container) : Type 0 where
-  pub found : ok ≡ is_there o
-  pub count : n ≡ length (listed o)
-  pub values : v ≡ padded (listed o)
-
--- What the reader of a list under a tag answers, at any place of any octets: the containers, in an array whose other places hold nothing.
-pub record ListsAt (s : List ℕ) (at t n : ℕ) (v : List Container) (next : ℕ) : Type 0 where
-  pub reads : Reads [] (first t containers) s at (take n v) next
-  pub rest : v ≡ padded (take n v)
-  pub count : length (take n v) ≡ n
+-- what the reader of a list under a tag answers, at any place of any octets
+unfoldable pub lists_at : List ℕ → ℕ → ℕ → Option ((ℕ × List Container) × ℕ)
+lists_at s at t = bind (read_at (first t containers) s at) (λ p. Some ((length p.0, padded p.0), p.1))
 
 -- a container of which every field is zero
 unfoldable pub is_blank : Container → Bool

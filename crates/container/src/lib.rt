@@ -44,7 +44,7 @@ pub struct Container {
 
 // A record that is still open: when it opened, the QoS in force, the limits that it opened with and keeps until it closes, what was counted
 // since the last container ended, how many QoS and tariff changes there were, and the containers that these ended. Places that are not used
-// are zero.
+// are zero. (Laid out as in C, include/charging.h: so the containers stand in an array, and their count beside.)
 #[repr(C)]
 #[derive(Clone, Copy)]
 pub struct OpenRecord {

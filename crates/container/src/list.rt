@@ -1,54 +1,31 @@
 // The list of containers, read and written. The first stands after none, which is as after one that ended with a QoS change.
-ghost use Rattle.std.specs.Prelude.{◌≡◌, false};
+ghost use Rattle.std.specs.Prelude.{◌≡◌};
 ghost use Rattle.ber.specs.Write.{Puts};
-ghost use Rattle.container.specs.List.{containers, list_form, Listed, no_containers};
+ghost use Rattle.container.specs.List.{containers, in_array, list_form};
 
 use crate::{Container, one};
 use ber::tlv;
 
-// What octets are the list of: n containers at the start of v, and blank ones after. None of them (n = 0) where ok is false.
-#[derive(Clone, Copy)]
-pub struct ListOf {
-    pub ok: bool,
-    pub n: usize,
-    pub v: [Container; 15],
-}
-
-// The list whose octets s is, all of s.
-pub fn list_of(s: &[u8]) -> ListOf
-    ensures { Listed (containers.dec s.now) result.ok result.n result.v }
+// The list whose octets s is, all of s: how many containers, and they, with blank ones after.
+pub fn list_of(s: &[u8]) -> Option<(usize, [Container; 15])>
+    ensures { result ≡ in_array (containers.dec s.now) }
 {
-    let blank = one::no_container();
-    let mut v = [blank; 15];
-    let mut n: usize = 0;
-    let mut at: usize = 0;
-    let mut last = blank;
+    let mut last = one::no_container();
+    let mut v = [last; 15];
+    let mut n = 0;
+    let mut at = 0;
+    // From the end of one value to the next, each as long as its own length says: no index is counted.
     while at < s.len() {
-        if 15 <= n {
-            return no_list();
+        if n == 15 {
+            return None;
         }
-        let c = one::container_at(s, at, last);
-        last = c.v;
-        v[n] = last;
+        let (c, next) = one::container_at(s, at, last)?;
+        last = c;
+        v[n] = c;
         n += 1;
-        at = c.next;
+        at = next;
     }
-    if at != s.len() {
-        return no_list();
-    }
-    if n < 1 {
-        return no_list();
-    }
-    ListOf { ok: true, n, v }
-}
-
-// The answer to octets that are no list.
-fn no_list() -> ListOf
-    ensures { (result.ok ≡ false) × (result.n ≡ 0) × (result.v ≡ no_containers 15) }
-{
-    let blank = one::no_container();
-    let v = [blank; 15];
-    ListOf { ok: false, n: 0, v }
+    (1 <= n).then_some((n, v))
 }
 
 // The first n containers of v, one after another under the tag, at a place of out. Not written where n is not 1 to 15, or one of

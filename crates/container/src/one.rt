@@ -4,14 +4,12 @@ ghost use Rattle.format.specs.Maybe.{guard};
 ghost use Rattle.ber.specs.Tlv.{tlv_enc};
 ghost use Rattle.ber.specs.Field.{first};
 ghost use Rattle.ber.specs.Table.{row_dec};
-ghost use Rattle.ber.specs.Read.{Reads};
+ghost use Rattle.ber.specs.Read.{read_at};
 ghost use Rattle.ber.specs.Write.{Puts};
-ghost use Rattle.container.specs.Qos.{no_qos};
 ghost use Rattle.container.specs.Container.{container_ok, is_new, is_told, formed, container_tag, QosAfter, container, no_container};
 ghost use Rattle.container.specs.Private.NewForm.{new_form};
 ghost use Rattle.ber.specs.Private.Filled.{Filled};
 
-use crate::qos_profile::QosAt;
 use crate::{Container, Qos, qos_profile, stamp, tags};
 use ber::{field, tlv};
 use calendar::Stamp;
@@ -25,13 +23,6 @@ pub fn container_ok(c: Container) -> bool
     let profile = qos_profile::qos_ok(q);
     let time = calendar::stamp_within(t);
     profile & (c.uplink < 1099511627776) & (c.downlink < 1099511627776) & (c.condition <= 2) & time
-}
-
-// What was read, and the place after it: zeros and NOWHERE where it is not there.
-#[derive(Clone, Copy)]
-pub struct ContainerAt {
-    pub v: Container,
-    pub next: usize,
 }
 
 // The container with nothing counted.
@@ -64,51 +55,43 @@ fn is_new(last: Container) -> bool
 }
 
 // The QoS of a container after another one, at the front of s, or of the last one, where it is not new: nothing is read then.
-fn qos_after(s: &[u8], last: Container) -> QosAt
-    ensures { Reads no_qos (row_dec (QosAfter last)) s.now 0 result.v result.next }
+fn qos_after(s: &[u8], last: Container) -> Option<(Qos, usize)>
+    ensures { result ≡ read_at (row_dec (QosAfter last)) s.now 0 }
 {
     if is_new(last) {
         return qos_profile::qos_at(s, 0, tags::QOS);
     }
-    let q = last.qos;
-    QosAt { v: q, next: 0 }
+    Some((last.qos, 0))
 }
 
 // The container at a place of s, after another one. It has a QoS of its own exactly where the last one ended with a QoS change.
-pub fn container_at(s: &[u8], at: usize, last: Container) -> ContainerAt
-    ensures { Reads no_container (first container_tag (container last)) s.now at result.v result.next }
+pub fn container_at(s: &[u8], at: usize, last: Container) -> Option<(Container, usize)>
+    ensures { result ≡ read_at (first container_tag (container last)) s.now at }
 {
-    let part = tlv::part_at(s, at, tags::CONTAINER);
-    let from = part.from;
-    let to = part.to;
-    if to == 0 {
-        return ContainerAt {
-            v: no_container(),
-            next: ber::NOWHERE,
-        };
+    let (contents, next) = tlv::part_at(s, at, tags::CONTAINER)?;
+    Some((container_of(contents, last)?, next))
+}
+
+// The container whose contents s is, all of s, after another one.
+fn container_of(s: &[u8], last: Container) -> Option<Container>
+    ensures { result ≡ (container last).dec s.now }
+{
+    let (qos, at) = qos_after(s, last)?;
+    let (uplink, at) = field::int_at(s, at, tags::UPLINK)?;
+    let (downlink, at) = field::int_at(s, at, tags::DOWNLINK)?;
+    let (condition, at) = field::octet_at(s, at, tags::CONDITION)?;
+    let (time, at) = stamp::stamp_at(s, at, tags::TIME)?;
+    if at != s.len() {
+        return None;
     }
-    let contents = &s[from..to];
-    let profile = qos_after(contents, last);
-    let uplink = field::int_at(contents, profile.next, tags::UPLINK);
-    let downlink = field::int_at(contents, uplink.next, tags::DOWNLINK);
-    let condition = field::octet_at(contents, downlink.next, tags::CONDITION);
-    let stamp = stamp::stamp_at(contents, condition.next, tags::TIME);
-    let qos = profile.v;
-    let time = stamp.v;
     let c = Container {
         qos,
-        uplink: uplink.v,
-        downlink: downlink.v,
-        condition: condition.v,
+        uplink,
+        downlink,
+        condition,
         time,
     };
-    if (stamp.next == contents.len()) & container_ok(c) {
-        return ContainerAt { v: c, next: to };
-    }
-    ContainerAt {
-        v: no_container(),
-        next: ber::NOWHERE,
-    }
+    container_ok(c).then_some(c)
 }
 
 // Can a reader tell the QoS of c, which stands after another one? It is new there, or the same still.

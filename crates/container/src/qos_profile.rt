@@ -3,7 +3,7 @@ ghost use Rattle.std.specs.Prelude.{◌≡◌, T, length, IsSomeAnd};
 ghost use Rattle.format.specs.Maybe.{guard};
 ghost use Rattle.ber.specs.Tlv.{tlv_enc};
 ghost use Rattle.ber.specs.Field.{first};
-ghost use Rattle.ber.specs.Read.{Reads};
+ghost use Rattle.ber.specs.Read.{read_at};
 ghost use Rattle.ber.specs.Write.{Puts};
 ghost use Rattle.container.specs.Qos.{qos_ok, same_qos, qos, no_qos};
 ghost use Rattle.ber.specs.Private.Filled.{Filled};
@@ -25,13 +25,6 @@ pub fn same_qos(a: Qos, b: Qos) -> bool
     a == b
 }
 
-// What was read, and the place after it: zeros and NOWHERE where it is not there.
-#[derive(Clone, Copy)]
-pub struct QosAt {
-    pub v: Qos,
-    pub next: usize,
-}
-
 // The profile that says nothing.
 pub fn no_qos() -> Qos
     ensures { result ≡ no_qos }
@@ -46,38 +39,33 @@ pub fn no_qos() -> Qos
 }
 
 // The profile under the tag at a place of s.
-pub fn qos_at(s: &[u8], at: usize, tag: u8) -> QosAt
-    ensures { Reads no_qos (first tag qos) s.now at result.v result.next }
+pub fn qos_at(s: &[u8], at: usize, tag: u8) -> Option<(Qos, usize)>
+    ensures { result ≡ read_at (first tag qos) s.now at }
 {
-    let part = tlv::part_at(s, at, tag);
-    let from = part.from;
-    let to = part.to;
-    if to == 0 {
-        return QosAt {
-            v: no_qos(),
-            next: ber::NOWHERE,
-        };
+    let (contents, next) = tlv::part_at(s, at, tag)?;
+    Some((qos_of(contents)?, next))
+}
+
+// The profile whose contents s is, all of s.
+fn qos_of(s: &[u8]) -> Option<Qos>
+    ensures { result ≡ qos.dec s.now }
+{
+    let (reliability, at) = field::octet_at(s, 0, tags::RELIABILITY)?;
+    let (delay, at) = field::octet_at(s, at, tags::DELAY)?;
+    let (precedence, at) = field::octet_at(s, at, tags::PRECEDENCE)?;
+    let (peak, at) = field::octet_at(s, at, tags::PEAK)?;
+    let (mean, at) = field::octet_at(s, at, tags::MEAN)?;
+    if at != s.len() {
+        return None;
     }
-    let contents = &s[from..to];
-    let reliability = field::octet_at(contents, 0, tags::RELIABILITY);
-    let delay = field::octet_at(contents, reliability.next, tags::DELAY);
-    let precedence = field::octet_at(contents, delay.next, tags::PRECEDENCE);
-    let peak = field::octet_at(contents, precedence.next, tags::PEAK);
-    let mean = field::octet_at(contents, peak.next, tags::MEAN);
     let q = Qos {
-        reliability: reliability.v,
-        delay: delay.v,
-        precedence: precedence.v,
-        peak: peak.v,
-        mean: mean.v,
+        reliability,
+        delay,
+        precedence,
+        peak,
+        mean,
     };
-    if (mean.next == contents.len()) & qos_ok(q) {
-        return QosAt { v: q, next: to };
-    }
-    QosAt {
-        v: no_qos(),
-        next: ber::NOWHERE,
-    }
+    qos_ok(q).then_some(q)
 }
 
 // A profile under the tag, at a place of out. One out of range is not written.

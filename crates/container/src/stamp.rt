@@ -1,49 +1,21 @@
 // A time stamp under a tag, read at a place of s and written at a place of out.
+ghost use Rattle.std.specs.Prelude.{◌≡◌};
 ghost use Rattle.format.specs.Maybe.{guard};
 ghost use Rattle.ber.specs.Tlv.{tlv_enc};
 ghost use Rattle.ber.specs.Field.{first};
-ghost use Rattle.ber.specs.Read.{Reads};
+ghost use Rattle.ber.specs.Read.{read_at};
 ghost use Rattle.ber.specs.Write.{Puts};
 ghost use Rattle.calendar.specs.Stamp.{stamp, stamp_ok, stamp_enc};
-ghost use Rattle.container.specs.Container.{no_stamp};
 
 use ber::tlv;
 use calendar::Stamp;
 
-// What was read, and the place after it: zeros and NOWHERE where it is not there.
-#[derive(Clone, Copy)]
-pub struct StampAt {
-    pub v: Stamp,
-    pub next: usize,
-}
-
 // The time under the tag at a place of s.
-pub fn stamp_at(s: &[u8], at: usize, tag: u8) -> StampAt
-    ensures { Reads no_stamp (first tag stamp) s.now at result.v result.next }
+pub fn stamp_at(s: &[u8], at: usize, tag: u8) -> Option<(Stamp, usize)>
+    ensures { result ≡ read_at (first tag stamp) s.now at }
 {
-    let part = tlv::part_at(s, at, tag);
-    let from = part.from;
-    let to = part.to;
-    if to == 0 {
-        return StampAt {
-            v: Stamp {
-                seconds: 0,
-                zone: 0,
-            },
-            next: ber::NOWHERE,
-        };
-    }
-    let contents = &s[from..to];
-    let Some(v) = calendar::stamp_of(contents) else {
-        return StampAt {
-            v: Stamp {
-                seconds: 0,
-                zone: 0,
-            },
-            next: ber::NOWHERE,
-        };
-    };
-    StampAt { v, next: to }
+    let (contents, next) = tlv::part_at(s, at, tag)?;
+    Some((calendar::stamp_of(contents)?, next))
 }
 
 // The time t under the tag, at a place of out. One out of range is not written.

@@ -15,7 +15,7 @@ use container::{OpenRecord, open};
 use event::Name;
 
 // A slot of the node's table. One that is free is zero in every field; octets and container places that are not used are zero.
-// Flags are octets, so that whatever a host hands over is a value.
+// Flags are octets, so that whatever a host hands over is a value. (Laid out as in C, include/charging.h: so the name's length stands beside it.)
 #[repr(C)]
 #[derive(Clone, Copy)]
 pub struct Context {

@@ -1,12 +1,11 @@
 -- What stands at a place, by the octets there: a law for each way out of the stepper.
 use mathlib.Core.Path.{◌≡◌}
 use mathlib.Core.Bool.{true, false}
+use Rattle.std.specs.Prelude.{Option, None, Some}
 use Prim.Native.Nat.{ℕ, ◌+◌, ◌-◌, ◌≤◌, ◌<◌}
 use mathlib.Core.List.{List}
 use lib.ListN.{length, get_or}
 use borrow.Author.Tests.{le-leb, lt-leb, lt-ltb, le-ltb, eq-eqb, ne_eqb}
-use Rattle.ber.specs.declared.length.Len.{Len}
-use Rattle.ber.specs.declared.length.Len.TheVariants as L
 use Rattle.ber.specs.Read.{len_at}
 use Rattle.entries.specs.declared.Entry.TheVariants.{Found, End, NoMark, Cut, NoValue}
 use Rattle.entries.specs.Entry.{is_tag, most_contents, sized_at, value_at, entry_at}
@@ -47,28 +46,28 @@ module _ (s : List ℕ) (from at : ℕ) where
     unfolding value_at
     other_tag t = rw (lt-leb (length s) at h, t)
 
-    pub tagged : is_tag (get_or s at 0) ≡ true → {l : Len} → l ≡ len_at s (at + 1) → sized_at s from at l ≡ value_at s from at
+    pub tagged : is_tag (get_or s at 0) ≡ true → {l : Option (ℕ × ℕ)} → l ≡ len_at s (at + 1) → sized_at s from at l ≡ value_at s from at
     unfolding value_at
     tagged t {l} e = rw (lt-leb (length s) at h, t, e)
 
-  pub short_length : length s - (at + 1) < 3 → Cut from ≡ sized_at s from at L.NoLen
+  pub short_length : length s - (at + 1) < 3 → Cut from ≡ sized_at s from at None
   unfolding sized_at
   short_length h = rw (lt-ltb (length s - (at + 1)) 3 h)
 
-  pub other_length : 3 ≤ length s - (at + 1) → NoValue at ≡ sized_at s from at L.NoLen
+  pub other_length : 3 ≤ length s - (at + 1) → NoValue at ≡ sized_at s from at None
   unfolding sized_at
   other_length h = rw (le-ltb (length s - (at + 1)) 3 h)
 
   module _ (n a : ℕ) where
-    pub whole_value : n ≤ length s - a → Found at (a + n) ≡ sized_at s from at (L.Size n a)
+    pub whole_value : n ≤ length s - a → Found at (a + n) ≡ sized_at s from at (Some (n, a))
     unfolding sized_at
     whole_value h = rw (le-leb n (length s - a) h)
 
     module _ (h : length s - a < n) where
-      pub long_value : most_contents < n → NoValue at ≡ sized_at s from at (L.Size n a)
+      pub long_value : most_contents < n → NoValue at ≡ sized_at s from at (Some (n, a))
       unfolding sized_at
       long_value k = rw (lt-leb n (length s - a) h, lt-ltb most_contents n k)
 
-      pub cut_value : n ≤ most_contents → Cut from ≡ sized_at s from at (L.Size n a)
+      pub cut_value : n ≤ most_contents → Cut from ≡ sized_at s from at (Some (n, a))
       unfolding sized_at
       cut_value k = rw (lt-leb n (length s - a) h, le-ltb most_contents n k)

@@ -13,8 +13,6 @@ use borrow.Author.Tests.{leb-true, leb-false, eqb-true, eqb-false, eq-eqb, ne_eq
 use Rattle.format.specs.Maybe.{bind}
 use Rattle.format.proofs.Maybe.{bind_some, bind_bind}
 use Rattle.format.proofs.Tests.{by, either}
-use Rattle.ber.specs.declared.length.Len.{Len}
-use Rattle.ber.specs.declared.length.Len.TheVariants as L
 use Rattle.ber.specs.Tlv.{tlv_enc, tlv_dec}
 use Rattle.ber.specs.Read.{len_at}
 use Rattle.ber.proofs.Places.{at_cons, rest_at, rest_is, starts_at, len_none, len_some, part_end, part_other, part_bare, part_cut, part_there}
@@ -84,12 +82,12 @@ valued s t at = bind (tlv_dec t (drop at s)) (λ p. Some (at, length s - length 
 
 module _ (s : List ℕ) (from : ℕ) where
   module _ (t at : ℕ) (h : at < length s) (k : get_or s at 0 ≡ t) where
-    sized : (l : Len) → l ≡ len_at s (at + 1) → place_of (sized_at s from at l) ≡ valued s t at
+    sized : (l : Option (ℕ × ℕ)) → l ≡ len_at s (at + 1) → place_of (sized_at s from at l) ≡ valued s t at
     unfolding sized_at
-    sized L.NoLen e =
+    sized None e =
         rw (part_bare s at t h k (len_none s (at + 1) (omega arith) e))
         (neither (ltb (length s - (at + 1)) 3) (Cut from) (NoValue at) refl refl)
-    sized (L.Size n a) e =
+    sized (Some (n, a)) e =
         let l = len_some s (at + 1) (omega arith) e in
         by (leb n (length s - a))
         (λ b. let m = leb-true n (length s - a) b in rw (b, part_there s at t h k n a l m, rest_at s (a + n) (let z = l.0 in omega arith)))

@@ -1,8 +1,7 @@
 -- What stands at a place of octets that may be a record list, by the mark and the length alone. "Each record follows the mark C3 5A"
 -- (01, "The record's octets"); a record is one BER value.
 use Rattle.std.specs.Prelude.{Bool, cond, not, ◌||◌, ℕ, ◌+◌, ◌-◌, List, leb, ltb, eqb, length, get_or}
-use Rattle.ber.specs.declared.length.Len.{Len}
-use Rattle.ber.specs.declared.length.Len.TheVariants as L
+use Rattle.std.specs.Prelude.{Option, None, Some}
 use Rattle.ber.specs.Read.{len_at}
 use Rattle.entries.specs.declared.Entry.{Entry}
 use Rattle.entries.specs.declared.Entry.TheVariants.{Found, End, NoMark, Cut, NoValue}
@@ -18,9 +17,9 @@ most_contents = 1020
 -- the value whose tag stands at `at`, in the entry that begins at `from`, by its length, if one stands there. The value is found where all
 -- of it is there. Else the octets end within it, unless it would be longer than any record. Where no length stands, it may be cut as long
 -- as fewer than the three octets are there that the longest length takes
-unfoldable pub sized_at : List ℕ → ℕ → ℕ → Len → Entry
-sized_at s from at (L.Size n a) = cond (leb n (length s - a)) (Found at (a + n)) (cond (ltb most_contents n) (NoValue at) (Cut from))
-sized_at s from at L.NoLen = cond (ltb (length s - (at + 1)) 3) (Cut from) (NoValue at)
+unfoldable pub sized_at : List ℕ → ℕ → ℕ → Option (ℕ × ℕ) → Entry
+sized_at s from at (Some p) = cond (leb p.0 (length s - p.1)) (Found at (p.1 + p.0)) (cond (ltb most_contents p.0) (NoValue at) (Cut from))
+sized_at s from at None = cond (ltb (length s - (at + 1)) 3) (Cut from) (NoValue at)
 
 -- what follows the mark of the entry that begins at `from`
 unfoldable pub value_at : List ℕ → ℕ → ℕ → Entry

@@ -1,16 +1,13 @@
 -- Reading the records of entries.
-use Rattle.std.specs.Prelude.{◌≡◌, Bool, List, [], ◌∷◌, ℕ, ◌+◌, ◌-◌, length, take, drop}
+use Rattle.std.specs.Prelude.{◌≡◌, List, [], ◌∷◌, ℕ, ◌+◌, ◌-◌, length, take, drop}
 use Rattle.std.specs.Prelude.{Option, None, Some}
 use Rattle.format.specs.Maybe.{bind}
 use Rattle.ber.specs.Field.{starts}
-use Rattle.scdr.specs.declared.Record.{Record}
-use Rattle.scdr.specs.Answers.{no_record}
-use Rattle.scdr.specs.Answers as s-answers
-use Rattle.mcdr.specs.declared.MmRecord.{MmRecord}
 use Rattle.mcdr.specs.Table.{record_tag}
-use Rattle.mcdr.specs.Answers as m-answers
 use Rattle.cdrs.specs.Cdr.{Cdr, pdp, mm, cdr_enc, cdr_dec}
-use Rattle.entries.specs.declared.Entry.{Entry}
+use Rattle.entries.specs.declared.read.Cdr as read
+use Rattle.entries.specs.declared.read.Cdr.TheVariants as read-cdr
+use Rattle.entries.specs.declared.read.ReadEntry.{ReadEntry}
 use Rattle.entries.specs.Entry.{entry_at}
 use Rattle.entries.specs.Steps.{place_of}
 
@@ -23,18 +20,18 @@ abbrev pub record_octets : List ℕ → Option (ℕ × ℕ) → List ℕ
 record_octets s None = []
 record_octets s (Some p) = octets_in s p
 
--- what is answered of a record that was read: 0 and the record, each kind in a field of its own; or 20. What is not there is all zero
-abbrev pub read_of : Option Cdr → ℕ × (Record × MmRecord)
-read_of None = (no_record, (s-answers.blank_record, m-answers.blank_record))
-read_of (Some (pdp r)) = (0, (r, m-answers.blank_record))
-read_of (Some (mm r)) = (0, (s-answers.blank_record, r))
+-- a record of either kind that the code holds
+abbrev pub cdr_of : Option read.Cdr → Option Cdr
+cdr_of None = None
+cdr_of (Some (read-cdr.Pdp r)) = Some (pdp r)
+cdr_of (Some (read-cdr.Mm r)) = Some (mm r)
 
 -- The promise of the reader of entries: what stands at the place; whether the record that was found has the tag of an M-CDR; and what its octets
--- read as.
-pub record ReadsEntry (s : List ℕ) (at : ℕ) (e : Entry) (answer : ℕ) (m : Bool) (r : Record) (q : MmRecord) : Type 0 where
-  pub entry : e ≡ entry_at s at
-  pub kind : m ≡ starts record_tag (record_octets s (place_of (entry_at s at)))
-  pub reads : ◌≡◌ {A = ℕ × (Record × MmRecord)} (answer, (r, q)) (read_of (cdr_dec (record_octets s (place_of (entry_at s at)))))
+-- read as, of its own kind.
+pub record ReadsEntry (s : List ℕ) (at : ℕ) (e : ReadEntry) : Type 0 where
+  pub entry : e.entry ≡ entry_at s at
+  pub kind : e.mm ≡ starts record_tag (record_octets s (place_of (entry_at s at)))
+  pub reads : cdr_of e.cdr ≡ cdr_dec (record_octets s (place_of (entry_at s at)))
 
 -- the records at these places of s, if each of them reads
 unfoldable pub read_each : List ℕ → List (ℕ × ℕ) → Option (List Cdr)

@@ -4,7 +4,6 @@ ghost use Rattle.entries.specs.Entry.{is_tag, entry_at, value_at};
 
 use crate::Entry;
 use ber::length;
-use ber::length::Len;
 
 // What stands at a place of s. The next entry of a list begins where the record that was found ends.
 pub fn entry_at(s: &[u8], at: usize) -> Entry
@@ -37,7 +36,7 @@ fn value_at(s: &[u8], from: usize, at: usize) -> Entry
         return Entry::NoValue(at);
     }
     let b = at + 1;
-    let Len::Size(n, a) = length::len_at(s, b) else {
+    let Some((n, a)) = length::len_at(s, b) else {
         if s.len() - b < 3 {
             return Entry::Cut(from);
         }

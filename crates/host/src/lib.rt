@@ -11,7 +11,8 @@ use node::{Node, refusal, sound};
 use profile::fault::BadLine;
 use profile::text::read_profile;
 
-// What is answered beside the node: 0 or the number of a refusal, and how many octets were written.
+// What is answered beside the node: 0 or the number of a refusal, and how many octets were written. (In C's layout, include/charging.h, as are
+// the other answers here.)
 #[repr(C)]
 #[derive(Clone, Copy)]
 pub struct Answer {

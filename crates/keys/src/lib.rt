@@ -56,6 +56,7 @@ pub fn all_distinct<K: PartialEq>(slots: &[Slot<K>]) -> bool
     ensures { result ≡ distinct K.eq slots.now }
 {
     let mut rest = slots;
+    // Each slot is looked for in those after it, and no iterator gives the tails of a slice.
     while let Some((s, after)) = rest.split_first() {
         if !s.stands_alone(after) {
             return false;

@@ -1,54 +1,36 @@
 -- What the reader of a record finds: all of the octets under A2, the fields, the rules.
-use mathlib.Core.Path.{◌≡◌, refl, sym, ap, ◌∙◌}
+use mathlib.Core.Path.{◌≡◌, refl, sym, ap, subst, ◌∙◌}
 use mathlib.Core.Bool.{Bool, true, false, ◌&&◌}
 use Rattle.std.specs.Prelude.{Option, None, Some}
+use Rattle.std.proofs.lemmas.Option.{none-some, same_Some}
 use mathlib.Core.List.{List, [], ◌∷◌, ◌++◌}
 use Prim.Native.Nat.{ℕ, zero, suc, ◌^◌, ◌-◌, ◌≤◌, ◌<◌}
 use native.Mathlib.Omega.{arith}
-use lib.Dec.{T, ltb→lt}
+use lib.Dec.{T, eqb, ltb→lt}
 use lib.ListN.{length}
-use Rattle.format.specs.Maybe.{guard}
-use Rattle.format.proofs.Tests.{by, T_true, and_l, and_r}
+use Rattle.format.specs.Maybe.{bind, guard}
+use Rattle.format.proofs.Maybe.{bind_some}
+use Rattle.format.proofs.Tests.{T_true, and_l, and_r}
 use Rattle.ber.specs.Tlv.{tlv_dec}
-use Rattle.ber.specs.Field.{first}
 use Rattle.ber.specs.Table.{row_good}
-use Rattle.ber.specs.Read.{cut, Lies}
+use Rattle.ber.specs.Read.{read_at}
 use Rattle.ber.specs.Text.{or_none}
-use Rattle.ber.proofs.Records.{alone_not_all, alone_all}
+use Rattle.ber.proofs.Records.{whole_is}
 use Rattle.calendar.specs.Stamp.{stamp_ok}
 use Rattle.octets.proofs.Filled.{fill_length}
 use Rattle.mcdr.specs.declared.Change.{Change}
 use Rattle.mcdr.specs.declared.MmRecord.{MmRecord}
-use Rattle.mcdr.specs.declared.fields.Wire.{Wire}
 use Rattle.mcdr.specs.Change.{place_ok, change_ok}
 use Rattle.mcdr.specs.Changes.{each_ok, no_changes, padded}
 use Rattle.mcdr.specs.Rules.{all_places_ok, shaped, within}
 use Rattle.mcdr.specs.Table.{record_tag, Changes, NodeId}
-use Rattle.mcdr.specs.Layout.{Fields, body, of_record, to_record, inside, mcdr}
-use Rattle.mcdr.specs.Answers.{blank_record, read_of, ReadsRecord}
-use Rattle.mcdr.specs.Private.Pieces.{Wired}
+use Rattle.mcdr.specs.Layout.{Fields, body, to_record, rules, inside, mcdr}
+use Rattle.mcdr.specs.Private.Pieces.{record_of}
 use Rattle.mcdr.proofs.Formats.{good_each}
 use Rattle.mcdr.proofs.ChangeFields.{place_ok_lem}
 use Rattle.mcdr.proofs.Padded.{padded_length}
 use Rattle.mcdr.proofs.BodyLaw.{body_law}
 use Rattle.mcdr.proofs.Views.{shape_is}
-
--- ---- the value under A2
-
--- empty contents are no record
-inside_hollow : inside.dec [] ≡ None
-unfolding inside body first tlv_dec
-inside_hollow = refl
-
--- what was answered of it
-module _ {s : List ℕ} {from to : ℕ} (l : Lies s 0 record_tag from to) where
-  pub record_not : (to ≡ length s → ⊥) → mcdr.dec s ≡ None
-  unfolding mcdr
-  record_not n = alone_not_all record_tag inside l n
-
-  pub record_is : to ≡ length s → mcdr.dec s ≡ inside.dec (cut (from, to) s)
-  unfolding mcdr
-  record_is w = alone_all record_tag inside l inside_hollow w
 
 -- ---- what was read has the shape of a record
 
@@ -91,40 +73,24 @@ good_shaped (kind, (imsi, (sgsn, (rac, (lac, (cs, (opening, (duration, (cause, (
 
 -- ---- the fields and the rules
 
-module _ (s : List ℕ) {w : Wire} (v : Wired s w) where
-  -- all that is asked of them
-  abbrev asked : Bool
-  asked = w.ok && within w.cdr
+-- a record, in the order in which the code tells it
+pub mcdr_is : (s : List ℕ) → mcdr.dec s ≡ bind (read_at (tlv_dec record_tag) s 0) (λ q. bind (guard (eqb q.1 (length s)) q.0) inside.dec)
+unfolding mcdr
+mcdr_is s = whole_is record_tag inside s
 
-  wire_lost : w.ok ≡ false → inside.dec s ≡ None
-  unfolding inside
-  wire_lost e = rw (v.no e)
+-- what the fields say has the shape of a record, where an octet is one (the format takes any number for it): the rules decide
+pub inside_none : (c : List ℕ) → record_of c ≡ None → inside.dec c ≡ None
+unfolding inside record_of
+inside_none c e = go (body.dec c) e
+  where
+    go : (o : Option Fields) → bind {B = MmRecord} o (λ v. Some (to_record v)) ≡ None → bind {B = MmRecord} o (λ v. guard (true && rules (to_record v)) (to_record v)) ≡ None
+    go None e = refl
+    go (Some v) e = absurd (none-some (to_record v) (sym e))
 
-  wire_read : w.ok ≡ true → inside.dec s ≡ guard (within w.cdr) w.cdr
-  unfolding inside
-  wire_read e =
-      let d = v.yes e in
-      let octet = ap (λ (r : MmRecord). r.place.rac) v.back in
-      let h : shaped w.cdr ≡ true =
-      ap shaped (sym v.back) ∙ good_shaped (of_record w.cdr) (body_law.sound s (of_record w.cdr) d).0 (omega (arith, octet, v.rac)) in
-      rw (d, v.back, h)
-
-  wire_is : inside.dec s ≡ guard asked w.cdr
-  wire_is = by w.ok (λ y. wire_read y ∙ rw y) (λ n. wire_lost n ∙ rw n)
-
-  pub wire_yes : asked ≡ true → inside.dec s ≡ Some w.cdr
-  wire_yes y = wire_is ∙ rw y
-
-  pub wire_no : asked ≡ false → inside.dec s ≡ None
-  wire_no n = wire_is ∙ rw n
-
--- ---- the answers
-
-module _ (s : List ℕ) where
-  pub reads_record : {r : MmRecord} → mcdr.dec s ≡ Some r → ReadsRecord s 0 r
-  unfolding read_of
-  reads_record e = record { is = rw e }
-
-  pub reads_nothing : {a : ℕ} {r : MmRecord} → mcdr.dec s ≡ None → (a ≡ 20) × (r ≡ blank_record) → ReadsRecord s a r
-  unfolding read_of
-  reads_nothing d (e, f) = record { is = rw d (λ i. (e i, f i)) }
+pub inside_some : (c : List ℕ) (r : MmRecord) → record_of c ≡ Some r → r.place.rac < 256 → inside.dec c ≡ guard (within r) r
+unfolding inside record_of
+inside_some c r e octet =
+    let (v, d, f) = bind_some (body.dec c) (λ v. Some (to_record v)) r e in
+    let i = same_Some (to_record v) r f in
+    let h = good_shaped v (body_law.sound c v d).0 (subst (λ (r : MmRecord). r.place.rac < 256) (sym i) octet) in
+    rw (d, h, i)

@@ -8,7 +8,8 @@ use lib.Dec.{T}
 use lib.ListN.{length, take, drop}
 use Rattle.ber.specs.Field.{unless0, unless_none, ◌⨾◌}
 use Rattle.ber.specs.Table.{layout, row_enc, tag}
-use Rattle.ber.proofs.Tables.{both, layout_parts}
+use Rattle.ber.specs.Table.{both}
+use Rattle.ber.proofs.Tables.{layout_parts}
 use Rattle.mcdr.specs.declared.MmRecord.{MmRecord}
 use Rattle.mcdr.specs.Rules.{used, within}
 use Rattle.mcdr.specs.Table.{Changes, NodeId, table}

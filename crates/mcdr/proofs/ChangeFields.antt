@@ -7,16 +7,12 @@ use Prim.Native.Nat.{ℕ, ◌^◌, ◌<◌}
 use lib.Dec.{T, eqb}
 use lib.ListN.{length}
 use borrow.Author.Tests.{lt-ltb}
-use Rattle.format.specs.Maybe.{guard}
+use Rattle.format.specs.Maybe.{bind, guard}
 use Rattle.format.proofs.Maybe.{guard_yes}
-use Rattle.ber.specs.Tlv.{tlv_dec}
-use Rattle.ber.specs.Field.{first}
-use Rattle.ber.specs.Table.{row_enc, row_dec}
-use Rattle.ber.specs.Read.{nowhere, Reads}
+use Rattle.ber.specs.Table.{row_enc, rows_at}
 use Rattle.ber.specs.Write.{Puts}
 use Rattle.ber.specs.Private.Filled.{Filled}
-use Rattle.ber.proofs.Readers.{got}
-use Rattle.ber.proofs.Tables.{row_leaves, Gets, table_yes, table_no}
+use Rattle.ber.proofs.Tables.{table_is}
 use Rattle.ber.proofs.Writers.{wrote, wrote_last}
 use Rattle.ber.specs.Private.Wrote.{Wrote}
 use Rattle.ber.proofs.Ready.{filled_of}
@@ -32,31 +28,16 @@ pub place_ok_lem : (p : Place) → p.lac < 256 ^ 2 → p.rac < 256 → place_ok 
 unfolding place_ok
 place_ok_lem p l r = rw (lt-ltb p.lac (256 ^ 2) l, lt-ltb p.rac 256 r)
 
--- ---- of octets s that are all its contents
+-- ---- read, of octets s that are all its contents
 
-module _ {s : List ℕ} {lac rac : ℕ} {time : Stamp} {b c end : ℕ} (l : length s < nowhere) (r₁ : Reads 0 (row_dec NewLac) s 0 lac b)
-    (r₂ : Reads 0 (row_dec NewRac) s b rac c) (r₃ : Reads no_stamp (row_dec Time) s c time end) (p : lac < 256 ^ 2) (q : rac < 256) where
-  abbrev at : Place
-  at = record { lac = lac; rac = rac }
+pub change_is : (s : List ℕ) → change.dec s ≡ bind (rows_at s change_table 0) (λ q. guard (eqb q.1 (length s) && change_ok (to_change q.0)) (to_change q.0))
+unfolding change
+change_is s = table_is s change_table to_change of_change change_ok
 
-  abbrev held : Change
-  held = record { place = at; time = time }
-
-  fields : Gets s change_table 0 (of_change held) end
-  fields = (b, got (row_leaves NewLac) l r₁, (c, got (row_leaves NewRac) l r₂, (end, got (row_leaves Time) l r₃, refl)))
-
-  pub change_yes : (eqb end (length s) && stamp_ok time) ≡ true → change.dec s ≡ Some held
-  unfolding change change_ok
-  change_yes t = table_yes change_table to_change of_change change_ok s (of_change held) end fields (rw (place_ok_lem at p q) t)
-
-  pub change_no : (eqb end (length s) && stamp_ok time) ≡ false → change.dec s ≡ None
-  unfolding change change_ok
-  change_no t = table_no change_table to_change of_change change_ok s (of_change held) end fields (rw (place_ok_lem at p q) t)
-
--- empty contents are no change
-pub change_hollow : change.dec [] ≡ None
-unfolding change first tlv_dec
-change_hollow = refl
+-- any place is one, where the code holds it
+pub change_timed : (c : Change) → c.place.lac < 256 ^ 2 → c.place.rac < 256 → change_ok c ≡ stamp_ok c.time
+unfolding change_ok
+change_timed c l r = rw (place_ok_lem c.place l r)
 
 -- ---- written
 

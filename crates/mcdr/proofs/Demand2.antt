@@ -1,19 +1,19 @@
 -- Demand 2's last sentence, of M-CDRs: "the reader accepts exactly what the writer can write for some record within the rules, and gives that record
--- back". It is said of the two promises themselves: of any answers that meet what `read_record` (`ReadsRecord`) and `write_record` (`Writes`) promise.
+-- back". It is said of the two promises themselves: of any answers that meet what `read_record` and `write_record` (`Writes`) promise.
 -- That there are such answers, and only one each, is said too (here, and in Fixes.antt). The proof is ber's, of any record.
 use mathlib.Core.Path.{◌≡◌, refl, ◌∙◌}
 use mathlib.Core.Logic.{◌↔◌}
-use Rattle.std.specs.Prelude.{Option, None, Some, Result, Ok}
+use Rattle.std.specs.Prelude.{Option, Some, IsSome, Result, Ok}
 use Rattle.ber.specs.declared.written.NotWritten.{NotWritten}
 use mathlib.Core.List.{List, ◌++◌}
 use Prim.Native.Nat.{ℕ, ◌≤◌}
 use lib.Dec.{T}
 use lib.ListN.{length, drop}
-use Rattle.ber.proofs.Records.{read_as, read_written, read_some_written}
+use Rattle.ber.proofs.Records.{read_written, read_some_written}
 use Rattle.mcdr.specs.declared.MmRecord.{MmRecord}
 use Rattle.mcdr.specs.Rules.{shaped, within}
 use Rattle.mcdr.specs.Layout.{mcdr}
-use Rattle.mcdr.specs.Answers.{write_of, Writes, blank_record, read_of, ReadsRecord}
+use Rattle.mcdr.specs.Answers.{write_of, Writes}
 use Rattle.mcdr.proofs.Theorems.{exact}
 use Rattle.mcdr.proofs.Answering.{writes_answers, answers_writes}
 
@@ -22,15 +22,10 @@ use Rattle.mcdr.proofs.Answering.{writes_answers, answers_writes}
 pub write_answers : (r : MmRecord) (b : List ℕ) → Writes r b (write_of r b).1 (write_of r b).0
 write_answers r b = record { is = refl }
 
-pub read_answers : (s : List ℕ) → ReadsRecord s (read_of (mcdr.dec s)).0 (read_of (mcdr.dec s)).1
-read_answers s = record { is = refl }
+pub read_answers : (s : List ℕ) → (o : Option MmRecord) × (o ≡ mcdr.dec s)
+read_answers s = (mcdr.dec s, refl)
 
 -- ---- they are those of any record's writer and reader
-
-read_as_lem : (o : Option MmRecord) → read_of o ≡ read_as blank_record o
-unfolding read_of
-read_as_lem None = refl
-read_as_lem (Some r) = refl
 
 -- ---- demand 2
 
@@ -40,9 +35,9 @@ Leaves s b b' answer = (answer ≡ Ok (length s)) × (b' ≡ s ++ drop (length s
 
 -- Octets s, a record r that the code can hold, any answer of the reader to s, any answer of the writer to r in a buffer with room for s: the
 -- reader takes s as r exactly where r is within the rules and the writer wrote s.
-pub demand2 : (s : List ℕ) (r : MmRecord) → T (shaped r) → {a : ℕ} {x : MmRecord} → ReadsRecord s a x
-    → {b b' : List ℕ} {w : Result ℕ NotWritten} → length s ≤ length b → Writes r b b' w → ((a ≡ 0) × (x ≡ r)) ↔ (T (within r) × Leaves s b b' w)
-demand2 s r t p room q = read_written mcdr shaped within blank_record exact s r t (p.is ∙ read_as_lem (mcdr.dec s)) room (writes_answers q)
+pub demand2 : (s : List ℕ) (r : MmRecord) → T (shaped r) → {o : Option MmRecord} → o ≡ mcdr.dec s
+    → {b b' : List ℕ} {w : Result ℕ NotWritten} → length s ≤ length b → Writes r b b' w → (o ≡ Some r) ↔ (T (within r) × Leaves s b b' w)
+demand2 s r t p room q = read_written mcdr shaped within exact s r t p room (writes_answers q)
 
 -- the writer, given room, writes r as s: whatever the buffer, and whatever it answers within its promise
 abbrev pub CanWrite : MmRecord → List ℕ → Type 0
@@ -50,11 +45,11 @@ CanWrite r s = (b b' : List ℕ) (w : Result ℕ NotWritten) → length s ≤ le
 
 -- The sentence in its own words: the reader accepts s exactly where the writer can write s for some record within the rules; and the record that
 -- it gives back is that one.
-pub demand2_some : (s : List ℕ) {a : ℕ} {x : MmRecord} → ReadsRecord s a x
-    → ((a ≡ 0) ↔ ((r : MmRecord) × T (shaped r) × T (within r) × CanWrite r s))
-    × ((r : MmRecord) → T (shaped r) → T (within r) → CanWrite r s → x ≡ r)
+pub demand2_some : (s : List ℕ) {o : Option MmRecord} → o ≡ mcdr.dec s
+    → (IsSome o ↔ ((r : MmRecord) × T (shaped r) × T (within r) × CanWrite r s))
+    × ((r : MmRecord) → T (shaped r) → T (within r) → CanWrite r s → o ≡ Some r)
 demand2_some s p =
-    let (takes, same) = read_some_written mcdr shaped within blank_record exact s (p.is ∙ read_as_lem (mcdr.dec s)) in (
+    let (takes, same) = read_some_written mcdr shaped within exact s p in (
       (
         λ z. let (r, t, i, c) = takes.0 z in (r, t, i, λ b b' w h q. c b b' w h (writes_answers q)),
         λ (r, t, i, c). takes.1 (r, t, i, λ b b' w h q. c b b' w h (answers_writes q)),

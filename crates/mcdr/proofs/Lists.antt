@@ -2,29 +2,29 @@
 -- missing.
 use mathlib.Core.Path.{◌≡◌, refl, sym, ◌∙◌}
 use mathlib.Core.Bool.{Bool, true, false, ◌&&◌}
-use Rattle.std.specs.Prelude.{None, Some}
+use Rattle.std.specs.Prelude.{Option, None, Some}
 use mathlib.Core.List.{List, [], ◌∷◌}
 use Prim.Native.Nat.{ℕ, zero, suc, ◌≤◌, ◌<◌}
 use native.Mathlib.Omega.{arith}
-use lib.Dec.{T}
+use lib.Dec.{T, leb}
 use lib.ListN.{length, take, drop}
 use borrow.Author.Tests.{le-leb, lt-leb, ne_eqb}
-use Rattle.ber.specs.Tlv.{tlv_enc}
-use Rattle.ber.specs.Field.{maybe, starts, unless_none}
+use Rattle.format.specs.Maybe.{bind, guard}
+use Rattle.ber.specs.Tlv.{tlv_enc, tlv_dec}
+use Rattle.ber.specs.Field.{starts, unless_none}
 use Rattle.ber.specs.Table.{row_enc, tag}
-use Rattle.ber.specs.Read.{nowhere, Reads, cut, Lies}
+use Rattle.ber.specs.Read.{read_at}
+use Rattle.ber.specs.Text.{or_none}
 use Rattle.ber.proofs.Tlvs.{tlv_fits}
-use Rattle.ber.proofs.Places.{lies_fits}
-use Rattle.ber.proofs.Readers.{under_none, under_some, maybe_lost, maybe_found}
-use Rattle.ber.proofs.Runs.{Run, list_dec, SoFar, sofar_count, sofar_rest, list_some, Test, run_fits}
-use Rattle.ber.proofs.Texts.{unless_some}
+use Rattle.ber.proofs.Readers.{into, first_at, maybe_there, maybe_none}
+use Rattle.ber.proofs.Runs.{Run, list_dec, in_places, Test, run_fits}
 use Rattle.calendar.specs.Stamp.{stamp_ok}
 use Rattle.mcdr.specs.declared.Change.{Change}
 use Rattle.mcdr.specs.Change.{change_tag, change, no_change}
-use Rattle.mcdr.specs.Changes.{changes, no_changes}
+use Rattle.mcdr.specs.Changes.{changes, no_changes, padded}
 use Rattle.mcdr.specs.Table.{Changes}
-use Rattle.mcdr.specs.Private.List.{Listed, ListsAt, times_ok, list_form}
-use Rattle.mcdr.proofs.Formats.{changes_law, change_short, good_each}
+use Rattle.mcdr.specs.Private.List.{in_array, lists_at, times_ok, list_form}
+use Rattle.mcdr.proofs.Formats.{change_short}
 use Rattle.mcdr.proofs.Padded.{blank}
 
 -- ---- reading
@@ -33,52 +33,45 @@ use Rattle.mcdr.proofs.Padded.{blank}
 abbrev pub listing : Run Change
 listing = record { tag = change_tag; form = λ b. change; places = 15; blank = blank }
 
-module _ (s : List ℕ) where
-  pub list_is : changes.dec s ≡ list_dec listing 1 s
-  unfolding changes
-  list_is = refl
+pub list_is : (s : List ℕ) → changes.dec s ≡ list_dec listing 1 s
+unfolding changes
+list_is s = refl
 
-  pub list_there : {v : List Change} {n at : ℕ} {z : Change} → SoFar listing s v n at z → at ≡ length s → 1 ≤ n → Listed (changes.dec s) true n v
-  list_there f e h = record { is = list_is ∙ list_some listing s 1 f e h; rest = sofar_rest listing s 1 f; count = sofar_count listing s 1 f }
-
-  pub listed_none : {ok : Bool} {n : ℕ} {v : List Change} → changes.dec s ≡ None → (ok ≡ false) × (n ≡ 0) × (v ≡ no_changes 15)
-      → Listed (changes.dec s) ok n v
-  listed_none {ok} {n} {v} d (e, f, g) =
-      let z : take n v ≡ [] = rw f in
-      record { is = rw e d; rest = rw z g; count = rw z (sym f) }
+pub array_is : (o : Option (List Change)) → in_places listing o ≡ in_array o
+array_is None = refl
+array_is (Some cs) = refl
 
 -- ---- under a tag
 
--- empty contents are no list
-hollow : changes.dec [] ≡ None
-unfolding changes
-hollow = refl
+module _ (s : List ℕ) (at t : ℕ) where
+  pub lists_there : starts t (drop at s) ≡ true
+      → lists_at s at t ≡ bind (read_at (tlv_dec t) s at) (λ p. bind (in_array (changes.dec p.0)) (λ v. Some (v, p.1)))
+  unfolding lists_at
+  lists_there g = rw (maybe_there t changes s at g, first_at t changes s at) (go (read_at (tlv_dec t) s at))
+    where
+      step : (o : Option (List Change)) (n : ℕ)
+          → bind {A = Option (List Change) × ℕ} {B = (ℕ × List Change) × ℕ} (into (λ a. Some (Some a)) (bind o (λ cs. Some (cs, n))))
+          (λ p. Some ((length (or_none p.0), padded (or_none p.0)), p.1))
+          ≡ bind (in_array o) (λ v. Some (v, n))
+      step None n = refl
+      step (Some cs) n = refl
 
-module _ {s : List ℕ} {at t : ℕ} where
-  -- no change, and the place after it
-  pub lists_none : {n : ℕ} {v : List Change} {next m : ℕ} → (n ≡ 0) × (v ≡ no_changes 15) × (next ≡ m) → Reads None (maybe t changes) s at None m
-      → ListsAt s at t n v next
-  lists_none {n} {v} {next} (e, f, g) r =
-      let z : take n v ≡ [] = rw e in
-      record { reads = rw (z, g) r; rest = rw z f; count = rw z (sym e) }
+      go : (o : Option (List ℕ × ℕ))
+          → bind {A = Option (List Change) × ℕ} {B = (ℕ × List Change) × ℕ} (into (λ a. Some (Some a)) (into changes.dec o))
+          (λ p. Some ((length (or_none p.0), padded (or_none p.0)), p.1))
+          ≡ bind o (λ p. bind (in_array (changes.dec p.0)) (λ v. Some (v, p.1)))
+      go None = refl
+      go (Some p) = step (changes.dec p.0) p.1
 
-  module _ (g : starts t (drop at s) ≡ true) (h : length s < nowhere) {from to : ℕ} (k : Lies s at t from to) {ok : Bool} {n : ℕ} {v : List Change}
-      (l : Listed (changes.dec (cut (from, to) s)) ok n v) where
-    -- a list
-    pub lists_there : ok ≡ true → ListsAt s at t n v to
-    lists_there y =
-        let d : changes.dec (cut (from, to) s) ≡ Some (take n v) = l.is ∙ rw y in
-        let some-there = (good_each (take n v) (changes_law.sound (cut (from, to) s) (take n v) d).0).1 in
-        record {
-          reads = rw (unless_some (take n v) some-there)
-              (maybe_found t changes s at g h {blank = []} (under_some changes k d hollow) (λ e. omega (arith, lies_fits k)));
-          rest = l.rest;
-          count = l.count;
-        }
-
-    -- contents that are no list
-    pub lists_bad : ok ≡ false → Reads None (maybe t changes) s at None nowhere
-    lists_bad n = maybe_lost t changes s at g h {blank = []} (under_none changes k (l.is ∙ rw n)) refl
+  pub lists_none : starts t (drop at s) ≡ false → lists_at s at t ≡ guard (leb at (length s)) ((0, no_changes 15), at)
+  unfolding lists_at
+  lists_none g = rw (maybe_none t changes s at g) (go (leb at (length s)))
+    where
+      go : (b : Bool)
+          → bind {A = Option (List Change) × ℕ} {B = (ℕ × List Change) × ℕ} (guard b (None, at)) (λ p. Some ((length (or_none p.0), padded (or_none p.0)), p.1))
+          ≡ guard b ((0, no_changes 15), at)
+      go true = refl
+      go false = refl
 
 -- ---- writing
 

@@ -19,27 +19,3 @@ write_of r b = written (within r) (mcdr.enc r) b
 
 pub record Writes (r : MmRecord) (b b' : List ℕ) (answer : Result ℕ NotWritten) : Type 0 where
   pub is : ◌≡◌ {A = Result ℕ NotWritten × List ℕ} (answer, b') (write_of r b)
-
--- ---- the reader: the record, or 20 (not an image of any record within the rules) and a record that is all zero
-
-abbrev pub blank_record : MmRecord
-blank_record = record {
-  imsi = fill_to 8 0 [];
-  sgsn = 0;
-  place = no_place;
-  changes = padded [];
-  count = 0;
-  opening = record { seconds = 0; zone = 0 };
-  duration = 0;
-  cause = 0;
-  number = 0;
-  nodeid = fill_to 20 0 [];
-  nodelen = 0;
-}
-
-unfoldable pub read_of : Option MmRecord → ℕ × MmRecord
-read_of None = (20, blank_record)
-read_of (Some r) = (0, r)
-
-pub record ReadsRecord (s : List ℕ) (answer : ℕ) (r : MmRecord) : Type 0 where
-  pub is : ◌≡◌ {A = ℕ × MmRecord} (answer, r) (read_of (mcdr.dec s))

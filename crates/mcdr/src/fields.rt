@@ -1,54 +1,43 @@
-// The reader of a record's fields: straight-line code, each field from where the last ended. A field that is not there answers
-// NOWHERE, and every later one fails from there by itself.
-ghost use Rattle.mcdr.specs.Private.Pieces.{Wired};
+// The reader of a record's fields, each from where the last ended.
+ghost use Rattle.std.specs.Prelude.{◌≡◌, ◌<◌, IfSome};
+ghost use Rattle.mcdr.specs.Private.Pieces.{record_of};
 
 use crate::{MmRecord, Place, list, tags};
 use ber::{address, count, field, fixed, imsi, text, word};
 use container::stamp;
 
-// A record as its fields say it; ok where all fields were read to the end.
-#[derive(Clone, Copy)]
-pub struct Wire {
-    pub cdr: MmRecord,
-    pub ok: bool,
-}
-
-pub fn read_fields(s: &[u8]) -> Wire
-    ensures { Wired s.now result }
+// The record whose fields s is, all of s.
+pub fn read_fields(s: &[u8]) -> Option<MmRecord>
+    ensures reads { result ≡ record_of s.now }
+    ensures octet { IfSome result (λ r. r.place.rac < 256) }
 {
-    let kind_end = field::const_at(s, 0, tags::RECORD_TYPE, 20);
-    let imsi = imsi::imsi_at(s, kind_end, tags::IMSI);
-    let sgsn = address::address_at(s, imsi.next, tags::SGSN);
-    let rac = field::octet_at(s, sgsn.next, tags::RAC);
-    let lac = fixed::two_octets_at(s, rac.next, tags::LAC);
-    let list = list::list_at(s, lac.next, tags::CHANGES);
-    let stamp = stamp::stamp_at(s, list.next, tags::OPENING);
-    let duration = word::word_at(s, stamp.next, tags::DURATION);
-    let cause = field::octet_at(s, duration.next, tags::CAUSE);
-    let number = count::count_at(s, cause.next, tags::NUMBER);
-    let mut nodeid = [0u8; 20];
-    let node = text::text_at(s, number.next, tags::NODE_ID, &mut nodeid);
-    let digits = imsi.v;
-    let changes = list.v;
-    let opening = stamp.v;
-    let cdr = MmRecord {
-        imsi: digits,
-        sgsn: sgsn.v,
-        place: Place {
-            lac: lac.v,
-            rac: rac.v,
-        },
-        changes,
-        count: list.n,
-        opening,
-        duration: duration.v,
-        cause: cause.v,
-        number: number.v,
-        nodeid,
-        nodelen: node.n,
-    };
-    Wire {
-        cdr,
-        ok: node.next == s.len(),
+    let at = field::const_at(s, 0, tags::RECORD_TYPE, 20)?;
+    let (imsi, at) = imsi::imsi_at(s, at, tags::IMSI)?;
+    let (sgsn, at) = address::address_at(s, at, tags::SGSN)?;
+    let (rac, at) = field::octet_at(s, at, tags::RAC)?;
+    let (lac, at) = fixed::two_octets_at(s, at, tags::LAC)?;
+    let ((count, changes), at) = list::list_at(s, at, tags::CHANGES)?;
+    let (opening, at) = stamp::stamp_at(s, at, tags::OPENING)?;
+    let (duration, at) = word::word_at(s, at, tags::DURATION)?;
+    let (cause, at) = field::octet_at(s, at, tags::CAUSE)?;
+    let (number, at) = count::count_at(s, at, tags::NUMBER)?;
+    let (node, at) = text::text_at(s, at, tags::NODE_ID, 20)?;
+    if at != s.len() {
+        return None;
     }
+    let mut nodeid = [0; 20];
+    nodeid[..node.len()].copy_from_slice(node);
+    Some(MmRecord {
+        imsi,
+        sgsn,
+        place: Place { lac, rac },
+        changes,
+        count,
+        opening,
+        duration,
+        cause,
+        number,
+        nodeid,
+        nodelen: node.len(),
+    })
 }

@@ -3,55 +3,36 @@ ghost use Rattle.std.specs.Prelude.{◌≡◌, T, length, IsSomeAnd};
 ghost use Rattle.format.specs.Maybe.{guard};
 ghost use Rattle.ber.specs.Tlv.{tlv_enc};
 ghost use Rattle.ber.specs.Field.{first};
-ghost use Rattle.ber.specs.Read.{Reads};
+ghost use Rattle.ber.specs.Read.{read_at};
 ghost use Rattle.ber.specs.Write.{Puts};
 ghost use Rattle.ber.specs.Private.Filled.{Filled};
 ghost use Rattle.calendar.specs.Stamp.{stamp_ok};
-ghost use Rattle.mcdr.specs.Change.{no_change, change_tag, change};
+ghost use Rattle.mcdr.specs.Change.{change_tag, change};
 
-use crate::{Change, Place, changes, tags};
+use crate::{Change, Place, tags};
 use ber::{field, fixed, tlv};
 use container::stamp;
 
-// What was read, and the place after it: zeros and NOWHERE where it is not there.
-#[derive(Clone, Copy)]
-pub struct ChangeAt {
-    pub v: Change,
-    pub next: usize,
+// The change at a place of s.
+pub fn change_at(s: &[u8], at: usize) -> Option<(Change, usize)>
+    ensures { result ≡ read_at (first change_tag change) s.now at }
+{
+    let (contents, next) = tlv::part_at(s, at, tags::CHANGE)?;
+    Some((change_of(contents)?, next))
 }
 
-// The change at a place of s.
-pub fn change_at(s: &[u8], at: usize) -> ChangeAt
-    ensures { Reads no_change (first change_tag change) s.now at result.v result.next }
+// The change whose contents s is, all of s.
+fn change_of(s: &[u8]) -> Option<Change>
+    ensures { result ≡ change.dec s.now }
 {
-    let part = tlv::part_at(s, at, tags::CHANGE);
-    let from = part.from;
-    let to = part.to;
-    if to == 0 {
-        return ChangeAt {
-            v: changes::no_change(),
-            next: ber::NOWHERE,
-        };
+    let (lac, at) = fixed::two_octets_at(s, 0, tags::NEW_LAC)?;
+    let (rac, at) = field::octet_at(s, at, tags::NEW_RAC)?;
+    let (time, at) = stamp::stamp_at(s, at, tags::TIME)?;
+    if at != s.len() {
+        return None;
     }
-    let contents = &s[from..to];
-    let lac = fixed::two_octets_at(contents, 0, tags::NEW_LAC);
-    let rac = field::octet_at(contents, lac.next, tags::NEW_RAC);
-    let stamp = stamp::stamp_at(contents, rac.next, tags::TIME);
-    let time = stamp.v;
-    let c = Change {
-        place: Place {
-            lac: lac.v,
-            rac: rac.v,
-        },
-        time,
-    };
-    if (stamp.next == contents.len()) & calendar::stamp_within(time) {
-        return ChangeAt { v: c, next: to };
-    }
-    ChangeAt {
-        v: changes::no_change(),
-        next: ber::NOWHERE,
-    }
+    let place = Place { lac, rac };
+    calendar::stamp_within(time).then_some(Change { place, time })
 }
 
 // A change at the front of out. One whose time is out of range is not written.

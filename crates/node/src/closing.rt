@@ -7,6 +7,7 @@ use crate::Message;
 use container::{OpenRecord, Qos, open, qos_profile as qos};
 
 // The record after the report.
+#[tactic(auto, unfolding(crate::specs::Hear::reported))]
 pub fn reported(o: OpenRecord, m: Message) -> OpenRecord
     requires { ample o ≡ true }
     ensures { result ≡ reported o m }

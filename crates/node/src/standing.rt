@@ -34,6 +34,7 @@ fn going(c: Context, o: OpenRecord, closed: u64) -> Context
 }
 
 // The number of the record that closes: 0 for none.
+#[tactic(auto, unfolding(crate::specs::Hear::number_for))]
 fn number_for(closed: u64, released: bool) -> u64
     requires { closed < most_accepted }
     ensures { result ≡ number_for closed released }
@@ -45,6 +46,7 @@ fn number_for(closed: u64, released: bool) -> u64
 }
 
 // The record of a context that closes, whose last container has ended.
+#[tactic(auto, unfolding(crate::specs::Hear::record_of))]
 pub fn record_of(p: Profile, c: Context, o: OpenRecord, cause: u8, number: u64) -> Record
     ensures { result ≡ record_of p c o cause number }
 {

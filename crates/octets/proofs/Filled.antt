@@ -1,7 +1,7 @@
 -- Lists filled up to a length: what was filled up is the front again, and a front with the rest blank fills up to the whole.
-use mathlib.Core.Path.{◌≡◌, refl, ap₂, ◌∙◌}
-use mathlib.Core.List.{List, [], ◌∷◌}
-use Prim.Native.Nat.{ℕ, ◌-◌, ◌≤◌}
+use mathlib.Core.Path.{◌≡◌, refl, ap, ap₂, ◌∙◌}
+use mathlib.Core.List.{List, [], ◌∷◌, ◌++◌}
+use Prim.Native.Nat.{ℕ, zero, suc, ◌-◌, ◌≤◌}
 use native.Mathlib.Omega.{arith}
 use lib.Dec.{T, eqb, eqb→eq}
 use lib.ListN.{length, take, drop, replicate, length-append, length-drop, length-replicate, take-append-drop}
@@ -25,6 +25,16 @@ module _ {A : Type 0} (n : ℕ) (d : A) where
       let t : length (take k a) ≡ k = length-take-le k a (omega arith) in
       let m : length (drop k a) ≡ n - k = length-drop k a ∙ rw l in
       rw (t, ← m, ← z, take-append-drop k a)
+
+-- what is copied to the front of so many d is filled up by those that are left
+drop_replicate : {A : Type 0} (k n : ℕ) (d : A) → drop k (replicate n d) ≡ replicate (n - k) d
+drop_replicate zero n d = let e : n ≡ n - 0 = omega arith in ap (λ (m : ℕ). replicate m d) e
+drop_replicate (suc k) zero d = let e : 0 ≡ 0 - suc k = omega arith in ap (λ (m : ℕ). replicate m d) e
+drop_replicate (suc k) (suc n) d = let e : n - k ≡ suc n - suc k = omega arith in drop_replicate k n d ∙ ap (λ (m : ℕ). replicate m d) e
+
+pub fill_over : (n : ℕ) {A : Type 0} (d : A) (xs : List A) → xs ++ drop (length xs) (replicate n d) ≡ fill_to n d xs
+unfolding fill_to
+fill_over n d xs = ap (λ (l : List _). xs ++ l) (drop_replicate (length xs) n d)
 
 pub zeros_are : (xs : List ℕ) → T (all_of is_zero xs) → xs ≡ replicate (length xs) 0
 unfolding all_of

@@ -32,11 +32,6 @@ pub fn to_error(error: Stderr) -> Stream<Stderr> {
     Stream::new(error)
 }
 
-// Writes octets at once, and answers whether all were written.
-pub fn write_all<W: Write>(to: &mut Stream<W>, octets: &[u8]) -> bool {
-    to.write_all(octets).is_ok() && to.flush().is_ok()
-}
-
 impl<W: Write> Stream<W> {
     pub fn new(end: W) -> Stream<W>
         ensures end { result.end ≡ end }

@@ -23,7 +23,8 @@ use limits::Limits;
 use octets::names;
 
 // The address of the node, the sets of limits that it is given, numbered from 1 (how many there are is sets, and the unused ones are zero), its
-// offset from universal time (in minutes, plus 720), and its name, whose unused octets are zero.
+// offset from universal time (in minutes, plus 720), and its name, whose unused octets are zero. (Laid out as in C, include/charging.h: so how
+// many sets there are and how long the name is stand beside them.)
 #[repr(C)]
 #[derive(Clone, Copy)]
 pub struct Profile {

@@ -13,7 +13,8 @@ use Rattle.format.proofs.Maybe.{guard_yes}
 use Rattle.format.proofs.Tests.{and_i}
 use Rattle.ber.specs.Field.{unless0, unless_none, ◌⨾◌}
 use Rattle.ber.specs.Table.{layout, row_enc}
-use Rattle.ber.proofs.Tables.{both, layout_parts}
+use Rattle.ber.specs.Table.{both}
+use Rattle.ber.proofs.Tables.{layout_parts}
 use Rattle.container.specs.Container.{no_container}
 use Rattle.container.specs.List.{all_formed}
 use Rattle.scdr.specs.declared.Record.{Record}

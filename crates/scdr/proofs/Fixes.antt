@@ -1,12 +1,14 @@
 -- Any two answers that meet a promise are equal: a theorem for each form of promise.
 use mathlib.Core.Path.{◌≡◌, sym, ◌∙◌}
+use Rattle.std.specs.Prelude.{Option}
 use mathlib.Core.List.{List}
 use Prim.Native.Nat.{ℕ}
 use Rattle.std.specs.Prelude.{Option, Result}
 use Rattle.ber.specs.declared.written.NotWritten.{NotWritten}
 use denote.Ref.{Bor}
 use Rattle.scdr.specs.declared.Record.{Record}
-use Rattle.scdr.specs.Answers.{Writes, Sizes, ReadsRecord}
+use Rattle.scdr.specs.Answers.{Writes, Sizes}
+use Rattle.scdr.specs.Layout.{scdr}
 use Rattle.scdr.specs.Apn.{ShowsApn}
 
 -- the answer and the buffer
@@ -17,9 +19,9 @@ writes_fixes a b = a.is ∙ sym b.is
 pub sizes_fixes : {r : Record} {m n : Option ℕ} → Sizes r m → Sizes r n → m ≡ n
 sizes_fixes a b = a.is ∙ sym b.is
 
--- the answer and the record
-pub reads_record_fixes : {s : List ℕ} {x y : ℕ} {q r : Record} → ReadsRecord s x q → ReadsRecord s y r → ◌≡◌ {A = ℕ × Record} (x, q) (y, r)
-reads_record_fixes a b = a.is ∙ sym b.is
+-- the record, or none
+pub reads_record_fixes : (s : List ℕ) (a b : Option Record) → a ≡ scdr.dec s → b ≡ scdr.dec s → a ≡ b
+reads_record_fixes s a b e f = e ∙ sym f
 
 -- where the part that is shown begins, and its octets: with its pointer and its length a part is fixed. (The third component of a reference in the
 -- logic is the name under which a proof tracks it: no program sees it.)

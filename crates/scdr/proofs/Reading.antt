@@ -1,172 +1,143 @@
--- Sixteen fields read one after another are the body.
-use mathlib.Core.Path.{◌≡◌, refl, sym}
-use mathlib.Core.Bool.{Bool, false}
-use Rattle.std.specs.Prelude.{None, Some}
+-- The fields read one after another are the body: in the parts in which the code reads them.
+use mathlib.Core.Path.{◌≡◌, refl, sym, ap, ◌∙◌}
+use mathlib.Core.Bool.{Bool}
+use Rattle.std.specs.Prelude.{Option, None, Some}
 use mathlib.Core.List.{List}
-use Prim.Native.Nat.{ℕ, ◌-◌, ◌<◌}
-use native.Mathlib.Omega.{arith}
+use Prim.Native.Nat.{ℕ}
 use lib.Dec.{eqb}
-use borrow.Author.Tests.{eqb-true, eqb-false}
-use lib.ListN.{length, take, drop, replicate}
-use Rattle.ber.specs.Field.{unless0, unless_none, ◌⨾◌}
-use Rattle.ber.specs.Table.{Row, Value, Values, row_dec, tag}
-use Rattle.ber.specs.Count.{counts}
-use Rattle.ber.specs.Read.{nowhere, Reads}
-use Rattle.ber.specs.Text.{text, Copies}
-use Rattle.ber.specs.Write.{zeros}
-use Rattle.ber.proofs.Readers.{Got, got, rest_whole}
-use Rattle.ber.proofs.Tables.{row_leaves, Gets, rows_yes, rows_no, rows_place, both, rows_then}
-use Rattle.ber.proofs.Texts.{copies_reads, copies_count, copies_fill, text_reads}
-use Rattle.ber.proofs.Counts.{counts_maybe}
+use lib.ListN.{length}
+use Rattle.format.specs.Maybe.{bind, guard}
+use Rattle.format.proofs.Maybe.{bind_bind}
+use Rattle.format.proofs.Tests.{by}
+use Rattle.ber.specs.Table.{Values, row_dec, rows_at, both, tag}
+use Rattle.ber.specs.Read.{read_at}
+use Rattle.ber.specs.Text.{or_none, text}
+use Rattle.ber.proofs.Tables.{ended, layout_is, rows_then, rows_with, with_at}
+use Rattle.ber.specs.Field.{unless_none}
+use Rattle.ber.proofs.Readers.{into}
+use Rattle.ber.proofs.Texts.{text_back, none_kept}
 use Rattle.calendar.specs.declared.Stamp.{Stamp}
 use Rattle.container.specs.declared.Container.{Container}
-use Rattle.container.specs.Container.{no_stamp}
-use Rattle.container.specs.List.{ListsAt}
-use Rattle.scdr.specs.declared.Record.{Record}
-use Rattle.scdr.specs.Table.{
-  RecordType,
-  Network,
-  Imsi,
-  Sgsn,
-  ChargingId,
-  Ggsn,
-  Apn,
-  PdpType,
-  Served,
-  Containers,
-  Opening,
-  Duration,
-  Change,
-  Cause,
-  Number,
-  NodeId,
-  table,
-}
+use Rattle.container.specs.List.{lists_at, padded}
 use Rattle.octets.specs.Filled.{fill_to}
-use Rattle.scdr.specs.Layout.{body, fields_of}
-use Rattle.scdr.specs.Private.Pieces.{NameEnds, Wired}
-use Rattle.scdr.proofs.Views.{made}
-use Rattle.scdr.proofs.Walks.{finds_rows, finds_here}
+use Rattle.scdr.specs.declared.fields.Wire.{Wire}
+use Rattle.scdr.specs.Table.{Ggsn, Apn, PdpType, Served, Containers, NodeId, table}
+use Rattle.scdr.specs.Layout.{Fields, body, to_record}
+use Rattle.scdr.specs.Private.Parts.{front_rows, end_rows}
+use Rattle.scdr.specs.Private.Pieces.{front, front_of, end, end_of, name_rows, rest_rows, fields_at, wire, wire_of}
 
--- ---- the fields
+-- ---- the fields are the body
 
--- a row that ends at a place, and those after it
-infixr 5 ◌ends◌then◌
-abbrev ◌ends◌then◌ : {B C : ℕ → Type 0} (m : ℕ) → B m → C m → (n : ℕ) × B n × C n
-m ends g then gs = (m, g, gs)
+module _ (s : List ℕ) where
+  pub body_fields : body.dec s ≡ bind (fields_at s) (λ x. Some x.0)
+  unfolding body fields_at
+  body_fields = layout_is s table ∙ ap (ended s) (rows_then s name_rows rest_rows 0) ∙ go (rows_at s name_rows 0)
+    where
+      inner : (v : Values name_rows) (n : ℕ) (o : Option (Values rest_rows × ℕ))
+          → ended {A = Fields} s (bind o (λ q. Some (both name_rows rest_rows v q.0, q.1)))
+          ≡ bind {A = Fields × ℕ} (bind o (λ q. guard (eqb q.1 (length s)) (both name_rows rest_rows v q.0, n))) (λ x. Some x.0)
+      inner v n None = refl
+      inner v n (Some q) = by (eqb q.1 (length s)) (λ y. rw y) (λ k. rw k)
 
--- each place is where a row ends, in the table's order
-module _ {s : List ℕ} (h : length s < nowhere) {p₁ p₂ p₃ p₄ p₅ p₆ p₇ p₈ p₉ p₁₀ p₁₁ p₁₂ p₁₃ p₁₄ p₁₅ p₁₆ : ℕ}
-    {network change : Bool} {imsi : List ℕ} {sgsn charging ggsn pdptype address lasts cause number : ℕ} {containers : List Container} {opening : Stamp}
-    {apn₀ apn nodeid₀ nodeid : List ℕ} {apnlen count nodelen : ℕ}
-    (rRecordType : Reads tt (row_dec RecordType) s 0 tt p₁)
-    (rNetwork : Reads false (row_dec Network) s p₁ network p₂)
-    (rImsi : Reads (zeros 8) (row_dec Imsi) s p₂ imsi p₃)
-    (rSgsn : Reads 0 (row_dec Sgsn) s p₃ sgsn p₄)
-    (rChargingId : Reads 0 (row_dec ChargingId) s p₄ charging p₅)
-    (rGgsn : Reads 0 (row_dec Ggsn) s p₅ ggsn p₆)
-    (rApn : Copies (row_dec Apn) s p₆ apn₀ apn apnlen p₇)
-    (rPdpType : Reads 0 (row_dec PdpType) s p₇ pdptype p₈)
-    (rServed : Reads 0 (row_dec Served) s p₈ address p₉)
-    (rContainers : ListsAt s p₉ (tag Containers) count containers p₁₀)
-    (rOpening : Reads no_stamp (row_dec Opening) s p₁₀ opening p₁₁)
-    (rDuration : Reads 0 (row_dec Duration) s p₁₁ lasts p₁₂)
-    (rChange : Reads false (row_dec Change) s p₁₂ change p₁₃)
-    (rCause : Reads 0 (row_dec Cause) s p₁₃ cause p₁₄)
-    (rNumber : Reads 0 (counts (tag Number)) s p₁₄ number p₁₅)
-    (rNodeId : Copies (text (tag NodeId) 20) s p₁₅ nodeid₀ nodeid nodelen p₁₆) where
-  -- the record that they make
-  abbrev record_of : Record
-  record_of = record {
-    network = network;
-    imsi = imsi;
-    sgsn = sgsn;
-    charging = charging;
+      go : (o : Option (Values name_rows × ℕ))
+          → ended {A = Fields} s (bind o (λ p. bind (rows_at s rest_rows p.1) (λ q. Some (both name_rows rest_rows p.0 q.0, q.1))))
+          ≡ bind {A = Fields × ℕ} (bind o (λ p. bind (rows_at s rest_rows p.1) (λ q. guard (eqb q.1 (length s)) (both name_rows rest_rows p.0 q.0, p.1))))
+          (λ x. Some x.0)
+      go None = refl
+      go (Some p) = inner p.0 p.1 (rows_at s rest_rows p.1)
+
+-- ---- the parts in which the code reads them
+
+-- what it makes of them
+abbrev leaf : Bool × List ℕ × ℕ × ℕ → ℕ → List ℕ → ℕ → ℕ → ℕ → ℕ × List Container → Stamp × ℕ × Bool × ℕ × ℕ → List ℕ → Wire
+leaf f ggsn apn n pdptype address c e node = record {
+  cdr = record {
+    network = f.0;
+    imsi = f.1;
+    sgsn = f.2;
+    charging = f.3;
     ggsn = ggsn;
-    apn = apn;
-    apnlen = apnlen;
+    apn = fill_to 63 0 apn;
+    apnlen = length apn;
     pdptype = pdptype;
     address = address;
-    containers = containers;
-    count = count;
-    opening = opening;
-    change = change;
-    cause = cause;
-    number = number;
-    nodeid = nodeid;
-    nodelen = nodelen;
-  }
+    containers = c.1;
+    count = c.0;
+    opening = e.0;
+    change = e.2;
+    cause = e.3;
+    number = e.4;
+    nodeid = fill_to 20 0 node;
+    nodelen = length node;
+  };
+  lasts = e.1;
+  name_end = n;
+}
 
-  -- what the rows before the access point name say, and those after it
-  abbrev values_before : Values (take 6 table)
-  values_before = tt ⨾ network ⨾ imsi ⨾ sgsn ⨾ charging ⨾ ggsn ⨾ tt
+module _ (s : List ℕ) where
+  front_step : (k : Bool × List ℕ × ℕ × ℕ → ℕ → Option Wire) → rows_with s front_rows 0 (λ v n. k (front v) n) ≡ bind (front_of s) (λ f. k f.0 f.1)
+  unfolding front_of
+  front_step k =
+      sym (with_at s front_rows 0 (λ v n. k (front v) n)) ∙ sym (bind_bind (rows_at s front_rows 0) (λ p. Some (front p.0, p.1)) (λ f. k f.0 f.1))
 
-  abbrev values_after : Values (drop 7 table)
-  values_after =
-      pdptype ⨾ address ⨾ take count containers ⨾ opening ⨾ lasts ⨾ change ⨾ cause ⨾ unless0 number ⨾ unless_none (take nodelen nodeid) ⨾ tt
+  end_step : (at : ℕ) (k : Stamp × ℕ × Bool × ℕ × ℕ → ℕ → Option Wire)
+      → rows_with s end_rows at (λ v n. k (end v) n) ≡ bind (end_of s at) (λ e. k e.0 e.1)
+  unfolding end_of
+  end_step at k =
+      sym (with_at s end_rows at (λ v n. k (end v) n)) ∙ sym (bind_bind (rows_at s end_rows at) (λ p. Some (end p.0, p.1)) (λ e. k e.0 e.1))
 
-  row : (r : Row) {blank v : Value r} {at next : ℕ} → Reads blank (row_dec r) s at v next → Got (row_dec r) s at v next
-  row r x = got (row_leaves r) h x
+  list_step : (at : ℕ) (k : ℕ × List Container → ℕ → Option Wire)
+      → bind (read_at (row_dec Containers) s at) (λ p. k (length p.0, padded p.0) p.1) ≡ bind (lists_at s at (tag Containers)) (λ c. k c.0 c.1)
+  unfolding lists_at
+  list_step at k = sym (bind_bind (read_at (row_dec Containers) s at) (λ p. Some ((length p.0, padded p.0), p.1)) (λ c. k c.0 c.1))
 
-  before : Gets s (take 6 table) 0 values_before p₆
-  before =
-      p₁ ends row RecordType rRecordType
-      then p₂ ends row Network rNetwork
-      then p₃ ends row Imsi rImsi
-      then p₄ ends row Sgsn rSgsn
-      then p₅ ends row ChargingId rChargingId
-      then p₆ ends row Ggsn rGgsn
-      then refl
+  node_step : (at : ℕ) (k : List ℕ → ℕ → Option Wire)
+      → bind (read_at (row_dec NodeId) s at) (λ n. k (or_none n.0) n.1) ≡ bind (read_at (text (tag NodeId) 20) s at) (λ n. k n.0 n.1)
+  node_step at k =
+      ap (λ (o : Option (Option (List ℕ) × ℕ)). bind o (λ n. k (or_none n.0) n.1)) (text_back (tag NodeId) 20 s at) ∙ go (read_at (text (tag NodeId) 20) s at)
+    where
+      go : (o : Option (List ℕ × ℕ)) → bind {A = Option (List ℕ) × ℕ} (into (λ x. Some (unless_none x)) o) (λ n. k (or_none n.0) n.1) ≡ bind o (λ n. k n.0 n.1)
+      go None = refl
+      go (Some q) = ap (λ (x : List ℕ). k x q.1) (none_kept q.0)
 
-  after : Gets s (drop 7 table) p₇ values_after p₁₆
-  after =
-      p₈ ends row PdpType rPdpType
-      then p₉ ends row Served rServed
-      then p₁₀ ends row Containers rContainers.reads
-      then p₁₁ ends row Opening rOpening
-      then p₁₂ ends row Duration rDuration
-      then p₁₃ ends row Change rChange
-      then p₁₄ ends row Cause rCause
-      then p₁₅ ends row Number (counts_maybe (tag Number) rNumber)
-      then p₁₆ ends row NodeId (text_reads (tag NodeId) 20 rNodeId)
-      then refl
+  -- GGSN to served address, and then k
+  abbrev middle : ℕ → (ℕ → List ℕ → ℕ → ℕ → ℕ → ℕ → Option Wire) → Option Wire
+  middle at k =
+      bind (read_at (row_dec Ggsn) s at) (λ g. bind (read_at (row_dec Apn) s g.1) (λ a. bind (read_at (row_dec PdpType) s a.1)
+      (λ t. bind (read_at (row_dec Served) s t.1) (λ d. k g.0 a.0 a.1 t.0 d.0 d.1))))
 
-  all : Gets s table 0 (both (take 6 table) (drop 6 table) values_before (take apnlen apn ⨾ values_after)) p₁₆
-  all = rows_then s (take 6 table) (drop 6 table) 0 p₆ p₁₆ values_before (take apnlen apn ⨾ values_after) before (p₇, row Apn (copies_reads rApn).0, after)
+  -- the containers, opening time to number, the node's name, the end
+  abbrev part_four : (f : Bool × List ℕ × ℕ × ℕ) (g : ℕ) (a : List ℕ) (n t d : ℕ) → ℕ × List Container → Stamp × ℕ × Bool × ℕ × ℕ → List ℕ → ℕ → Option Wire
+  part_four f g a n t d c e x m = guard (eqb m (length s)) (leaf f g a n t d c e x)
 
-  fields_yes : p₁₆ ≡ length s → body.dec s ≡ Some (fields_of record_of lasts)
-  unfolding body fields_of
-  fields_yes e = rest_whole (rows_yes s table 0 (fields_of record_of lasts) p₁₆ all e)
+  abbrev code : Option Wire
+  code = bind (front_of s) (λ f. middle f.1 (λ g a n t d at. bind (lists_at s at (tag Containers)) (λ c. bind (end_of s c.1)
+      (λ e. bind (read_at (text (tag NodeId) 20) s e.1) (λ x. part_four f.0 g a n t d c.0 e.0 x.0 x.1)))))
 
-  fields_no : (p₁₆ ≡ length s → ⊥) → body.dec s ≡ None
-  unfolding body fields_of
-  fields_no e = rest_whole (rows_no s table 0 (fields_of record_of lasts) p₁₆ all e)
+  pub wire_is : wire_of s ≡ code
+  unfolding wire_of fields_at to_record
+  wire_is =
+      whole (rows_at s name_rows 0)
+      ∙ with_at s name_rows 0 (λ v n. bind (rows_at s rest_rows n) (λ q. guard (eqb q.1 (length s)) (wire (both name_rows rest_rows v q.0) n)))
+      ∙ (λ i. rows_with s name_rows 0 (λ v n. with_at s rest_rows n (λ w m. guard (eqb m (length s)) (wire (both name_rows rest_rows v w) n)) i))
+      ∙ (λ i. rows_with s front_rows 0 (λ v n. middle n (λ g a n t d at. bind (read_at (row_dec Containers) s at) (λ p. rows_with s end_rows p.1
+      (λ e m. node_step m (part_four (front v) g a n t d (length p.0, padded p.0) (end e)) i)))))
+      ∙ (λ i. rows_with s front_rows 0 (λ v n. middle n (λ g a n t d at. bind (read_at (row_dec Containers) s at) (λ p. end_step p.1
+      (λ e m. bind (read_at (text (tag NodeId) 20) s m) (λ x. part_four (front v) g a n t d (length p.0, padded p.0) e x.0 x.1)) i))))
+      ∙ (λ i. rows_with s front_rows 0 (λ v n. middle n (λ g a n t d at. list_step at (λ c m. bind (end_of s m)
+      (λ e. bind (read_at (text (tag NodeId) 20) s e.1) (λ x. part_four (front v) g a n t d c e.0 x.0 x.1))) i)))
+      ∙ front_step (λ f n. middle n (λ g a n t d at. bind (lists_at s at (tag Containers)) (λ c. bind (end_of s c.1)
+      (λ e. bind (read_at (text (tag NodeId) 20) s e.1) (λ x. part_four f g a n t d c.0 e.0 x.0 x.1)))))
+    where
+      last_of : (v : Values name_rows) (n : ℕ) (o : Option (Values rest_rows × ℕ))
+          → bind {A = Fields × ℕ} (bind o (λ q. guard (eqb q.1 (length s)) (both name_rows rest_rows v q.0, n))) (λ x. Some (wire x.0 x.1))
+          ≡ bind o (λ q. guard (eqb q.1 (length s)) (wire (both name_rows rest_rows v q.0) n))
+      last_of v n None = refl
+      last_of v n (Some q) = by (eqb q.1 (length s)) (λ y. rw y) (λ k. rw k)
 
-  -- where the access point name lies, if all were read
-  name_ends : p₁₆ ≡ length s → NameEnds s (record { cdr = record_of; lasts = lasts; ok = eqb p₁₆ (length s); apnend = p₇ })
-  name_ends e =
-      let inside = rows_place s (drop 7 table) p₇ values_after p₁₆ after (omega arith) in
-      let (here, order, is) = finds_here h 63 rApn inside in
-      record {
-        place = sym ((finds_rows s (take 6 table) 0 p₆ 1 (tag Apn) (p₇ - apnlen, p₇) values_before before tt here).is (length table) (omega arith));
-        order = order;
-        inside = inside;
-        is = is;
-      }
-
-  pub wired : apn₀ ≡ replicate 63 0 → nodeid₀ ≡ replicate 20 0
-      → Wired s (record { cdr = record_of; lasts = lasts; ok = eqb p₁₆ (length s); apnend = p₇ })
-  unfolding fill_to
-  wired z y = record {
-    yes = λ t. fields_yes (eqb-true p₁₆ (length s) t);
-    no = λ t. fields_no (eqb-false p₁₆ (length s) t);
-    back = made record_of lasts (record {
-      apn = copies_fill 63 z rApn;
-      apnlen = copies_count rApn;
-      list = sym rContainers.rest;
-      count = rContainers.count;
-      node = copies_fill 20 y rNodeId;
-      nodelen = copies_count rNodeId;
-    });
-    apn = λ t. name_ends (eqb-true p₁₆ (length s) t);
-  }
+      whole : (o : Option (Values name_rows × ℕ))
+          → bind {A = Fields × ℕ} (bind o (λ p. bind (rows_at s rest_rows p.1) (λ q. guard (eqb q.1 (length s)) (both name_rows rest_rows p.0 q.0, p.1))))
+          (λ x. Some (wire x.0 x.1))
+          ≡ bind o (λ p. bind (rows_at s rest_rows p.1) (λ q. guard (eqb q.1 (length s)) (wire (both name_rows rest_rows p.0 q.0) p.1)))
+      whole None = refl
+      whole (Some p) = last_of p.0 p.1 (rows_at s rest_rows p.1)

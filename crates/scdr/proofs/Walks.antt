@@ -15,13 +15,12 @@ use Rattle.format.proofs.Tests.{by, either, T_true}
 use Rattle.format.proofs.Maybe.{bind_some, guard_some}
 use Rattle.ber.specs.Tlv.{tlv_dec}
 use Rattle.ber.specs.Field.{first, starts, maybe, flagged, is_there, new, between}
-use Rattle.ber.specs.Table.{Row, always, if_set, if_any, if_new, Value, Values, row_dec, tag, tags, among}
-use Rattle.ber.specs.Read.{nowhere, part_at}
-use Rattle.ber.specs.Text.{Copies}
+use Rattle.ber.specs.Table.{Row, always, if_set, if_any, if_new, Value, Values, row_dec, rows_at, tag, tags, among}
+use Rattle.ber.specs.Read.{read_at, part_at}
 use Rattle.ber.proofs.Places.{part_end, part_other, part_none, part_some, part_is, PartIs}
-use Rattle.ber.proofs.Readers.{Got, reads_found, first_leaves, part_length}
-use Rattle.ber.proofs.Tables.{not_l, not_r, Gets, got_found}
-use Rattle.ber.proofs.Texts.{copies_reads, copies_count}
+use Rattle.format.specs.Maybe.{bind}
+use Rattle.ber.proofs.Readers.{read_found, first_leaves, maybe_leaves, flagged_leaves, part_length}
+use Rattle.ber.proofs.Tables.{not_l, not_r, row_leaves}
 use Rattle.scdr.specs.Apn.{walk}
 
 -- ---- one value
@@ -97,49 +96,54 @@ over_maybe u {A} x s at next k t z q j g l ne f =
     over_value u x s at j (m ∙ ap {B = Option (A × List ℕ)} (λ (y : List ℕ). Some (b.0, y)) e) ne f)
     (λ y. stays s at next k t z j (ap (λ (y : Option A × List ℕ). y.1) (same_Some (None, drop at s) q (rw y at g)) ∙ l) f)
 
-over_row : (r : Row) (s : List ℕ) (at next k t : ℕ) (z : ℕ × ℕ) (v : Value r) → Got (row_dec r) s at v next → eqb (tag r) t ≡ false
+over_row : (r : Row) (s : List ℕ) (at next k t : ℕ) (z : ℕ × ℕ) (v : Value r) → read_at (row_dec r) s at ≡ Some (v, next) → eqb (tag r) t ≡ false
     → Finds k t s next z → Finds (suc k) t s at z
 unfolding flagged new
 over_row (always u x) s at next k t z v g ne f =
-    let (j, d) = got_found s (first u x) at next v g f.place in
+    let (j, _, d) = read_found (first u x) s at (first_leaves u x) g in
     over_value u x s at j d ne f
 over_row (if_set u c) s at next k t z v g ne f =
-    let (j, d) = got_found s (flagged u c) at next v g f.place in
+    let (j, _, d) = read_found (flagged u c) s at (flagged_leaves u c) g in
     let (q, m, w) = bind_some (maybe u (exactly c) (drop at s)) (λ p. Some (is_there p.0, p.1)) (v, drop next s) d in
     over_maybe u (exactly c) s at next k t z q j m (ap (λ (y : Bool × List ℕ). y.1) (same_Some (is_there q.0, q.1) (v, drop next s) w)) ne f
 over_row (if_any u x) s at next k t z v g ne f =
-    let (j, d) = got_found s (maybe u x) at next v g f.place in
+    let (j, _, d) = read_found (maybe u x) s at (maybe_leaves u x) g in
     over_maybe u x s at next k t z (v, drop next s) j d refl ne f
 over_row (if_new u x None) s at next k t z v g ne f =
-    let (j, d) = got_found s (new u x None) at next v g f.place in
+    let (j, _, d) = read_found (new u x None) s at (row_leaves (if_new u x None)) g in
     over_value u x s at j d ne f
 over_row (if_new u {A} x (Some b)) s at next k t z v g ne f =
-    let (j, d) = got_found s (new u x (Some b)) at next v g f.place in
+    let (j, _, d) = read_found (new u x (Some b)) s at (row_leaves (if_new u x (Some b))) g in
     stays s at next k t z j (ap (λ (y : A × List ℕ). y.1) (same_Some (b, drop at s) (v, drop next s) d)) f
 
 -- or after rows that have other tags
-pub finds_rows : (s : List ℕ) (rs : List Row) (at next k t : ℕ) (z : ℕ × ℕ) (v : Values rs) → Gets s rs at v next → T (not (among t (tags rs)))
+pub finds_rows : (s : List ℕ) (rs : List Row) (at next k t : ℕ) (z : ℕ × ℕ) (v : Values rs) → rows_at s rs at ≡ Some (v, next) → T (not (among t (tags rs)))
     → Finds k t s next z → Finds (length rs + k) t s at z
-finds_rows s [] at next k t z v g ne f = subst (λ (m : ℕ). Finds (0 + k) t s m z) (sym g) (more f (omega arith))
-finds_rows s (r ∷ rs) at next k t z v (m, g, gs) ne f =
+finds_rows s [] at next k t z v g ne f =
+    subst (λ (m : ℕ). Finds (0 + k) t s m z) (sym (ap (λ (y : Unit {0} × ℕ). y.1) (same_Some (tt, at) (v, next) g))) (more f (omega arith))
+finds_rows s (r ∷ rs) at next k t z v g ne f =
     let h = not_l (eqb (tag r) t) (among t (tags rs)) ne in
-    more (over_row r s at m (length rs + k) t z v.0 g h (finds_rows s rs m next k t z v.1 gs (not_r (eqb (tag r) t) (among t (tags rs)) ne) f))
-    (omega arith)
+    let n = not_r (eqb (tag r) t) (among t (tags rs)) ne in
+    let (p, d, e) = bind_some (read_at (row_dec r) s at) (λ p. bind (rows_at s rs p.1) (λ q. Some ((p.0, q.0), q.1))) (v, next) g in
+    let (q, o, w) = bind_some (rows_at s rs p.1) (λ q. Some ((p.0, q.0), q.1)) (v, next) e in
+    let m : q.1 ≡ next = ap (λ (y : Values (r ∷ rs) × ℕ). y.1) (same_Some ((p.0, q.0), q.1) (v, next) w) in
+    let rest = finds_rows s rs p.1 q.1 k t z q.0 o n (subst (λ (y : ℕ). Finds k t s y z) (sym m) f) in
+    more (over_row r s at p.1 (length rs + k) t z p.0 d h rest) (omega arith)
 
-module _ {s : List ℕ} (h : length s < nowhere) {at next t : ℕ} where
-  -- what was copied lies before the place after it
-  pub finds_here : (m : ℕ) {b b' : List ℕ} {n : ℕ} → Copies (first t (between 1 m)) s at b b' n next → next ≤ length s
-      → Finds 1 t s at (next - n, next) × (n ≤ next) × (take n (drop (next - n) s) ≡ take n b')
-  finds_here m {b} {b'} {n} c i =
-      let (j, _, d) = reads_found (first_leaves t (between 1 m)) h (copies_reads c).0 (λ e. omega arith) in
-      let (x, p, o) = value_part t (between 1 m) s at i d in
-      let y = take (next - x) (drop x s) in
-      let w = (guard_some (leb (length y) m && leb 1 (length y)) y (take n b') o).1 in
-      let k : next - x ≡ n = sym (part_length p) ∙ ap length w ∙ copies_count c in
-      let a : x ≡ next - n = omega (arith, p.order) in
-      let there = subst (λ (l : ℕ). take l (drop x s) ≡ take n b') k w in
-      (record { place = j; is = go p a }, omega arith, subst (λ (a : ℕ). take n (drop a s) ≡ take n b') a there)
+module _ {s : List ℕ} {at next t : ℕ} where
+  -- what was found lies before the place after it
+  pub finds_here : (m : ℕ) {x : List ℕ} → read_at (first t (between 1 m)) s at ≡ Some (x, next)
+      → Finds 1 t s at (next - length x, next) × (length x ≤ next) × (next ≤ length s) × (take (length x) (drop (next - length x) s) ≡ x)
+  finds_here m {x} c =
+      let (j, i, d) = read_found (first t (between 1 m)) s at (first_leaves t (between 1 m)) c in
+      let (a, p, o) = value_part t (between 1 m) s at i d in
+      let y = take (next - a) (drop a s) in
+      let w = (guard_some (leb (length y) m && leb 1 (length y)) y x o).1 in
+      let k : next - a ≡ length x = sym (part_length p) ∙ ap length w in
+      let e : a ≡ next - length x = omega (arith, p.order) in
+      let there = subst (λ (l : ℕ). take l (drop a s) ≡ x) k w in
+      (record { place = j; is = go x p e }, omega arith, i, subst (λ (a : ℕ). take (length x) (drop a s) ≡ x) e there)
     where
-      go : {x : ℕ} → PartIs s at t x next → x ≡ next - n → (k : ℕ) → 1 ≤ k → walk k t s at ≡ (next - n, next)
-      go p e zero h = absurd (not-suc-le-zero h)
-      go p e (suc k) h = walk_part p k t ∙ rw (T_true (eqb t t) (eqb_refl t), e)
+      go : (x : List ℕ) {a : ℕ} → PartIs s at t a next → a ≡ next - length x → (k : ℕ) → 1 ≤ k → walk k t s at ≡ (next - length x, next)
+      go x p e zero h = absurd (not-suc-le-zero h)
+      go x p e (suc k) h = walk_part p k t ∙ rw (T_true (eqb t t) (eqb_refl t), e)

@@ -31,33 +31,3 @@ size_of r = guard (within r) (length (scdr.enc r))
 pub record Sizes (r : Record) (n : Option ℕ) : Type 0 where
   pub is : n ≡ size_of r
   pub most : IfSome n (λ m. m ≤ 1024)
-
--- ---- the reader: the record, or 20 and a record that is all zero
-
-abbrev pub blank_record : Record
-blank_record = record {
-  network = false;
-  imsi = fill_to 8 0 [];
-  sgsn = 0;
-  charging = 0;
-  ggsn = 0;
-  apn = fill_to 63 0 [];
-  apnlen = 0;
-  pdptype = 0;
-  address = 0;
-  containers = padded [];
-  count = 0;
-  opening = record { seconds = 0; zone = 0 };
-  change = false;
-  cause = 0;
-  number = 0;
-  nodeid = fill_to 20 0 [];
-  nodelen = 0;
-}
-
-unfoldable pub read_of : Option Record → ℕ × Record
-read_of None = (no_record, blank_record)
-read_of (Some r) = (0, r)
-
-pub record ReadsRecord (s : List ℕ) (answer : ℕ) (r : Record) : Type 0 where
-  pub is : ◌≡◌ {A = ℕ × Record} (answer, r) (read_of (scdr.dec s))

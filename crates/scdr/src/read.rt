@@ -1,72 +1,45 @@
 // The reader of a record: the record that the octets are, and the access point name where it lies in them.
 ghost use Rattle.std.specs.Prelude.{◌≡◌, ◌&&◌, eqb};
+ghost use Rattle.scdr.specs.Layout.{scdr};
 ghost use Rattle.scdr.specs.Rules.{within, duration};
-ghost use Rattle.scdr.specs.Answers.{ReadsRecord};
 ghost use Rattle.scdr.specs.Apn.{ShowsApn};
-ghost use Rattle.scdr.specs.Private.Taken.{Taken, NotTaken};
+ghost use Rattle.scdr.specs.Private.Taken.{Taken};
 
 use crate::{Record, duration, fields, rules, tags};
 use ber::tlv;
 
-// 0 and the record, or 20 and a record that is all zero.
-#[derive(Clone, Copy)]
-pub struct Read {
-    pub answer: u8,
-    pub cdr: Record,
-}
-
-// Reads a record, without its mark: all of s. It answers the record whose octets s is, if that is one within the rules; else 20.
-pub fn read_record(s: &[u8]) -> Read
-    ensures { ReadsRecord s.now result.answer result.cdr }
+// Reads a record, without its mark: all of s. It answers the record whose octets s is, if that is one within the rules; None is the
+// refusal 20.
+pub fn read_record(s: &[u8]) -> Option<Record>
+    ensures { result ≡ scdr.dec s.now }
 {
-    let whole = take_apart(s);
-    let cdr = whole.cdr;
-    Read {
-        answer: whole.answer,
-        cdr,
-    }
+    let (cdr, _) = take_apart(s)?;
+    Some(cdr)
 }
 
 // The access point name of the record that s is, as the very part of s where it lies; empty where s is no record within the rules.
 pub fn apn_part(s: &[u8]) -> &[u8]
     ensures { ShowsApn s.entry result }
 {
-    let whole = take_apart(s);
-    let from = whole.from;
-    let to = whole.to;
-    &s[from..to]
+    match take_apart(s) {
+        Some((cdr, end)) => &s[end - cdr.apnlen..end],
+        None => &s[..0],
+    }
 }
 
-// What is read of a record: the answer, the record, and where its access point name lies.
-#[derive(Clone, Copy)]
-struct Whole {
-    answer: u8,
-    cdr: Record,
-    from: usize,
-    to: usize,
-}
-
-fn take_apart(s: &[u8]) -> Whole
-    ensures { Taken s.now result.answer result.cdr result.from result.to }
+// The record that s is, and the place after its access point name.
+fn take_apart(s: &[u8]) -> Option<(Record, usize)>
+    ensures { Taken s.now result }
 {
-    let part = tlv::part_at(s, 0, tags::RECORD);
-    let from = part.from;
-    let to = part.to;
-    if to != s.len() {
-        return no_record();
+    let (contents, end) = tlv::part_at(s, 0, tags::RECORD)?;
+    if end != s.len() {
+        return None;
     }
-    let wire = fields::read_fields(&s[from..to]);
-    let cdr = wire.cdr;
-    if wire.ok & passes(cdr, wire.lasts) {
-        let name_end = from + wire.apnend;
-        return Whole {
-            answer: 0,
-            cdr,
-            from: name_end - cdr.apnlen,
-            to: name_end,
-        };
+    let wire = fields::read_fields(contents)?;
+    if !passes(wire.cdr, wire.lasts) {
+        return None;
     }
-    no_record()
+    Some((wire.cdr, end - contents.len() + wire.name_end))
 }
 
 // Is a record within the rules, and did it last as long as its octets say?
@@ -76,40 +49,5 @@ fn passes(r: Record, lasts: u64) -> bool
     if !rules::within(&r) {
         return false;
     }
-    let containers = r.containers;
-    let opening = r.opening;
-    lasts == duration::duration(containers, r.count, opening) as u64
-}
-
-// No record: 20, and all zero.
-fn no_record() -> Whole
-    ensures { NotTaken result.answer result.cdr result.from result.to }
-{
-    Whole {
-        answer: 20,
-        cdr: Record {
-            network: false,
-            imsi: [0; 8],
-            sgsn: 0,
-            charging: 0,
-            ggsn: 0,
-            apn: [0; 63],
-            apnlen: 0,
-            pdptype: 0,
-            address: 0,
-            containers: [container::one::no_container(); 15],
-            count: 0,
-            opening: calendar::Stamp {
-                seconds: 0,
-                zone: 0,
-            },
-            change: false,
-            cause: 0,
-            number: 0,
-            nodeid: [0; 20],
-            nodelen: 0,
-        },
-        from: 0,
-        to: 0,
-    }
+    lasts == duration::duration(r.containers, r.count, r.opening) as u64
 }

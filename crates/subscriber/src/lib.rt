@@ -21,7 +21,7 @@ use calendar::Stamp;
 use mcdr::{Change, Place, changes};
 
 // A slot of the node's table. One that is free is zero in every field; changes that are not used are zero. The flag is an octet, so that
-// whatever a host hands over is a value.
+// whatever a host hands over is a value. (Laid out as in C, include/charging.h: so the changes' count stands beside them.)
 #[repr(C)]
 #[derive(Clone, Copy)]
 pub struct Subscriber {

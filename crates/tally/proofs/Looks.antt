@@ -1,11 +1,11 @@
 -- One step of a count: by what the stepper and the record say; and how far it goes.
-use Rattle.std.proofs.Common.{◌≡◌, ℕ, ◌+◌, ◌-◌, ◌<◌, ◌≤◌, Bool, true, false, cond, not, eqb, ltb, leb, List, length, get_or, sym, refl, ap, ◌∙◌, arith, le-ltb, lt-ltb, leb-false}
+use Rattle.std.proofs.Common.{◌≡◌, ℕ, ◌+◌, ◌-◌, ◌<◌, ◌≤◌, Bool, true, false, cond, not, eqb, ltb, leb, List, [], length, get_or, sym, refl, ap, ◌∙◌, arith, le-ltb, lt-ltb, leb-false}
+use Rattle.std.specs.Prelude.{Option, None, Some, Result, Ok, Err}
 use Rattle.format.proofs.Tests.{by}
-use Rattle.ber.specs.declared.length.Len.{Len}
-use Rattle.ber.specs.declared.length.Len.TheVariants as L
 use Rattle.ber.specs.Field.{starts}
-use Rattle.ber.specs.Read.{len_at, cut, Lies}
-use Rattle.ber.proofs.Places.{by_part}
+use Rattle.ber.specs.Tlv.{tlv_dec}
+use Rattle.ber.specs.Read.{len_at, read_at}
+use Rattle.ber.proofs.Readers.{read_missing, part_here, part_length}
 use Rattle.scdr.specs.Table as s-table
 use Rattle.mcdr.specs.Table as m-table
 use Rattle.entries.specs.declared.Entry.{Entry}
@@ -15,8 +15,6 @@ use Rattle.entries.specs.Read.{octets_in}
 use Rattle.entries.proofs.Theorems.{entry_long}
 use Rattle.tally.specs.declared.Fault.TheVariants as F
 use Rattle.tally.specs.declared.Tally.{Tally}
-use Rattle.tally.specs.declared.say.Said.{Said}
-use Rattle.tally.specs.declared.say.Said.TheVariants.{Other, Carries, Unfit}
 use Rattle.tally.specs.Say.{Saying, other, carries, broken, say_of}
 use Rattle.tally.specs.Look.{past, counts, stops, longest, within, contents_of, said, of_record, look_on, look_of}
 use Rattle.tally.specs.Tally.{fits}
@@ -27,41 +25,44 @@ use Rattle.tally.proofs.Says.{left_of, says_short}
 -- ---- a record
 
 -- the contents of a record, where a reader of values found them
-contents_are : {x : List ℕ} {from to : ℕ} → Lies x 0 s-table.record_tag from to → cut (from, to) x ≡ contents_of x
-contents_are {x} {from} {to} l = by_part l (λ d e. e ∙ sym (ap within d)) (λ w. sym (ap within w.is))
+pub contents_some : (x : List ℕ) {c : List ℕ} {e : ℕ} → read_at (tlv_dec s-table.record_tag) x 0 ≡ Some (c, e) → (c ≡ contents_of x) × (length c ≤ length x)
+contents_some x {c} {e} r =
+    let (p, q) = part_here r in
+    (q ∙ sym (ap within p.is), let z = ap length q ∙ part_length p in omega (arith, p.order, p.inside, z))
+
+pub contents_none : (x : List ℕ) → read_at (tlv_dec s-table.record_tag) x 0 ≡ None → [] ≡ contents_of x
+contents_none x r = sym (ap within (read_missing (tlv_dec s-table.record_tag) x 0 (omega arith) r))
 
 -- where the step lands, by what was answered of contents of so many octets in a record that ends at e
-abbrev pub landing : ℕ → ℕ → Said → Tally
-landing e n Other = past e
-landing e n (Carries k) = counts e k
-landing e n (Unfit p) = stops F.Field (e - (n - p))
+abbrev pub landing : ℕ → ℕ → Result (Option ℕ) ℕ → Tally
+landing e n (Ok None) = past e
+landing e n (Ok (Some k)) = counts e k
+landing e n (Err p) = stops F.Field (e - (n - p))
 
 lands : (e : ℕ) (c : List ℕ) (y : Saying) → left_of y ≤ length c → landing e (length c) (said_in c y) ≡ said e y
 lands e c other h = refl
 lands e c (carries k) h = refl
 lands e c (broken r) h = let z : e - (length c - (length c - length r)) ≡ e - length r = omega arith in ap (stops F.Field) z
 
-abbrev place_of : Said → ℕ
-place_of Other = 0
-place_of (Carries k) = 0
-place_of (Unfit p) = p
+abbrev place_of : Result (Option ℕ) ℕ → ℕ
+place_of (Ok k) = 0
+place_of (Err p) = p
 
-module _ (end id ggsn : ℕ) {x : List ℕ} {from to : ℕ} (l : Lies x 0 s-table.record_tag from to) {z : Said}
-    (e : z ≡ said_in (cut (from, to) x) (say_of id ggsn (cut (from, to) x))) where
-  pub landed : {v : Said} → z ≡ v → landing end (length (cut (from, to) x)) v ≡ said end (say_of id ggsn (contents_of x))
+module _ (end id ggsn : ℕ) (x : List ℕ) {c : List ℕ} (w : c ≡ contents_of x) {z : Result (Option ℕ) ℕ} (e : z ≡ said_in c (say_of id ggsn c)) where
+  pub landed : {v : Result (Option ℕ) ℕ} → z ≡ v → landing end (length c) v ≡ said end (say_of id ggsn (contents_of x))
   landed d =
-      ap (landing end (length (cut (from, to) x))) (sym d ∙ e)
-      ∙ lands end (cut (from, to) x) (say_of id ggsn (cut (from, to) x)) (says_short id ggsn (cut (from, to) x))
-      ∙ ap (λ (c : List ℕ). said end (say_of id ggsn c)) (contents_are l)
+      ap (landing end (length c)) (sym d ∙ e)
+      ∙ lands end c (say_of id ggsn c) (says_short id ggsn c)
+      ∙ ap (λ (c : List ℕ). said end (say_of id ggsn c)) w
 
-  -- a place within the contents
-  pub unfit_within : {p : ℕ} → z ≡ Unfit p → p ≤ length (cut (from, to) x)
-  unfit_within {p} d = go (say_of id ggsn (cut (from, to) x)) (sym d ∙ e)
-    where
-      go : (y : Saying) → Unfit p ≡ said_in (cut (from, to) x) y → p ≤ length (cut (from, to) x)
-      go other q = omega (arith, ap place_of q)
-      go (carries k) q = omega (arith, ap place_of q)
-      go (broken r) q = omega (arith, ap place_of q)
+-- a place within the contents
+pub unfit_within : (id ggsn : ℕ) (c : List ℕ) {z : Result (Option ℕ) ℕ} {p : ℕ} → z ≡ said_in c (say_of id ggsn c) → z ≡ Err p → p ≤ length c
+unfit_within id ggsn c {z} {p} e d = go (say_of id ggsn c) (sym d ∙ e)
+  where
+    go : (y : Saying) → Err p ≡ said_in c y → p ≤ length c
+    go other q = omega (arith, ap place_of q)
+    go (carries k) q = omega (arith, ap place_of q)
+    go (broken r) q = omega (arith, ap place_of q)
 
 -- ---- what was found from one place of s to another
 
@@ -100,11 +101,11 @@ pick true x y n h f = h
 pick false x y n h f = f refl
 
 module _ (s : List ℕ) (from : ℕ) where
-  sized_within : (at : ℕ) (l : Len) → from ≤ length s → at ≤ length s → named_place (sized_at s from at l) ≤ length s
+  sized_within : (at : ℕ) (l : Option (ℕ × ℕ)) → from ≤ length s → at ≤ length s → named_place (sized_at s from at l) ≤ length s
   unfolding sized_at
-  sized_within at (L.Size n a) h k =
+  sized_within at (Some (n, a)) h k =
       pick (leb n (length s - a)) (Found at (a + n)) _ (length s) (omega arith) (λ e. pick (ltb most_contents n) (NoValue at) (Cut from) (length s) k (λ d. h))
-  sized_within at L.NoLen h k = pick (ltb (length s - (at + 1)) 3) (Cut from) (NoValue at) (length s) h (λ e. k)
+  sized_within at None h k = pick (ltb (length s - (at + 1)) 3) (Cut from) (NoValue at) (length s) h (λ e. k)
 
   value_within : (at : ℕ) → from ≤ length s → named_place (value_at s from at) ≤ length s
   unfolding value_at

@@ -1,49 +1,65 @@
 -- What a record says of a name, by what the readers of its fields answer.
-use Rattle.std.proofs.Common.{◌≡◌, ℕ, ◌<◌, ◌≤◌, false, eqb, List, length, drop, sym, refl, ap, ◌∙◌, arith, length-append, eq-eqb, ne_eqb}
-use Rattle.std.specs.Prelude.{Option, None, Some}
+use Rattle.std.proofs.Common.{◌≡◌, ℕ, ◌≤◌, eqb, List, length, drop, sym, refl, ap, ◌∙◌, arith, length-append, eq-eqb, ne_eqb}
+use Rattle.std.specs.Prelude.{Option, None, Some, Result, Ok, Err}
+use Rattle.std.specs.Result.{IsErrAnd}
 use Rattle.format.specs.Maybe.{bind}
 use Rattle.format.proofs.Tests.{by}
 use Rattle.ber.specs.Int.{counted}
 use Rattle.ber.specs.Count.{counts}
 use Rattle.ber.specs.Field.{maybe, or_zero}
-use Rattle.ber.specs.Read.{nowhere, placed, Reads}
+use Rattle.ber.specs.Read.{read_at}
+use Rattle.ber.specs.Read as read
 use Rattle.ber.proofs.Tables.{row_leaves}
-use Rattle.ber.proofs.Readers.{here_yes, Leaves, reads_lost, reads_found}
+use Rattle.ber.proofs.Readers.{here_yes, Leaves, read_missing, read_found}
 use Rattle.scdr.specs.Table.{ChargingId, Ggsn}
-use Rattle.tally.specs.declared.seek.Sought as D
-use Rattle.tally.specs.declared.say.Said.TheVariants.{Unfit}
 use Rattle.tally.specs.Seek.{Sought, before, unfit, seek}
 use Rattle.tally.specs.Say.{Saying, other, carries, broken, found, like, number_read, say_number, say_ggsn, say_of}
 use Rattle.tally.specs.Private.Places.{sought_in, said_in}
 use Rattle.tally.proofs.Seeks.{seek_short, StopsAt, stops_unfit}
 
+-- the number that was found, 0 for none
+abbrev number_at : Option (ℕ × ℕ) → ℕ
+number_at None = 0
+number_at (Some p) = p.0
+
+-- an error that is handed on
+pub err_is : (r : Result (Option ℕ) ℕ) (p : ℕ) → IsErrAnd r (λ e. e ≡ p) → r ≡ Err p
+err_is (Ok x) p h = absurd h
+err_is (Err e) p h = ap {B = Result (Option ℕ) ℕ} Err h
+
 -- a field's length does not fit
-pub says_unfit : (c : List ℕ) (t at : ℕ) {z : D.Sought} (f : List ℕ → Saying) → z ≡ sought_in c (seek t (drop at c)) → z.fits ≡ false
-    → Unfit z.at ≡ said_in c (found (seek t (drop at c)) f)
-says_unfit c t at f e n = let (r, d, k) = stops_unfit c t at e n in ap Unfit k ∙ ap (λ (o : Sought). said_in c (found o f)) (sym d)
+pub says_unfit : (c : List ℕ) (t at : ℕ) {z : Result ℕ ℕ} {p : ℕ} (f : List ℕ → Saying) → z ≡ sought_in c (seek t (drop at c)) → z ≡ Err p
+    → Err p ≡ said_in c (found (seek t (drop at c)) f)
+says_unfit c t at f e n =
+    let (r, d, k) = stops_unfit c t at e n in
+    ap {B = Result (Option ℕ) ℕ} Err k ∙ ap (λ (o : Sought). said_in c (found o f)) (sym d)
 
 -- a field that has to have a value
-module _ {c : List ℕ} {t at p v next : ℕ} {x : List ℕ → Option (ℕ × List ℕ)} (l : Leaves x) (w : ℕ) (f : List ℕ → Saying) (k : StopsAt c t at p)
-    (h : length c < nowhere) (g : Reads 0 x c p v next) where
-  pub says_none : next ≡ nowhere → found (seek t (drop at c)) (λ r. like (x r) w f) ≡ other
-  says_none e = rw (k.is, reads_lost l h g e k.inside)
+module _ {c : List ℕ} {t at p : ℕ} {x : List ℕ → Option (ℕ × List ℕ)} (l : Leaves x) (w : ℕ) (f : List ℕ → Saying) (k : StopsAt c t at p) where
+  pub says_none : read_at x c p ≡ None → found (seek t (drop at c)) (λ r. like (x r) w f) ≡ other
+  says_none e = rw (k.is, read_missing x c p k.inside e)
 
-  module _ (n : next ≡ nowhere → ⊥) where
+  module _ {v next : ℕ} (e : read_at x c p ≡ Some (v, next)) where
     pub says_other : (v ≡ w → ⊥) → found (seek t (drop at c)) (λ r. like (x r) w f) ≡ other
-    says_other e = rw (k.is, (reads_found l h g n).2, ne_eqb v w e)
+    says_other n = rw (k.is, (read_found x c p l e).2, ne_eqb v w n)
 
     pub says_same : v ≡ w → found (seek t (drop at c)) (λ r. like (x r) w f) ≡ f (drop next c)
-    says_same e = rw (k.is, (reads_found l h g n).2, eq-eqb v w e)
+    says_same n = rw (k.is, (read_found x c p l e).2, eq-eqb v w n)
 
 -- the number that is read
-pub number_read_lem : (c : List ℕ) (t p : ℕ) {v next : ℕ} → Reads 0 (counts t) c p v next → p ≤ length c → v ≡ number_read (maybe t counted (drop p c))
-unfolding counts placed
-number_read_lem c t p g h =
-    ap (λ (y : ℕ × ℕ). y.0) (rw (here_yes c p h) at g.is) ∙ go (maybe t counted (drop p c))
+number_read_is : (c : List ℕ) (t p : ℕ) → p ≤ length c → number_read (maybe t counted (drop p c)) ≡ number_at (read_at (counts t) c p)
+unfolding counts read_at
+number_read_is c t p h = rw (here_yes c p h) (go (maybe t counted (drop p c)))
   where
-    go : (o : Option (Option ℕ × List ℕ)) → (placed 0 c (bind o (λ p. Some (or_zero p.0, p.1)))).0 ≡ number_read o
+    go : (o : Option (Option ℕ × List ℕ)) → number_read o ≡ number_at (read.found c (bind o (λ q. Some (or_zero q.0, q.1))))
     go None = refl
     go (Some q) = refl
+
+pub number_some : (c : List ℕ) (t p : ℕ) {v next : ℕ} → p ≤ length c → read_at (counts t) c p ≡ Some (v, next) → v ≡ number_read (maybe t counted (drop p c))
+number_some c t p h e = sym (number_read_is c t p h ∙ ap number_at e)
+
+pub number_none : (c : List ℕ) (t p : ℕ) → p ≤ length c → read_at (counts t) c p ≡ None → 0 ≡ number_read (maybe t counted (drop p c))
+number_none c t p h e = sym (number_read_is c t p h ∙ ap number_at e)
 
 -- ---- a field that does not fit is one of the record's
 

@@ -1,12 +1,11 @@
 -- From field to field: a law for each way on, and the loop that goes so.
 use Rattle.std.proofs.Common.{◌≡◌, ℕ, zero, suc, ◌+◌, ◌-◌, ◌<◌, ◌≤◌, Bool, true, false, eqb, List, [], ◌∷◌, ◌++◌, length, get_or, drop, sym, refl, ap, ◌∙◌, append_assoc, arith, length-append, length-drop, drop_of_length-le, eq-eqb, ne_eqb}
-use Rattle.std.specs.Prelude.{Option, None, Some}
+use Rattle.std.specs.Prelude.{Option, None, Some, Result, Ok, Err}
+use Rattle.std.specs.Result.{is_ok}
 use Rattle.format.proofs.Tests.{by, either}
 use Rattle.ber.specs.Tlv.{tlv_enc, tlv_dec}
-use Rattle.ber.specs.Read.{part_at, or_start, Lies}
 use Rattle.ber.proofs.Tlvs.{tlv_sound, tlv_length, head_2}
-use Rattle.ber.proofs.Places.{at_cons, rest_at, rest_is, PartIs, part_none, part_some}
-use Rattle.tally.specs.declared.seek.Sought as D
+use Rattle.ber.proofs.Places.{at_cons, rest_at, rest_is, PartIs}
 use Rattle.tally.specs.Seek.{Sought, before, unfit, seek_in, seek}
 use Rattle.tally.specs.Private.Places.{sought_in}
 
@@ -18,6 +17,10 @@ rest_of (unfit r) = r
 
 before_injective : {r q : List ℕ} → before r ≡ before q → r ≡ q
 before_injective e = ap rest_of e
+
+abbrev pub place : Result ℕ ℕ → ℕ
+place (Ok n) = n
+place (Err n) = n
 
 pub not_both : ◌≡◌ {A = Bool} false true → ⊥
 not_both e = let u : ◌≡◌ {A = ℕ} 0 1 = cc in omega arith
@@ -97,24 +100,6 @@ seek_end t = in_end 0 t
 
 -- ---- by places of s
 
--- a value was found at a place exactly where its end is not the start
-module _ {s : List ℕ} {at t from to : ℕ} (l : Lies s at t from to) where
-  pub lies_none : to ≡ 0 → tlv_dec t (drop at s) ≡ None
-  lies_none z = go (part_at s at t) refl l.is
-    where
-      go : (o : Option (ℕ × ℕ)) → part_at s at t ≡ o → ◌≡◌ {A = ℕ × ℕ} (from, to) (or_start o) → tlv_dec t (drop at s) ≡ None
-      go None d q = part_none s at t d
-      go (Some y) d q =
-          let w = part_some s at t (d ∙ ap {B = Option (ℕ × ℕ)} Some (sym q)) in
-          absurd (let k = field_long t (drop at s) _ w.is in omega (arith, length-drop at s, length-drop to s))
-
-  pub lies_some : (to ≡ 0 → ⊥) → PartIs s at t from to
-  lies_some z = go (part_at s at t) refl l.is
-    where
-      go : (o : Option (ℕ × ℕ)) → part_at s at t ≡ o → ◌≡◌ {A = ℕ × ℕ} (from, to) (or_start o) → PartIs s at t from to
-      go None d q = absurd (z (ap (λ (y : ℕ × ℕ). y.1) q))
-      go (Some y) d q = part_some s at t (d ∙ ap {B = Option (ℕ × ℕ)} Some (sym q))
-
 -- it ends behind its place
 pub part_long : {s : List ℕ} {at t from to : ℕ} → PartIs s at t from to → at + 2 ≤ to
 part_long {s} {at} {t} {from} {to} w =
@@ -140,20 +125,20 @@ pub record Seeking (s : List ℕ) (from t at : ℕ) : Type 0 where
 
 module _ {s : List ℕ} {from t at : ℕ} (i : Seeking s from t at) where
   pub seeking_unfit : at < length s → tlv_dec (get_or s at 0) (drop at s) ≡ None
-      → record { at = at; fits = false } ≡ sought_in s (seek t (drop from s))
+      → Err at ≡ sought_in s (seek t (drop from s))
   seeking_unfit h e = rw (i.is, at_unfit t s at h e, rest_at s at (omega arith))
 
   pub seeking_here : at < length s → {b e : ℕ} → PartIs s at (get_or s at 0) b e → get_or s at 0 ≡ t
-      → record { at = at; fits = true } ≡ sought_in s (seek t (drop from s))
+      → Ok at ≡ sought_in s (seek t (drop from s))
   seeking_here h w d = rw (i.is, at_here t s at h w d, rest_at s at (omega arith))
 
   pub seeking_next : at < length s → {b e : ℕ} → PartIs s at (get_or s at 0) b e → (get_or s at 0 ≡ t → ⊥) → Seeking s from t e
   seeking_next h w d = record { is = i.is ∙ at_next t s at h w d }
 
-  pub seeking_end : length s ≤ at → record { at = length s; fits = true } ≡ sought_in s (seek t (drop from s))
+  pub seeking_end : length s ≤ at → Ok (length s) ≡ sought_in s (seek t (drop from s))
   seeking_end h =
       let z : length s ≡ length s - 0 = omega arith in
-      rw (i.is, drop_of_length-le s h, seek_end t) (ap {B = D.Sought} (λ (n : ℕ). record { at = n; fits = true }) z)
+      rw (i.is, drop_of_length-le s h, seek_end t) (ap {B = Result ℕ ℕ} Ok z)
 
 -- ---- what was answered, to who called it
 
@@ -211,17 +196,17 @@ module _ (c : List ℕ) (t at : ℕ) where
       let y : length c ≤ length c - length r = omega (arith, ap length z) in
       record { is = e ∙ ap before (z ∙ sym (drop_of_length-le c y)); inside = omega arith })
 
-  pub stops_at : {z : D.Sought} → z ≡ sought_in c (seek t (drop at c)) → z.fits ≡ true → StopsAt c t at z.at
-  stops_at {z} e n = go (seek t (drop at c)) refl e
+  pub stops_at : {z : Result ℕ ℕ} {p : ℕ} → z ≡ sought_in c (seek t (drop at c)) → z ≡ Ok p → StopsAt c t at p
+  stops_at {z} {p} e n = go (seek t (drop at c)) refl (sym n ∙ e)
     where
-      go : (o : Sought) → seek t (drop at c) ≡ o → z ≡ sought_in c o → StopsAt c t at z.at
-      go (before r) d q = rw (ap (λ (y : D.Sought). y.at) q) (stops_before r d)
-      go (unfit r) d q = absurd (not_both (sym (ap (λ (y : D.Sought). y.fits) q) ∙ n))
+      go : (o : Sought) → seek t (drop at c) ≡ o → Ok p ≡ sought_in c o → StopsAt c t at p
+      go (before r) d q = rw (ap place q) (stops_before r d)
+      go (unfit r) d q = absurd (not_both (sym (ap is_ok q)))
 
-  pub stops_unfit : {z : D.Sought} → z ≡ sought_in c (seek t (drop at c)) → z.fits ≡ false
-      → (r : List ℕ) × (seek t (drop at c) ≡ unfit r) × (z.at ≡ length c - length r)
-  stops_unfit {z} e n = go (seek t (drop at c)) refl e
+  pub stops_unfit : {z : Result ℕ ℕ} {p : ℕ} → z ≡ sought_in c (seek t (drop at c)) → z ≡ Err p
+      → (r : List ℕ) × (seek t (drop at c) ≡ unfit r) × (p ≡ length c - length r)
+  stops_unfit {z} {p} e n = go (seek t (drop at c)) refl (sym n ∙ e)
     where
-      go : (o : Sought) → seek t (drop at c) ≡ o → z ≡ sought_in c o → (r : List ℕ) × (seek t (drop at c) ≡ unfit r) × (z.at ≡ length c - length r)
-      go (before r) d q = absurd (not_both (sym (sym (ap (λ (y : D.Sought). y.fits) q) ∙ n)))
-      go (unfit r) d q = (r, d, ap (λ (y : D.Sought). y.at) q)
+      go : (o : Sought) → seek t (drop at c) ≡ o → Err p ≡ sought_in c o → (r : List ℕ) × (seek t (drop at c) ≡ unfit r) × (p ≡ length c - length r)
+      go (before r) d q = absurd (not_both (ap is_ok q))
+      go (unfit r) d q = (r, d, ap place q)

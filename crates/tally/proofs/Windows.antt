@@ -1,13 +1,12 @@
 -- A step looks at 1,026 octets at most: the longest record with its mark. So what is in a window decides it.
 use Rattle.std.proofs.Common.{◌≡◌, ℕ, ◌+◌, ◌-◌, ◌<◌, ◌≤◌, cond, ◌&&◌, eqb, ltb, leb, List, [], ◌∷◌, length, get_or, take, drop, sym, refl, ap, ◌∙◌, arith, length-take, take_all, get_or-take, take-take, ltb-false, ltb-true, le-ltb, lt-ltb, le-leb}
 use borrow.Author.Tests.{lt-leb}
+use Rattle.std.specs.Prelude.{Option, None, Some, Result, Ok, Err}
 use Rattle.format.proofs.Tests.{by, both, either}
 use Rattle.octets.proofs.Fronts.{drop_take}
-use Rattle.ber.specs.declared.length.Len.{Len}
-use Rattle.ber.specs.declared.length.Len.TheVariants as L
 use Rattle.ber.specs.Int.{spelt}
 use Rattle.ber.specs.Length.{len_one, len_two, len_dec}
-use Rattle.ber.specs.Read.{len_found, len_at}
+use Rattle.ber.specs.Read.{len_at}
 use Rattle.ber.proofs.Places.{at_cons}
 use Rattle.entries.specs.Entry.{is_tag, most_contents, sized_at, value_at, entry_at}
 use Rattle.entries.specs.Read.{octets_in}
@@ -17,33 +16,33 @@ use Rattle.tally.specs.Look.{stops, longest, of_record, look_on, look_of}
 
 -- ---- the length of a record, in the three octets behind its tag
 
-abbrev len_of : ℕ → ℕ → ℕ → Len
+abbrev len_of : ℕ → ℕ → ℕ → Option (ℕ × ℕ)
 len_of d e f =
-    cond (ltb d 128) (L.Size d 4)
-    (cond (eqb d 0x81) (cond (leb 128 e && ltb e 256) (L.Size e 5) L.NoLen)
-    (cond (eqb d 0x82) (cond (leb 1 e && ltb e 256 && ltb f 256) (L.Size (spelt 0 (e ∷ f ∷ [])) 6) L.NoLen) L.NoLen))
+    cond (ltb d 128) (Some (d, 4))
+    (cond (eqb d 0x81) (cond (leb 128 e && ltb e 256) (Some (e, 5)) None)
+    (cond (eqb d 0x82) (cond (leb 1 e && ltb e 256 && ltb f 256) (Some ((spelt 0 (e ∷ f ∷ [])), 6)) None) None))
 
 module _ (a b c d e f : ℕ) (r : List ℕ) where
   abbrev octets : List ℕ
   octets = a ∷ b ∷ c ∷ d ∷ e ∷ f ∷ r
 
   len_is : len_at octets 3 ≡ len_of d e f
-  unfolding len_at len_found len_dec len_one len_two
+  unfolding len_at len_dec len_one len_two
   len_is =
       let p : length octets - length (e ∷ f ∷ r) ≡ 4 = omega arith in
       let q : length octets - length (f ∷ r) ≡ 5 = omega arith in
       let z : length octets - length r ≡ 6 = omega arith in
-      by (ltb d 128) (λ x. rw x (ap (L.Size d) p))
+      by (ltb d 128) (λ x. rw x (ap {B = Option (ℕ × ℕ)} (λ (n : ℕ). Some (d, n)) p))
       (λ x. rw x (by (eqb d 0x81)
-      (λ y. rw y (by (leb 128 e && ltb e 256) (λ w. rw w (ap (L.Size e) q)) (λ w. rw w)))
+      (λ y. rw y (by (leb 128 e && ltb e 256) (λ w. rw w (ap {B = Option (ℕ × ℕ)} (λ (n : ℕ). Some (e, n)) q)) (λ w. rw w)))
       (λ y. rw y (by (eqb d 0x82)
-      (λ v. rw v (by (leb 1 e && ltb e 256 && ltb f 256) (λ w. rw w (ap (L.Size (spelt 0 (e ∷ f ∷ []))) z)) (λ w. rw w)))
+      (λ v. rw v (by (leb 1 e && ltb e 256 && ltb f 256) (λ w. rw w (ap {B = Option (ℕ × ℕ)} (λ (n : ℕ). Some (spelt 0 (e ∷ f ∷ []), n)) z)) (λ w. rw w)))
       (λ v. rw v)))))
 
 -- such a length: it takes one to three octets, and three where it is longer than any record's
-abbrev Fair : Len → Type 0
-Fair (L.Size m p) = (4 ≤ p) × (p ≤ 6) × (most_contents < m → p ≡ 6)
-Fair L.NoLen = Unit {0}
+abbrev Fair : Option (ℕ × ℕ) → Type 0
+Fair (Some (m, p)) = (4 ≤ p) × (p ≤ 6) × (most_contents < m → p ≡ 6)
+Fair None = Unit {0}
 
 fair : (d e f : ℕ) → Fair (len_of d e f)
 fair d e f =
@@ -59,18 +58,18 @@ fair d e f =
 -- ---- a step over octets that hold the longest record
 
 module _ (id ggsn : ℕ) where
-  abbrev by_size : Len → List ℕ → Tally
-  by_size (L.Size m p) s = cond (ltb most_contents m) (stops F.Value 2) (of_record id ggsn (p + m) (octets_in s (2, p + m)))
-  by_size L.NoLen s = stops F.Value 2
+  abbrev by_size : Option (ℕ × ℕ) → List ℕ → Tally
+  by_size (Some (m, p)) s = cond (ltb most_contents m) (stops F.Value 2) (of_record id ggsn (p + m) (octets_in s (2, p + m)))
+  by_size None s = stops F.Value 2
 
-  abbrev by_octets : ℕ → ℕ → ℕ → Len → List ℕ → Tally
+  abbrev by_octets : ℕ → ℕ → ℕ → Option (ℕ × ℕ) → List ℕ → Tally
   by_octets a b c l s =
       cond (eqb a 0xC3) (cond (eqb b 0x5A) (cond (is_tag c) (by_size l s) (stops F.Value 2)) (stops F.Mark 0)) (stops F.Mark 0)
 
-  size_look : (l : Len) (s : List ℕ) → Fair l → 1026 ≤ length s → look_on id ggsn s (sized_at s 0 2 l) ≡ by_size l s
+  size_look : (l : Option (ℕ × ℕ)) (s : List ℕ) → Fair l → 1026 ≤ length s → look_on id ggsn s (sized_at s 0 2 l) ≡ by_size l s
   unfolding sized_at
-  size_look L.NoLen s g h = rw (le-ltb (length s - 3) 3 (omega arith))
-  size_look (L.Size m p) s g h =
+  size_look None s g h = rw (le-ltb (length s - 3) 3 (omega arith))
+  size_look (Some (m, p)) s g h =
       by (ltb most_contents m)
       (λ x.
       let k = ltb-true most_contents m x in
@@ -99,16 +98,16 @@ octets_local : (h : ℕ) (s : List ℕ) (n : ℕ) → n ≤ h → octets_in (tak
 octets_local h s n l = rw (drop_take 2 h s) (take-take (n - 2) (h - 2) (drop 2 s) (omega arith))
 
 module _ (id ggsn : ℕ) where
-  size_local : (l : Len) (h : ℕ) (s : List ℕ) → Fair l → 1026 ≤ h → by_size id ggsn l (take h s) ≡ by_size id ggsn l s
-  size_local L.NoLen h s g k = refl
-  size_local (L.Size m p) h s g k =
+  size_local : (l : Option (ℕ × ℕ)) (h : ℕ) (s : List ℕ) → Fair l → 1026 ≤ h → by_size id ggsn l (take h s) ≡ by_size id ggsn l s
+  size_local None h s g k = refl
+  size_local (Some (m, p)) h s g k =
       by (ltb most_contents m) (λ x. rw x)
       (λ x.
       let i = ltb-false most_contents m x in
       let j = g.1 in
       rw x (ap (of_record id ggsn (p + m)) (octets_local h s (p + m) (omega arith))))
 
-  by_local : (a b c : ℕ) (l : Len) (h : ℕ) (s : List ℕ) → Fair l → 1026 ≤ h → by_octets id ggsn a b c l (take h s) ≡ by_octets id ggsn a b c l s
+  by_local : (a b c : ℕ) (l : Option (ℕ × ℕ)) (h : ℕ) (s : List ℕ) → Fair l → 1026 ≤ h → by_octets id ggsn a b c l (take h s) ≡ by_octets id ggsn a b c l s
   by_local a b c l h s g k =
       by (eqb a 0xC3)
       (λ x. rw x (by (eqb b 0x5A) (λ y. rw y (by (is_tag c) (λ w. rw w (size_local l h s g k)) (λ w. rw w))) (λ y. rw y)))

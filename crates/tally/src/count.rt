@@ -67,6 +67,7 @@ fn tally(s: &[u8], ended: bool, id: u32, ggsn: u32) -> Tally
     let mut at: usize = 0;
     let mut count: usize = 0;
     let mut number: u64 = 0;
+    // From entry to entry, each as long as its own length says: no index is counted.
     while is_ready(ended, s.len() - at) {
         let k = look::look(&s[at..], id, ggsn);
         let fault = k.fault;

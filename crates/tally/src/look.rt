@@ -4,7 +4,6 @@ ghost use Rattle.entries.specs.declared.Entry.TheVariants.{Found};
 ghost use Rattle.tally.specs.Look.{past, stops, said, contents_of, look_on, look_of};
 ghost use Rattle.tally.specs.Say.{say_of};
 
-use crate::say::Said;
 use crate::{Fault, Tally, say};
 use ber::tlv;
 use entries::{Entry, step};
@@ -41,19 +40,27 @@ fn of_record(x: &[u8], end: usize, id: u32, ggsn: u32) -> Tally
     requires { length x.now ≤ end }
     ensures { result ≡ said end (say_of id ggsn (contents_of x.now)) }
 {
-    let part = tlv::part_at(x, 0, 0xA0);
-    let from = part.from;
-    let to = part.to;
-    let contents = &x[from..to];
+    let contents = contents_of(x);
     match say::say(contents, id, ggsn) {
-        Said::Other => past(end),
-        Said::Carries(number) => Tally {
+        Ok(None) => past(end),
+        Ok(Some(number)) => Tally {
             fault: Fault::None,
             at: end,
             count: 1,
             number,
         },
-        Said::Unfit(p) => stops(Fault::Field, end - (contents.len() - p)),
+        Err(p) => stops(Fault::Field, end - (contents.len() - p)),
+    }
+}
+
+// The contents of an S-CDR, and no octets where it is none.
+fn contents_of(x: &[u8]) -> &[u8]
+    ensures is { result.now ≡ contents_of x.now }
+    ensures fits { length result.now ≤ length x.now }
+{
+    match tlv::part_at(x, 0, 0xA0) {
+        Some((contents, _)) => contents,
+        None => &x[..0],
     }
 }
 

@@ -5,33 +5,22 @@ ghost use Rattle.tally.specs.Private.Places.{sought_in};
 
 use ber::tlv;
 
-// A place among fields: of the first with a tag, or the end where none has it; and whether all lengths up to there fit. Where one does not,
-// it is the place of that field.
-#[derive(Clone, Copy)]
-pub struct Sought {
-    pub at: usize,
-    pub fits: bool,
-}
-
-// The first field of s with the tag, from a place on.
-pub fn seek(s: &[u8], from: usize, tag: u8) -> Sought
+// The place of the first field of s with the tag, from a place on, or the end where none has it. An Err is the place of a field before it
+// that does not end within s.
+pub fn seek(s: &[u8], from: usize, tag: u8) -> Result<usize, usize>
     ensures { result ≡ sought_in s.now (seek tag (drop from s.now)) }
 {
     let mut at = from;
+    // From the end of one field to the next: no index is counted.
     while at < s.len() {
         let t = s[at];
-        let part = tlv::part_at(s, at, t);
-        let to = part.to;
-        if to == 0 {
-            return Sought { at, fits: false };
-        }
+        let Some((_, next)) = tlv::part_at(s, at, t) else {
+            return Err(at);
+        };
         if t == tag {
-            return Sought { at, fits: true };
+            return Ok(at);
         }
-        at = to;
+        at = next;
     }
-    Sought {
-        at: s.len(),
-        fits: true,
-    }
+    Ok(s.len())
 }

@@ -135,6 +135,7 @@ pub fn read_full<R: Read>(file: &mut R, buffer: &mut [u8]) -> usize
     ensures { result ≤ length buffer.new }
 {
     let mut done = 0;
+    // std's read_exact does not say how many octets came before the end.
     while done < buffer.len() {
         match file.read(&mut buffer[done..]) {
             Ok(more) if more > 0 => done += more,

@@ -1,25 +1,23 @@
 -- What the reader and the writer of a list of changes answer.
-use Rattle.std.specs.Prelude.{◌≡◌, Bool, true, cond, ◌&&◌, List, [], ◌∷◌, ℕ, leb, eqb, length, take}
+use Rattle.std.specs.Prelude.{Bool, true, cond, ◌&&◌, List, [], ◌∷◌, ℕ, leb, eqb, length, take}
 use Rattle.std.specs.Prelude.{Option, None, Some}
-use Rattle.format.specs.Maybe.{guard}
+use Rattle.format.specs.Maybe.{bind, guard}
 use Rattle.ber.specs.Tlv.{tlv_enc}
-use Rattle.ber.specs.Field.{maybe, unless_none}
-use Rattle.ber.specs.Read.{Reads}
+use Rattle.ber.specs.Field.{maybe}
+use Rattle.ber.specs.Read.{read_at}
+use Rattle.ber.specs.Text.{or_none}
 use Rattle.calendar.specs.Stamp.{stamp_ok}
 use Rattle.mcdr.specs.declared.Change.{Change}
 use Rattle.mcdr.specs.Changes.{changes, padded}
 
--- where the octets are the list o: whether there is one, how many it has, and they, in an array whose other places hold nothing
-pub record Listed (o : Option (List Change)) (ok : Bool) (n : ℕ) (v : List Change) : Type 0 where
-  pub is : o ≡ guard ok (take n v)
-  pub rest : v ≡ padded (take n v)
-  pub count : length (take n v) ≡ n
+-- where the octets are a list: how many it has, and they in an array of 15
+abbrev pub in_array : Option (List Change) → Option (ℕ × List Change)
+in_array None = None
+in_array (Some cs) = Some (length cs, padded cs)
 
 -- at a place of octets, where the list may be missing
-pub record ListsAt (s : List ℕ) (at t n : ℕ) (v : List Change) (next : ℕ) : Type 0 where
-  pub reads : Reads None (maybe t changes) s at (unless_none (take n v)) next
-  pub rest : v ≡ padded (take n v)
-  pub count : length (take n v) ≡ n
+unfoldable pub lists_at : List ℕ → ℕ → ℕ → Option ((ℕ × List Change) × ℕ)
+lists_at s at t = bind (read_at (maybe t changes) s at) (λ p. Some ((length (or_none p.0), padded (or_none p.0)), p.1))
 
 -- each at a time of 2000 to 2099
 unfoldable pub times_ok : List Change → Bool

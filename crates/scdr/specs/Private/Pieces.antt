@@ -1,22 +1,48 @@
 -- What the readers of a record's pieces answer.
-use Rattle.std.specs.Prelude.{◌≡◌, true, false, List, ℕ, ◌-◌, ◌≤◌, length, take, drop}
-use Rattle.std.specs.Prelude.{None, Some}
-use Rattle.ber.specs.Table.{tag}
+use Rattle.std.specs.Prelude.{Bool, List, ℕ, take, drop, eqb, length}
+use Rattle.std.specs.Prelude.{Option, Some}
+use Rattle.format.specs.Maybe.{bind, guard}
+use Rattle.ber.specs.Field.{or_zero}
+use Rattle.ber.specs.Table.{Row, Values, rows_at, both}
+use Rattle.calendar.specs.declared.Stamp.{Stamp}
 use Rattle.scdr.specs.declared.fields.Wire.{Wire}
-use Rattle.scdr.specs.Table.{Apn, table}
-use Rattle.scdr.specs.Layout.{body, fields_of, to_record}
-use Rattle.scdr.specs.Apn.{walk}
+use Rattle.scdr.specs.Table.{table}
+use Rattle.scdr.specs.Layout.{Fields, to_record}
+use Rattle.scdr.specs.Private.Parts.{front_rows, end_rows}
 
--- The access point name lies before its end, as many octets as it has.
-pub record NameEnds (s : List ℕ) (w : Wire) : Type 0 where
-  pub place : ◌≡◌ {A = ℕ × ℕ} (w.apnend - w.cdr.apnlen, w.apnend) (walk (length table) (tag Apn) s 0)
-  pub order : w.cdr.apnlen ≤ w.apnend
-  pub inside : w.apnend ≤ length s
-  pub is : take w.cdr.apnlen (drop (w.apnend - w.cdr.apnlen) s) ≡ take w.cdr.apnlen w.cdr.apn
+-- record type to charging ID, at the front of s
+abbrev pub front : Values front_rows → Bool × List ℕ × ℕ × ℕ
+front (_, (network, (imsi, (sgsn, (charging, _))))) = (network, imsi, sgsn, charging)
 
--- what was read of all of s as the fields of a record: they are what the body's format reads, and the record has them and nothing else
-pub record Wired (s : List ℕ) (w : Wire) : Type 0 where
-  pub yes : w.ok ≡ true → body.dec s ≡ Some (fields_of w.cdr w.lasts)
-  pub no : w.ok ≡ false → body.dec s ≡ None
-  pub back : to_record (fields_of w.cdr w.lasts) ≡ w.cdr
-  pub apn : w.ok ≡ true → NameEnds s w
+unfoldable pub front_of : List ℕ → Option ((Bool × List ℕ × ℕ × ℕ) × ℕ)
+front_of s = bind (rows_at s front_rows 0) (λ p. Some (front p.0, p.1))
+
+-- opening time to number, from a place of s on
+abbrev pub end : Values end_rows → Stamp × ℕ × Bool × ℕ × ℕ
+end (opening, (lasts, (change, (cause, (number, _))))) = (opening, lasts, change, cause, or_zero number)
+
+unfoldable pub end_of : List ℕ → ℕ → Option ((Stamp × ℕ × Bool × ℕ × ℕ) × ℕ)
+end_of s at = bind (rows_at s end_rows at) (λ p. Some (end p.0, p.1))
+
+-- the fields up to the access point name, and those after it
+abbrev pub name_rows : List Row
+name_rows = take 7 table
+
+abbrev pub rest_rows : List Row
+rest_rows = drop 7 table
+
+-- the duration that the fields say
+abbrev pub lasts_of : Fields → ℕ
+lasts_of (_, (_, (_, (_, (_, (_, (_, (_, (_, (_, (_, (lasts, _)))))))))))) = lasts
+
+-- all of s as the fields of a record, and the place after the access point name
+unfoldable pub fields_at : List ℕ → Option (Fields × ℕ)
+fields_at s = bind (rows_at s name_rows 0)
+    (λ p. bind (rows_at s rest_rows p.1) (λ q. guard (eqb q.1 (length s)) (both name_rows rest_rows p.0 q.0, p.1)))
+
+-- the record that they say, how long it lasted, and that place
+abbrev pub wire : Fields → ℕ → Wire
+wire v n = record { cdr = to_record v; lasts = lasts_of v; name_end = n }
+
+unfoldable pub wire_of : List ℕ → Option Wire
+wire_of s = bind (fields_at s) (λ x. Some (wire x.0 x.1))

@@ -1,28 +1,35 @@
 -- `ber::address::address_in_at` meets its contract: one value is all of the contents, or not.
-use mathlib.Core.Path.{refl}
-use native.Mathlib.Omega.{arith}
+use Rattle.ber.specs.Field.{alone}
 use Rattle.ber.specs.Fixed.{ipv4}
-use Rattle.ber.proofs.Places.{lies_fits}
-use Rattle.ber.specs.Tlv.{tlv_dec}
-use Rattle.ber.specs.Field.{first, alone}
-use Rattle.ber.proofs.Readers.{under_absent, alone_there, alone_not}
+use Rattle.ber.proofs.Readers.{first_at, alone_at, guard_into}
 use Rattle.ber.proofs.address.address_in_at.Goals as goal
 
-pub returns-then-to-eq0 : goal.returns-then-to-eq0
-unfolding first tlv_dec
-returns-then-to-eq0 c = under_absent (alone 0xA0 ipv4) c.part_at-part.ensures c.if-to-eq0.true refl
+pub returns-in_err-contents : goal.returns-in_err-contents
+returns-in_err-contents c =
+    let a = c.args in
+    rw (first_at a.tag (alone 0xA0 ipv4) a.s.now a.at, ← c.part_at.ensures, c.in_err-contents.was) c.from_residual.ensures
 
-pub slice_bounds-contents-count : goal.slice_bounds-contents-count
-slice_bounds-contents-count c = (lies_fits c.part_at-part.ensures).0
-
-pub slice_bounds-contents-start : goal.slice_bounds-contents-start
-slice_bounds-contents-start c = omega (arith, lies_fits c.part_at-part.ensures)
-
-pub slice_bounds-contents-end : goal.slice_bounds-contents-end
-slice_bounds-contents-end c = omega (arith, lies_fits c.part_at-part.ensures)
-
-pub returns-then-x-contents : goal.returns-then-x-contents
-returns-then-x-contents c = alone_not 0xA0 ipv4 c.part_at-part.ensures (omega arith) c.address_at-x.ensures c.if-x-contents.true
+pub returns-in_err-v : goal.returns-in_err-v
+returns-in_err-v c =
+    let a = c.args in
+    rw (
+      first_at a.tag (alone 0xA0 ipv4) a.s.now a.at,
+      ← c.part_at.ensures,
+      c.in_ok-contents.was,
+      alone_at 0xA0 ipv4 c.in_ok-contents.contents.now,
+      ← c.address_at.ensures,
+      c.in_err-v.was,
+    ) c.from_residual-in_err-v.ensures
 
 pub returns : goal.returns
-returns c = alone_there 0xA0 ipv4 c.part_at-part.ensures (omega arith) c.address_at-x.ensures (omega arith)
+returns c =
+    let a = c.args in
+    rw (
+      first_at a.tag (alone 0xA0 ipv4) a.s.now a.at,
+      ← c.part_at.ensures,
+      c.in_ok-contents.was,
+      alone_at 0xA0 ipv4 c.in_ok-contents.contents.now,
+      ← c.address_at.ensures,
+      c.in_ok-v.was,
+      c.then_some.ensures,
+    ) (guard_into _ c.in_ok-v.v c.in_ok-contents.next)

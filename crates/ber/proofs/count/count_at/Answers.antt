@@ -1,34 +1,34 @@
 -- `ber::count::count_at` meets its contract: where the tag is, a number that is not 0.
 use mathlib.Core.Path.{◌∙◌, sym, refl}
-use native.Mathlib.Omega.{arith}
 use lib.Dec.{leb}
-use borrow.Author.Tests.{le-leb, lt-leb}
+use Rattle.format.specs.Maybe.{guard}
 use Rattle.ber.specs.Int.{int, counted}
-use Rattle.ber.proofs.Readers.{first_leaves, reads_blank, test_no, test_yes, maybe_none, maybe_lost, maybe_found}
-use Rattle.ber.proofs.Counts.{counts_reads}
+use Rattle.ber.proofs.Readers.{first_as, guard_is}
+use Rattle.ber.proofs.Counts.{counts_there, counts_none, counted_is}
 use Rattle.ber.proofs.count.count_at.Goals as goal
 
-pub returns-then-v-eq0 : goal.returns-then-v-eq0
-returns-then-v-eq0 c =
+pub returns-then-not-tag_at : goal.returns-then-not-tag_at
+returns-then-not-tag_at c =
     let a = c.args in
-    let r =
-    test_no a.tag int counted (λ n. leb 1 n) (λ n. n) (λ z. refl) (omega arith) c.int_at-x.ensures {b = 0}
-    (lt-leb 1 c.int_at-x.result.v (omega arith)) in
-    counts_reads a.tag
-    (maybe_lost a.tag counted a.s.now a.at (sym c.tag_at.ensures ∙ c.if-tag_at.true) (omega arith) r refl)
+    rw (counts_none a.tag a.s.now a.at (sym c.tag_at.ensures ∙ c.if-not-tag_at.true), c.then_some.ensures) (guard_is _ _)
 
-pub returns-then-tag_at : goal.returns-then-tag_at
-returns-then-tag_at c =
+pub returns-in_err-v : goal.returns-in_err-v
+returns-in_err-v c =
     let a = c.args in
-    let i = c.int_at-x in
-    let r =
-    test_yes a.tag int counted (λ n. leb 1 n) (λ n. n) (λ z. refl) (omega arith) i.ensures (le-leb 1 i.result.v (omega (arith, c.if-v-eq0.false))) in
-    counts_reads a.tag
-    (maybe_found a.tag counted a.s.now a.at (sym c.tag_at.ensures ∙ c.if-tag_at.true) (omega arith) r
-    (λ e. c.if-v-eq0.false (reads_blank (first_leaves a.tag int) (omega arith) i.ensures e)))
+    rw (
+      counts_there a.tag a.s.now a.at (sym c.tag_at.ensures ∙ c.if-not-tag_at.false),
+      first_as a.tag int counted (λ n. guard (leb 1 n) n) (λ z. refl) a.s.now a.at,
+      ← c.int_at.ensures,
+      c.in_err-v.was,
+    ) c.from_residual.ensures
 
 pub returns : goal.returns
 returns c =
     let a = c.args in
-    rw c.stay.ensures
-    (counts_reads a.tag (maybe_none a.tag counted a.s.now a.at (sym c.tag_at.ensures ∙ c.if-tag_at.false)))
+    rw (
+      counts_there a.tag a.s.now a.at (sym c.tag_at.ensures ∙ c.if-not-tag_at.false),
+      first_as a.tag int counted (λ n. guard (leb 1 n) n) (λ z. refl) a.s.now a.at,
+      ← c.int_at.ensures,
+      c.in_ok-v.was,
+      c.then_some-2.ensures,
+    ) (counted_is c.in_ok-v.v c.in_ok-v.next)

@@ -3,28 +3,25 @@ use mathlib.Core.Path.{refl}
 use mathlib.Core.Bool.{true}
 use native.Mathlib.Omega.{arith}
 use Rattle.format.specs.Format.{octet}
-use Rattle.ber.specs.Read.{cut}
-use Rattle.ber.proofs.Places.{lies_fits}
-use Rattle.ber.proofs.Readers.{under_none, under_some, one_not, one_is}
+use Rattle.ber.proofs.Readers.{first_at, one_not, one_is}
 use Rattle.ber.proofs.field.octet_at.Goals as goal
 
-pub slice_bounds-contents-count : goal.slice_bounds-contents-count
-slice_bounds-contents-count c = (lies_fits c.part_at-part.ensures).0
-
-pub slice_bounds-contents-start : goal.slice_bounds-contents-start
-slice_bounds-contents-start c = omega (arith, lies_fits c.part_at-part.ensures)
-
-pub slice_bounds-contents-end : goal.slice_bounds-contents-end
-slice_bounds-contents-end c = omega (arith, lies_fits c.part_at-part.ensures)
+pub returns-in_err-contents : goal.returns-in_err-contents
+returns-in_err-contents c =
+    let a = c.args in
+    rw (first_at a.tag (octet (λ x. true)) a.s.now a.at, ← c.part_at.ensures, c.in_err-contents.was) c.from_residual.ensures
 
 pub returns-then-contents-ne1 : goal.returns-then-contents-ne1
 returns-then-contents-ne1 c =
     let a = c.args in
-    under_none (octet (λ x. true)) c.part_at-part.ensures (one_not (λ x. true) (cut (c.part_at-part.result.from, c.part_at-part.result.to) a.s.now)
-    c.if-contents-ne1.true)
+    rw (
+      first_at a.tag (octet (λ x. true)) a.s.now a.at,
+      ← c.part_at.ensures,
+      c.in_ok-contents.was,
+      one_not (λ x. true) c.in_ok-contents.contents.now c.if-contents-ne1.true,
+    ) refl
 
 pub returns : goal.returns
 returns c =
     let a = c.args in
-    under_some (octet (λ x. true)) c.part_at-part.ensures
-    (one_is (cut (c.part_at-part.result.from, c.part_at-part.result.to) a.s.now) (omega arith)) refl
+    rw (first_at a.tag (octet (λ x. true)) a.s.now a.at, ← c.part_at.ensures, c.in_ok-contents.was, one_is c.in_ok-contents.contents.now (omega arith)) refl

@@ -1,31 +1,38 @@
--- `ber::imsi::imsi_at` meets its contract: a law for each answer.
-use mathlib.Core.Path.{◌∙◌, ap, sym}
-use Prim.Native.Nat.{ℕ}
-use Rattle.std.specs.Prelude.{Option, Some}
-use Rattle.std.proofs.lemmas.Option.{none-some, same_Some}
-use native.Mathlib.Omega.{arith}
-use Rattle.ber.specs.Imsi.{fill}
-use Rattle.ber.specs.Write.{zeros}
-use Rattle.ber.proofs.Imsis.{imsi_none, imsi_other, imsi_there}
+-- `ber::imsi::imsi_at` meets its contract: three to eight octets, filled up, that are an IMSI, or not.
+use mathlib.Core.Path.{◌≡◌, ◌∙◌, sym, ap}
+use Rattle.ber.specs.Imsi.{fill, imsi_val, imsi_room}
+use Rattle.ber.specs.Read.{octets_of}
+use Rattle.ber.proofs.Readers.{guard_into}
+use Rattle.ber.proofs.Imsis.{recorded, imsi_first, imsi_out, imsi_test, filled_up}
+use Rattle.ber.proofs.Texts.{octets_fit}
 use Rattle.ber.proofs.imsi.imsi_at.Goals as goal
 
-pub returns-then-n-eq0 : goal.returns-then-n-eq0
-unfolding fill zeros
-returns-then-n-eq0 c = imsi_none c.args.tag (omega arith) c.octets_at-x.ensures c.if-n-eq0.true
+pub returns-in_err-digits : goal.returns-in_err-digits
+returns-in_err-digits c =
+    let a = c.args in
+    rw (imsi_first a.tag a.s.now a.at, ← c.octets_at.ensures.reads, c.in_err-digits.was) c.from_residual.ensures
 
-pub returns-in_default : goal.returns-in_default
-unfolding fill zeros
-returns-in_default c =
-    imsi_other c.args.tag (omega arith) c.octets_at-x.ensures (λ e. none-some _ (sym c.in_default.is ∙ c.imsi_size.ensures ∙ e))
-
-pub returns-then-size-n : goal.returns-then-size-n
-unfolding fill zeros
-returns-then-size-n c =
-    imsi_other c.args.tag (omega arith)
-    c.octets_at-x.ensures (λ e. c.if-size-n.true (same_Some _ _ (sym c.in-Some.is ∙ c.imsi_size.ensures ∙ e)))
+pub returns-in_err-size : goal.returns-in_err-size
+unfolding fill
+returns-in_err-size c =
+    let a = c.args in
+    let x = c.in_ok-digits.digits.now in
+    let room : imsi_room (imsi_val x) ≡ c.imsi_size.result = sym (c.imsi_size.ensures ∙ rw c.copy_from_slice.ensures.after (ap imsi_room (filled_up x))) in
+    rw (imsi_first a.tag a.s.now a.at, ← c.octets_at.ensures.reads, c.in_ok-digits.was, imsi_out x (room ∙ c.in_err-size.was))
+    c.from_residual-in_err-size.ensures
 
 pub returns : goal.returns
-unfolding fill zeros
+unfolding fill
 returns c =
-    imsi_there c.args.tag (omega arith)
-    c.octets_at-x.ensures c.if-n-eq0.false (sym c.imsi_size.ensures ∙ c.in-Some.is ∙ ap {B = Option ℕ} Some c.if-size-n.false)
+    let a = c.args in
+    let x = c.in_ok-digits.digits.now in
+    let room : imsi_room (imsi_val x) ≡ c.imsi_size.result = sym (c.imsi_size.ensures ∙ rw c.copy_from_slice.ensures.after (ap imsi_room (filled_up x))) in
+    rw (
+      imsi_first a.tag a.s.now a.at,
+      ← c.octets_at.ensures.reads,
+      c.in_ok-digits.was,
+      c.then_some.ensures,
+      c.copy_from_slice.ensures.after,
+      filled_up x,
+      imsi_test x c.in_ok-size.size (room ∙ c.in_ok-size.was),
+    ) (guard_into (recorded x) (imsi_val x) c.in_ok-digits.next)

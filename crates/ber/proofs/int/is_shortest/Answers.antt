@@ -1,19 +1,20 @@
--- `ber::int::is_shortest` meets its contract: a law for each answer.
+-- `ber::int::is_shortest` meets its contract: by how many octets there are.
 use native.Mathlib.Omega.{arith}
-use Rattle.ber.proofs.Numbers.{shortest_none, shortest_sign, shortest_single, shortest_high, shortest_next}
+use borrow.Author.Tests.{lt-ltb, le-ltb, le-leb, lt-leb}
+use Rattle.ber.proofs.Numbers.{shortest_none, shortest_one, shortest_more}
 use Rattle.ber.proofs.int.is_shortest.Goals as goal
 
-pub returns-then-s-eq0 : goal.returns-then-s-eq0
-returns-then-s-eq0 c = shortest_none _ c.if-s-eq0.true
+pub returns-in-empty : goal.returns-in-empty
+returns-in-empty c = shortest_none _ (omega arith)
 
-pub returns-then-s-ge128 : goal.returns-then-s-ge128
-returns-then-s-ge128 c = shortest_sign _ c.if-s-ge128.true
+pub returns-in-len1 : goal.returns-in-len1
+returns-in-len1 c = shortest_one _ (omega arith)
 
-pub returns-then-s-eq1 : goal.returns-then-s-eq1
-returns-then-s-eq1 c = shortest_single _ c.if-s-eq1.true c.if-s-ge128.false
+pub returns-then-x-ge1 : goal.returns-then-x-ge1
+returns-then-x-ge1 c = rw (← shortest_more c.args.s.now (omega arith), lt-ltb _ 128 c.if-x-lt128.true, le-leb 1 _ c.if-x-ge1.true)
 
-pub returns-then-s-ge1 : goal.returns-then-s-ge1
-returns-then-s-ge1 c = shortest_high _ c.if-s-ge128.false c.if-s-ge1.true
+pub returns-else-x-ge1 : goal.returns-else-x-ge1
+returns-else-x-ge1 c = rw (← shortest_more c.args.s.now (omega arith), lt-ltb _ 128 c.if-x-lt128.true, lt-leb 1 _ c.if-x-ge1.false)
 
-pub returns : goal.returns
-returns c = shortest_next _ (omega arith) c.if-s-ge1.false
+pub returns-else-x-lt128 : goal.returns-else-x-lt128
+returns-else-x-lt128 c = rw (← shortest_more c.args.s.now (omega arith), le-ltb _ 128 c.if-x-lt128.false)

@@ -8,17 +8,11 @@ use Rattle.ber.proofs.octet.put_lowest.Goals as goal
 pub loop-i-init : goal.loop-i-init
 loop-i-init c = (omega arith, refl, refl)
 
-pub overflow_sub-i : goal.overflow_sub-i
-overflow_sub-i c = omega arith
-
 pub overflow_cast-out : goal.overflow_cast-out
 overflow_cast-out c = omega arith
 
 pub bounds-out-i : goal.bounds-out-i
 bounds-out-i c = omega arith
-
-pub loop-i-smaller : goal.loop-i-smaller
-loop-i-smaller c = omega arith
 
 pub loop-i-preserved : goal.loop-i-preserved
 loop-i-preserved c =

@@ -8,6 +8,3 @@ use Rattle.ber.proofs.octet.put_lowest.Given as goal
 
 abbrev pub invariant-loop-i : goal.invariant-loop-i
 invariant-loop-i l = (l.i ≤ length l.out) × (length l.out ≡ length l.initial.out) × (lowest l.i l.w ++ drop l.i l.out ≡ lowest l.n l.v ++ drop l.n l.initial.out)
-
-abbrev pub decreases-loop-i : goal.decreases-loop-i
-decreases-loop-i l = l.i

@@ -1,30 +1,34 @@
 -- `ber::text::octets_at` meets its contract: a law for each answer.
 use mathlib.Core.Path.{refl}
+use Prim.Native.Nat.{suc}
 use native.Mathlib.Omega.{arith}
-use Rattle.ber.proofs.Places.{lies_fits}
-use Rattle.ber.proofs.Texts.{octets_short, octets_long, octets_there}
+use Rattle.ber.specs.Field.{between}
+use Rattle.ber.proofs.Readers.{first_at}
+use Rattle.ber.proofs.Texts.{between_short, between_long, between_there}
 use Rattle.ber.proofs.text.octets_at.Goals as goal
+use Rattle.ber.proofs.text.octets_at.Goals.{then-contents-few-via-then-contents-few, then-contents-few-via-else-contents-few+then-most-contents}
 
-pub slice_bounds-contents-count : goal.slice_bounds-contents-count
-slice_bounds-contents-count c = (lies_fits c.part_at-part.ensures).0
-
-pub slice_bounds-contents-start : goal.slice_bounds-contents-start
-slice_bounds-contents-start c = omega (arith, lies_fits c.part_at-part.ensures)
-
-pub slice_bounds-contents-end : goal.slice_bounds-contents-end
-slice_bounds-contents-end c = omega (arith, lies_fits c.part_at-part.ensures)
-
-pub returns-then-contents-few : goal.returns-then-contents-few
-returns-then-contents-few c =
+pub returns-in_err-contents-clause-reads : goal.returns-in_err-contents-clause-reads
+returns-in_err-contents-clause-reads c =
     let a = c.args in
-    octets_short a.few a.out.now c.part_at-part.ensures c.if-contents-few.true
+    rw (first_at a.tag (between (suc a.few) a.most) a.s.now a.at, ← c.part_at.ensures, c.in_err-contents.was, c.from_residual.ensures)
 
-pub returns-then-out-contents : goal.returns-then-out-contents
-returns-then-out-contents c =
+pub returns-then-contents-few-clause-reads : goal.returns-then-contents-few-clause-reads
+returns-then-contents-few-clause-reads c =
     let a = c.args in
-    octets_long a.few a.out.now c.part_at-part.ensures c.if-out-contents.true
+    let k = c.in_ok-contents.contents.now in
+    rw (first_at a.tag (between (suc a.few) a.most) a.s.now a.at, ← c.part_at.ensures, c.in_ok-contents.was)
+    (elim c.then-contents-few.branch [
+      | then-contents-few-via-then-contents-few w ↦ rw (between_short (suc a.few) a.most k (omega arith))
+      | then-contents-few-via-else-contents-few+then-most-contents w ↦ rw (between_long (suc a.few) a.most k (omega arith))
+    ])
 
-pub returns : goal.returns
-returns c =
-    octets_there c.args.few c.args.out.now c.part_at-part.ensures c.if-contents-few.false c.if-out-contents.false refl
-    (rw c.copy_from_slice.ensures.after refl)
+pub returns-clause-reads : goal.returns-clause-reads
+returns-clause-reads c =
+    let a = c.args in
+    rw (
+      first_at a.tag (between (suc a.few) a.most) a.s.now a.at,
+      ← c.part_at.ensures,
+      c.in_ok-contents.was,
+      between_there (suc a.few) a.most c.in_ok-contents.contents.now (omega arith) (omega arith),
+    ) refl

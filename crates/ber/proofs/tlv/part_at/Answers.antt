@@ -1,39 +1,46 @@
 -- `ber::tlv::part_at` meets its contract: a law for each answer.
 use mathlib.Core.Path.{◌∙◌, sym}
-use native.Mathlib.Omega.{arith}
 use Prim.Native.Nat.{◌+◌}
-use Rattle.ber.proofs.Places.{len_none, len_some, lies_there, lies_not, part_end, part_other, part_bare, part_cut, part_there}
+use native.Mathlib.Omega.{arith}
+use Rattle.ber.specs.Tlv.{tlv_dec}
+use Rattle.ber.proofs.Places.{len_none, len_some, part_end, part_other, part_bare, part_cut, part_there}
+use Rattle.ber.proofs.Readers.{read_none, read_some}
 use Rattle.ber.proofs.tlv.part_at.Goals as goal
 
-pub returns-then-s-at : goal.returns-then-s-at
-returns-then-s-at c = let a = c.args in lies_not a.s.now a.at a.tag (part_end a.s.now a.at a.tag c.if-s-at.true)
-
-pub returns-then-s-at-2 : goal.returns-then-s-at-2
-returns-then-s-at-2 c =
-    let a = c.args in lies_not a.s.now a.at a.tag
-    (part_other a.s.now a.at a.tag (omega arith) c.if-s-at-2.true)
-
-pub returns-in_default : goal.returns-in_default
-returns-in_default c =
+pub returns-in_err-get : goal.returns-in_err-get
+returns-in_err-get c =
     let a = c.args in
-    lies_not a.s.now a.at a.tag
-    (part_bare a.s.now a.at a.tag (omega arith) (omega arith)
-    (len_none a.s.now (a.at + 1) (omega arith) (sym c.in_default.is ∙ c.len_at.ensures)))
+    rw c.from_residual.ensures (sym (read_none (tlv_dec a.tag) a.s.now a.at (λ _. part_end a.s.now a.at a.tag c.in_err-get.ensures.lookup.3)))
+
+pub returns-then-branch-tag : goal.returns-then-branch-tag
+returns-then-branch-tag c =
+    let a = c.args in
+    sym (read_none (tlv_dec a.tag) a.s.now a.at (λ _. part_other a.s.now a.at a.tag c.in_ok-get.ensures.lookup.3.0 (omega (arith, c.in_ok-get.ensures.lookup.3.1 0))))
+
+pub returns-in_err-n : goal.returns-in_err-n
+returns-in_err-n c =
+    let a = c.args in
+    rw c.from_residual-in_err-n.ensures
+    (sym (read_none (tlv_dec a.tag) a.s.now a.at (λ _. part_bare a.s.now a.at a.tag c.in_ok-get.ensures.lookup.3.0 (omega (arith, c.in_ok-get.ensures.lookup.3.1 0))
+    (len_none a.s.now (a.at + 1) (omega (arith, c.in_ok-get.ensures.lookup.3.0)) (sym c.in_err-n.was ∙ c.len_at.ensures)))))
 
 pub overflow_sub-s : goal.overflow_sub-s
-overflow_sub-s c =
-    let a = c.args in (len_some a.s.now (a.at + 1) (omega arith)
-    (sym c.in-Size.is ∙ c.len_at.ensures)).0
+overflow_sub-s c = let a = c.args in (len_some a.s.now (a.at + 1) (omega (arith, c.in_ok-get.ensures.lookup.3.0)) (sym c.in_ok-n.was ∙ c.len_at.ensures)).0
 
-pub returns-then-n-s : goal.returns-then-n-s
-returns-then-n-s c =
+pub returns-then-s-from : goal.returns-then-s-from
+returns-then-s-from c =
     let a = c.args in
-    let l = len_some a.s.now (a.at + 1) (omega arith) (sym c.in-Size.is ∙ c.len_at.ensures) in
-    lies_there a.s.now a.at a.tag (omega arith) (omega arith)
-    (part_there a.s.now a.at a.tag (omega arith) (omega arith) _ _ l c.if-n-s.true)
+    let l = len_some a.s.now (a.at + 1) (omega (arith, c.in_ok-get.ensures.lookup.3.0)) (sym c.in_ok-n.was ∙ c.len_at.ensures) in
+    sym (read_none (tlv_dec a.tag) a.s.now a.at (λ _. part_cut a.s.now a.at a.tag c.in_ok-get.ensures.lookup.3.0 (omega (arith, c.in_ok-get.ensures.lookup.3.1 0)) _ _ l (omega arith)))
+
+pub slice_bounds-result-end : goal.slice_bounds-result-end
+slice_bounds-result-end c =
+    let a = c.args in
+    let l = len_some a.s.now (a.at + 1) (omega (arith, c.in_ok-get.ensures.lookup.3.0)) (sym c.in_ok-n.was ∙ c.len_at.ensures) in
+    omega arith
 
 pub returns : goal.returns
 returns c =
     let a = c.args in
-    let l = len_some a.s.now (a.at + 1) (omega arith) (sym c.in-Size.is ∙ c.len_at.ensures) in
-    lies_not a.s.now a.at a.tag (part_cut a.s.now a.at a.tag (omega arith) (omega arith) _ _ l c.if-n-s.false)
+    let l = len_some a.s.now (a.at + 1) (omega (arith, c.in_ok-get.ensures.lookup.3.0)) (sym c.in_ok-n.was ∙ c.len_at.ensures) in
+    sym (read_some (tlv_dec a.tag) a.s.now a.at (omega (arith, c.in_ok-get.ensures.lookup.3.0)) (omega arith) (part_there a.s.now a.at a.tag c.in_ok-get.ensures.lookup.3.0 (omega (arith, c.in_ok-get.ensures.lookup.3.1 0)) _ _ l (omega arith)))

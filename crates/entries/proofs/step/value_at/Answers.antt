@@ -31,14 +31,14 @@ returns-in_default c =
 pub overflow_sub-s-2 : goal.overflow_sub-s-2
 overflow_sub-s-2 c =
     let a = c.args in
-    (len_some a.s.now (a.at + 1) (omega arith) (sym c.in-Size.is ∙ c.len_at.ensures)).0
+    (len_some a.s.now (a.at + 1) (omega arith) (sym c.in-Some.is ∙ c.len_at.ensures)).0
 
 pub returns-then-n-s : goal.returns-then-n-s
 returns-then-n-s c =
     let a = c.args in
     let t = sym c.is_tag.ensures ∙ c.if-not-is_tag.false in
     whole_value a.s.now a.from a.at _ _ c.if-n-s.true
-    ∙ tagged a.s.now a.from a.at (omega arith) t (sym c.in-Size.is ∙ c.len_at.ensures)
+    ∙ tagged a.s.now a.from a.at (omega arith) t (sym c.in-Some.is ∙ c.len_at.ensures)
 
 pub returns-then-n-gt1020 : goal.returns-then-n-gt1020
 returns-then-n-gt1020 c =
@@ -46,7 +46,7 @@ returns-then-n-gt1020 c =
     let t = sym c.is_tag.ensures ∙ c.if-not-is_tag.false in
     long_value a.s.now a.from a.at _ _ c.if-n-s.false c.if-n-gt1020.true
     ∙ tagged a.s.now a.from a.at (omega arith) t
-    (sym c.in-Size.is ∙ c.len_at.ensures)
+    (sym c.in-Some.is ∙ c.len_at.ensures)
 
 pub returns : goal.returns
 returns c =
@@ -54,4 +54,4 @@ returns c =
     let t = sym c.is_tag.ensures ∙ c.if-not-is_tag.false in
     cut_value a.s.now a.from a.at _ _ c.if-n-s.false c.if-n-gt1020.false
     ∙ tagged a.s.now a.from a.at (omega arith) t
-    (sym c.in-Size.is ∙ c.len_at.ensures)
+    (sym c.in-Some.is ∙ c.len_at.ensures)

@@ -1,28 +1,22 @@
 -- `mcdr::read::read_record` meets its contract: a law for each answer.
-use mathlib.Core.Path.{◌∙◌}
-use native.Mathlib.Omega.{arith}
-use Rattle.ber.proofs.Places.{lies_fits}
-use Rattle.mcdr.proofs.Accepting.{record_not, record_is, wire_yes, wire_no, reads_record, reads_nothing}
+use mathlib.Core.Path.{refl, sym, ◌∙◌}
+use borrow.Author.Tests.{eq-eqb, ne_eqb}
+use Rattle.ber.proofs.Readers.{guard_is}
+use Rattle.mcdr.proofs.Accepting.{mcdr_is, inside_none, inside_some}
 use Rattle.mcdr.proofs.read.read_record.Goals as goal
 
-pub returns-then-to-s : goal.returns-then-to-s
-returns-then-to-s c = reads_nothing _ (record_not c.part_at-part.ensures c.if-to-s.true) c.no_record.ensures
+pub returns-in_err-contents : goal.returns-in_err-contents
+returns-in_err-contents c = rw (mcdr_is c.args.s.now, ← c.part_at.ensures, c.in_err-contents.was) c.from_residual.ensures
 
-pub slice_bounds-read_fields-count : goal.slice_bounds-read_fields-count
-slice_bounds-read_fields-count c = (lies_fits c.part_at-part.ensures).0
+pub returns-then-end-s : goal.returns-then-end-s
+returns-then-end-s c = rw (mcdr_is c.args.s.now, ← c.part_at.ensures, c.in_ok-contents.was, ne_eqb _ _ c.if-end-s.true) refl
 
-pub slice_bounds-read_fields-start : goal.slice_bounds-read_fields-start
-slice_bounds-read_fields-start c = omega (arith, lies_fits c.part_at-part.ensures)
-
-pub slice_bounds-read_fields-end : goal.slice_bounds-read_fields-end
-slice_bounds-read_fields-end c = omega (arith, lies_fits c.part_at-part.ensures)
-
-pub returns-then-wire-within : goal.returns-then-wire-within
-returns-then-wire-within c =
-    reads_record _ (record_is c.part_at-part.ensures c.if-to-s.false
-    ∙ wire_yes _ c.read_fields-wire.ensures (rw c.within.ensures at c.if-wire-within.true))
+pub returns-in_err-cdr : goal.returns-in_err-cdr
+returns-in_err-cdr c =
+    let n = inside_none c.in_ok-contents.contents.now (sym c.read_fields.ensures.reads ∙ c.in_err-cdr.was) in
+    rw (mcdr_is c.args.s.now, ← c.part_at.ensures, c.in_ok-contents.was, eq-eqb _ _ c.if-end-s.false, n) c.from_residual-in_err-cdr.ensures
 
 pub returns : goal.returns
 returns c =
-    reads_nothing _ (record_is c.part_at-part.ensures c.if-to-s.false
-    ∙ wire_no _ c.read_fields-wire.ensures (rw c.within.ensures at c.if-wire-within.false)) c.no_record-2.ensures
+    let y = inside_some c.in_ok-contents.contents.now c.in_ok-cdr.cdr (sym c.read_fields.ensures.reads ∙ c.in_ok-cdr.was) c.in_ok-cdr.ensures.octet in
+    rw (mcdr_is c.args.s.now, ← c.part_at.ensures, c.in_ok-contents.was, eq-eqb _ _ c.if-end-s.false, y, c.then_some.ensures, c.within.ensures) (guard_is _ _)

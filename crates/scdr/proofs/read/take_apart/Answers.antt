@@ -1,44 +1,64 @@
 -- `scdr::read::take_apart` meets its contract: a law for each answer.
-use mathlib.Core.Path.{◌∙◌}
+use mathlib.Core.Path.{sym, ap, ◌≡◌, ◌∙◌}
+use Rattle.std.specs.Prelude.{Some}
 use native.Mathlib.Omega.{arith}
-use Rattle.ber.proofs.Places.{lies_fits, lies_length}
-use Rattle.scdr.proofs.Accepting.{record_not, record_is, wire_yes, wire_no, wire_ends, taken_record, taken_nothing}
+use borrow.Author.Tests.{eq-eqb, ne_eqb}
+use Rattle.ber.specs.Read.{octets_of}
+use Rattle.scdr.specs.Layout.{scdr}
+use Rattle.scdr.proofs.Accepting.{scdr_is, name_at, name_ends, read_part}
 use Rattle.scdr.proofs.read.take_apart.Goals as goal
 
-pub returns-then-to-s : goal.returns-then-to-s
-returns-then-to-s c = taken_nothing c.args.s.now (record_not c.part_at-part.ensures c.if-to-s.true) c.no_record.ensures
+pub returns-in_err-contents : goal.returns-in_err-contents
+returns-in_err-contents c = rw (c.from_residual.ensures, scdr_is c.args.s.now, ← c.part_at.ensures, c.in_err-contents.was)
 
-pub slice_bounds-read_fields-count : goal.slice_bounds-read_fields-count
-slice_bounds-read_fields-count c = (lies_fits c.part_at-part.ensures).0
+pub returns-then-end-s : goal.returns-then-end-s
+returns-then-end-s c = rw (scdr_is c.args.s.now, ← c.part_at.ensures, c.in_ok-contents.was, ne_eqb _ _ c.if-end-s.true)
 
-pub slice_bounds-read_fields-start : goal.slice_bounds-read_fields-start
-slice_bounds-read_fields-start c = omega (arith, lies_fits c.part_at-part.ensures)
+pub returns-in_err-wire : goal.returns-in_err-wire
+returns-in_err-wire c =
+    rw (
+      c.from_residual-in_err-wire.ensures,
+      scdr_is c.args.s.now,
+      ← c.part_at.ensures,
+      c.in_ok-contents.was,
+      eq-eqb _ _ c.if-end-s.false,
+      ← c.read_fields.ensures,
+      c.in_err-wire.was,
+    )
 
-pub slice_bounds-read_fields-end : goal.slice_bounds-read_fields-end
-slice_bounds-read_fields-end c = omega (arith, lies_fits c.part_at-part.ensures)
-
-pub overflow_add-name_end : goal.overflow_add-name_end
-overflow_add-name_end c =
-    let l = c.part_at-part.ensures in
-    let v = c.read_fields-wire.ensures in
-    omega (arith, lies_fits l, lies_length l, (wire_ends _ v (rw c.passes.ensures at c.if-wire-passes.true)).inside)
+pub returns-then-not-passes : goal.returns-then-not-passes
+returns-then-not-passes c =
+    rw (
+      scdr_is c.args.s.now,
+      ← c.part_at.ensures,
+      c.in_ok-contents.was,
+      eq-eqb _ _ c.if-end-s.false,
+      ← c.read_fields.ensures,
+      c.in_ok-wire.was,
+      ← c.passes.ensures,
+      c.if-not-passes.true,
+    )
 
 pub overflow_sub-result : goal.overflow_sub-result
-overflow_sub-result c =
-    let l = c.part_at-part.ensures in
-    let v = c.read_fields-wire.ensures in
-    omega (arith, (wire_ends _ v (rw c.passes.ensures at c.if-wire-passes.true)).order)
+overflow_sub-result c = (read_part c.args.s.now (sym c.part_at.ensures ∙ ap octets_of c.in_ok-contents.was)).0
 
-pub returns-then-wire-passes : goal.returns-then-wire-passes
-returns-then-wire-passes c =
-    let l = c.part_at-part.ensures in
-    let v = c.read_fields-wire.ensures in
-    let asked = rw c.passes.ensures at c.if-wire-passes.true in
-    taken_record l (wire_ends _ v asked) (record_is l c.if-to-s.false ∙ wire_yes _ v asked)
+pub overflow_add-result : goal.overflow_add-result
+overflow_add-result c =
+    let (a, b) = read_part c.args.s.now (sym c.part_at.ensures ∙ ap octets_of c.in_ok-contents.was) in
+    let u = name_ends c.in_ok-contents.contents.now c.in_ok-wire.wire (sym c.read_fields.ensures ∙ c.in_ok-wire.was) in
+    omega (arith, a, b, u.inside)
 
 pub returns : goal.returns
 returns c =
-    let l = c.part_at-part.ensures in
-    let v = c.read_fields-wire.ensures in
-    let asked = rw c.passes.ensures at c.if-wire-passes.false in
-    taken_nothing _ (record_is l c.if-to-s.false ∙ wire_no _ v asked) c.no_record-2.ensures
+    let d : scdr.dec c.args.s.now ≡ Some c.in_ok-wire.wire.cdr =
+    rw (
+      scdr_is c.args.s.now,
+      ← c.part_at.ensures,
+      c.in_ok-contents.was,
+      eq-eqb _ _ c.if-end-s.false,
+      ← c.read_fields.ensures,
+      c.in_ok-wire.was,
+      ← c.passes.ensures,
+      c.if-not-passes.false,
+    ) in
+    (d, name_at (sym c.part_at.ensures ∙ ap octets_of c.in_ok-contents.was) (sym c.read_fields.ensures ∙ c.in_ok-wire.was) d)

@@ -1,2 +1,0 @@
--- What functions that no other crate can name promise.
-pub mod Says
