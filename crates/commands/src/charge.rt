@@ -5,16 +5,15 @@
 // The events of a file are charged from a fresh node, one after another, up to the first that is refused (charging::charge, on what is in the
 // window; a file that is cut into windows gives what the whole gives). The record list goes to standard output, what was done and what is
 // wrong to standard error (docs/FORMATS.md).
-use crate::refusal;
+use crate::refusal::Refused;
 use charging::Charged;
 use node::Node;
 use profile::Profile;
 use setup::{Command, Turns};
 use std::env::Env;
 use std::io;
-use std::io::{Read, Stderr, Stdout};
+use std::io::{Read, Stderr, Stdout, Write};
 use std::rt::Files;
-use template::{four, say};
 use window::Input;
 
 // The longest event.
@@ -64,8 +63,11 @@ impl<'a, F: Read> Charge<'a, F> {
             .wrapping_add(entries::count::count(written) as u64);
         self.octets = self.octets.wrapping_add(written.len() as u64);
         if r.answer != 0 {
-            let next = self.events.wrapping_add(1);
-            refusal::say_refused(self.command.error, r.answer, next, self.input.place.offset);
+            self.command.say(&Refused {
+                answer: r.answer,
+                number: self.events.wrapping_add(1),
+                offset: self.input.place.offset,
+            });
             return false;
         }
         !self.input.ended || r.came != 0
@@ -74,23 +76,25 @@ impl<'a, F: Read> Charge<'a, F> {
     // An event's records could not be written, and why: the last event's, which has so many octets.
     fn say_unwritten(&self, last: usize, why: io::Error) {
         let offset = self.input.place.offset.wrapping_sub(last as u64);
-        say(
-            self.command.error,
-            b"charge: not written at event %k (octet %l): ",
-            &four(self.events, offset, 0, 0),
-            b"",
+        let mut to = out::to_error(self.command.error);
+        let _ = write!(
+            to,
+            "charge: not written at event {} (octet {offset}): ",
+            self.events
         );
+        let _ = to.flush();
         setup::say_why(self.command.error, b"standard output", why);
     }
 
     // The last line.
     fn say_tally(&self) {
-        say(
-            self.command.error,
-            b"charge: %k events accepted, %l records, %m octets\n",
-            &four(self.events, self.records, self.octets, 0),
-            b"",
+        let mut to = out::to_error(self.command.error);
+        let _ = writeln!(
+            to,
+            "charge: {} events accepted, {} records, {} octets",
+            self.events, self.records, self.octets
         );
+        let _ = to.flush();
     }
 }
 
@@ -111,7 +115,7 @@ fn run<F: Read + Drop>(command: Command, output: Stdout, file: F, profile: Profi
 
 fn command(error: Stderr) -> Command {
     Command {
-        name: b"charge",
+        name: "charge",
         error,
     }
 }
@@ -128,6 +132,6 @@ pub fn main<R: Env + Files>(rt: &R, output: Stdout, error: Stderr) {
     if setup::arg_count(rt) == 4 {
         charge_file(rt, output, error);
     } else {
-        setup::say_line(error, b"usage: charge PROFILE EVENTS\n");
+        setup::say_line(error, &"usage: charge PROFILE EVENTS");
     }
 }

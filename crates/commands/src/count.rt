@@ -5,15 +5,14 @@
 // The list is stepped over by its marks and lengths (tally::count::go_on, on what is in the window; a list that is cut into windows gives
 // what the whole gives). Standard output has one line, the count and the number, or - where the last one carries none; and nothing where the
 // list is refused: standard error says then what does not fit, and where (docs/FORMATS.md).
-use crate::refusal;
+use crate::refusal::Unfit;
 use out::Stream;
 use profile::{address, number};
 use setup::{Command, Turns};
 use std::env::Env;
-use std::io::{Read, Stderr, Stdout};
+use std::io::{Read, Stderr, Stdout, Write};
 use std::rt::Files;
 use tally::Tally;
-use template::four;
 use window::Input;
 
 // The longest record with its mark.
@@ -54,7 +53,11 @@ impl<'a, F: Read> Count<'a, F> {
         let t = self.tally;
         let answer = tally::count::answer(t.fault);
         if answer != 0 {
-            refusal::say_unfit(self.command.error, answer, t.fault, t.at as u64);
+            self.command.say(&Unfit {
+                answer,
+                fault: t.fault,
+                offset: t.at as u64,
+            });
         } else if self.input.ended {
             write_count(self.command, &mut out::to_output(output), t);
         }
@@ -63,8 +66,11 @@ impl<'a, F: Read> Count<'a, F> {
 
 // The line: how many records there are, and the number of the last.
 fn write_count(command: Command, to: &mut Stream, t: Tally) {
-    let v = four(t.count as u64, t.number, (t.number != 0) as u64, 0);
-    if !template::write(to, b"%k %M-%;%l%.\n", &v, b"") {
+    let _ = match t.number {
+        0 => writeln!(to, "{} -", t.count),
+        number => writeln!(to, "{} {number}", t.count),
+    };
+    if to.flush().is_err() {
         command.fail_output(to);
     }
 }
@@ -102,14 +108,14 @@ pub fn count_file<R: Env + Files>(rt: &R, output: Stdout, error: Stderr, argumen
     let Some(id) = id_of(rt, argument.wrapping_add(1)) else {
         setup::say_line(
             error,
-            b"count: ID is a whole number of 0 to 4294967295 in decimal, without zeros in front\n",
+            &"count: ID is a whole number of 0 to 4294967295 in decimal, without zeros in front",
         );
         return;
     };
     let Some(ggsn) = address_of(rt, argument.wrapping_add(2)) else {
         setup::say_line(
             error,
-            b"count: GGSN is an address: four numbers of 0 to 255 with dots\n",
+            &"count: GGSN is an address: four numbers of 0 to 255 with dots",
         );
         return;
     };
@@ -120,7 +126,7 @@ pub fn count_file<R: Env + Files>(rt: &R, output: Stdout, error: Stderr, argumen
 
 fn command(error: Stderr) -> Command {
     Command {
-        name: b"count",
+        name: "count",
         error,
     }
 }
@@ -129,6 +135,6 @@ pub fn main<R: Env + Files>(rt: &R, output: Stdout, error: Stderr) {
     if setup::arg_count(rt) == 5 {
         count_file(rt, output, error, 2);
     } else {
-        setup::say_line(error, b"usage: count RECORDS ID GGSN\n");
+        setup::say_line(error, &"usage: count RECORDS ID GGSN");
     }
 }

@@ -7,15 +7,14 @@
 // been written then. The last line on standard error says how many records were shown, and how many octets of the file they take.
 // docs/FORMATS.md has both forms.
 use entries::Entry;
-use entries::read::ReadEntry;
+use entries::read::Cdr;
 use out::Stream;
 use setup::{Command, Turns};
 use shown::{Shown, Style};
 use std::env::Env;
-use std::io;
 use std::io::{Read, Stderr, Stdout, Write};
 use std::rt::Files;
-use template::{four, say};
+use std::{fmt, io};
 use window::Input;
 
 // The longest record with its mark.
@@ -29,13 +28,13 @@ enum Wrong {
     NoRecord,
 }
 
-impl Wrong {
-    fn words(self) -> &'static [u8] {
-        match self {
-            Wrong::NoMark => b"no mark",
-            Wrong::Cut => b"cut short",
-            Wrong::NoRecord => b"not a record within the rules",
-        }
+impl fmt::Display for Wrong {
+    fn fmt<W: fmt::Write>(&self, f: &mut fmt::Formatter<W>) -> fmt::Result {
+        f.write_str(match self {
+            Wrong::NoMark => "no mark",
+            Wrong::Cut => "cut short",
+            Wrong::NoRecord => "not a record within the rules",
+        })
     }
 }
 
@@ -65,12 +64,12 @@ impl<'a, F: Read> Show<'a, F> {
     // write has failed.
     fn show_next(&mut self) -> bool {
         let r = entries::read::read_entry(self.input.here(), 0);
-        match r.entry {
-            Entry::Found(_, end) if r.answer == 0 => self.show(&r, end).is_ok(),
-            Entry::End => false,
-            Entry::NoMark(_) => self.stop(Wrong::NoMark),
-            Entry::Cut(_) => self.stop(Wrong::Cut),
-            Entry::Found(_, _) | Entry::NoValue(_) => self.stop(Wrong::NoRecord),
+        match (r.entry, r.cdr) {
+            (Entry::Found(_, end), Some(cdr)) => self.show(&cdr, end).is_ok(),
+            (Entry::End, _) => false,
+            (Entry::NoMark(_), _) => self.stop(Wrong::NoMark),
+            (Entry::Cut(_), _) => self.stop(Wrong::Cut),
+            (Entry::Found(_, _) | Entry::NoValue(_), _) => self.stop(Wrong::NoRecord),
         }
     }
 
@@ -80,16 +79,19 @@ impl<'a, F: Read> Show<'a, F> {
     }
 
     // A record, whose entry takes so many octets of the file.
-    fn show(&mut self, r: &ReadEntry, end: usize) -> io::Result<()> {
+    fn show(&mut self, cdr: &Cdr, end: usize) -> io::Result<()> {
         let before = self.input.place.offset;
         self.input.pass(end);
         self.records = self.records.wrapping_add(1);
-        if r.mm {
-            let shown = self.shown(&r.mmcdr, before, end);
-            write!(self.to, "{shown}")
-        } else {
-            let shown = self.shown(&r.cdr, before, end);
-            write!(self.to, "{shown}")
+        match cdr {
+            Cdr::Pdp(record) => {
+                let shown = self.shown(record, before, end);
+                write!(self.to, "{shown}")
+            }
+            Cdr::Mm(record) => {
+                let shown = self.shown(record, before, end);
+                write!(self.to, "{shown}")
+            }
         }
     }
 
@@ -112,20 +114,17 @@ impl<'a, F: Read> Show<'a, F> {
             return;
         }
         let offset = self.input.place.offset;
+        let records = self.records;
+        let mut to = out::to_error(self.command.error);
         if let Some(wrong) = self.wrong {
-            say(
-                self.command.error,
-                b"show: refused 20 at record %l (octet %m): %a\n",
-                &four(0, self.records.wrapping_add(1), offset, 0),
-                wrong.words(),
+            let next = records.wrapping_add(1);
+            let _ = writeln!(
+                to,
+                "show: refused 20 at record {next} (octet {offset}): {wrong}"
             );
         }
-        say(
-            self.command.error,
-            b"show: %n records, %m octets\n",
-            &four(0, 0, offset, self.records),
-            b"",
-        );
+        let _ = writeln!(to, "show: {records} records, {offset} octets");
+        let _ = to.flush();
     }
 }
 
@@ -145,7 +144,7 @@ fn run<F: Read + Drop>(command: Command, to: Stream, file: F, style: Style) {
 
 fn command(error: Stderr) -> Command {
     Command {
-        name: b"show",
+        name: "show",
         error,
     }
 }
@@ -169,6 +168,6 @@ pub fn main<R: Env + Files>(rt: &R, output: Stdout, error: Stderr) {
     match (setup::arg_count(rt), json) {
         (3, false) => show_file(rt, output, error, 2, Style::Text),
         (4, true) => show_file(rt, output, error, 3, Style::Json),
-        _ => setup::say_line(error, b"usage: show [--json] RECORDS\n"),
+        _ => setup::say_line(error, &"usage: show [--json] RECORDS"),
     }
 }

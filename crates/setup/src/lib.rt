@@ -10,12 +10,10 @@ ghost use Rattle.node.specs.Sound.{fresh_of};
 use node::Node;
 use out::Stream;
 use profile::Profile;
-use profile::fault::BadLine;
 use std::env::{Env, FillError};
 use std::io::{Cursor, ErrorKind, Read, Stderr, Write};
 use std::rt::Files;
-use std::{fs, io};
-use template::{four, say};
+use std::{fmt, fs, io};
 use window::Input;
 
 // The numbers that the system has for an argument that is missing, and for a name that is too long.
@@ -39,16 +37,18 @@ pub fn say_why(error: Stderr, what: &[u8], why: io::Error) {
     let text = cursor.into_inner();
     let said = octets::front(&text, end as usize);
     let mut to = out::to_error(error);
-    out::write_all(&mut to, what);
-    out::write_all(&mut to, b": ");
-    out::write_all(&mut to, octets::front(said, words(said)));
-    out::write_all(&mut to, b"\n");
+    let _ = to.write_all(what);
+    let _ = to.write_all(b": ");
+    let _ = to.write_all(octets::front(said, words(said)));
+    let _ = to.write_all(b"\n");
+    let _ = to.flush();
 }
 
 // Says a line as it stands.
-pub fn say_line(error: Stderr, line: &[u8]) {
+pub fn say_line(error: Stderr, line: &impl fmt::Display) {
     let mut to = out::to_error(error);
-    out::write_all(&mut to, line);
+    let _ = writeln!(to, "{line}");
+    let _ = to.flush();
 }
 
 // How many arguments there are, the program's own name among them.
@@ -107,16 +107,22 @@ pub fn run<T: Turns>(turns: &mut T) {
 // A command: its name, with which it says what is wrong, and standard error, where it does.
 #[derive(Clone, Copy)]
 pub struct Command {
-    pub name: &'static [u8],
+    pub name: &'static str,
     pub error: Stderr,
 }
 
 impl Command {
+    // Says a line, after the command's name.
+    pub fn say(self, line: &impl fmt::Display) {
+        let name = self.name;
+        say_line(self.error, &format_args!("{name}: {line}"));
+    }
+
     // Says what failed, and why, after the command's name.
     pub fn fail(self, what: &[u8], why: io::Error) {
         let mut to = out::to_error(self.error);
-        out::write_all(&mut to, self.name);
-        out::write_all(&mut to, b": ");
+        let _ = write!(to, "{}: ", self.name);
+        let _ = to.flush();
         say_why(self.error, what, why);
     }
 
@@ -187,12 +193,7 @@ impl Command {
         if n < text.len() {
             return self.profile_of_text(octets::front(text, n));
         }
-        say(
-            self.error,
-            b"%a: the profile has more than 4,095 octets\n",
-            &four(0, 0, 0, 0),
-            self.name,
-        );
+        self.say(&"the profile has more than 4,095 octets");
         None
     }
 
@@ -201,11 +202,11 @@ impl Command {
         match profile::text::read_profile(s) {
             Ok(profile) if profile::profile_ok(profile) => Some(profile),
             Ok(_) => {
-                self.say_range();
+                self.say(&OUT_OF_RANGE);
                 None
             }
             Err(bad) => {
-                self.say_bad(bad);
+                self.say(&bad);
                 None
             }
         }
@@ -218,31 +219,12 @@ impl Command {
         let file = self.open(rt, argument)?;
         Some((profile, file))
     }
-
-    // Says that a profile is out of range.
-    fn say_range(self) {
-        say(
-            self.error,
-            b"%a: refused 12: the profile is out of range: limits of 1 to 1000000000000 octets, 1 to 604800 seconds and \
-1 to 15 changes, offset -720 to 840, node-id of up to 20 characters from space to ~\n",
-            &four(0, 0, 0, 0),
-            self.name,
-        );
-    }
-
-    // Says what is wrong with a line of a profile.
-    fn say_bad(self, bad: BadLine) {
-        let mut cursor = Cursor::new([0u8; 256]);
-        let _ = write!(cursor, "{bad}");
-        let end = cursor.position();
-        let text = cursor.into_inner();
-        let mut to = out::to_error(self.error);
-        out::write_all(&mut to, self.name);
-        out::write_all(&mut to, b": ");
-        out::write_all(&mut to, octets::front(&text, end as usize));
-        out::write_all(&mut to, b"\n");
-    }
 }
+
+// What is said of a profile that reads, and is out of range.
+const OUT_OF_RANGE: &str =
+    "refused 12: the profile is out of range: limits of 1 to 1000000000000 octets, 1 to 604800 seconds and 1 to 15 changes, \
+offset -720 to 840, node-id of up to 20 characters from space to ~";
 
 // The node that a profile in range sets up.
 pub fn node_of(p: Profile) -> Node

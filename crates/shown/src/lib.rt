@@ -13,6 +13,7 @@ mod values;
 use mcdr::MmRecord;
 use scdr::Record;
 use std::fmt;
+pub use values::Hex;
 
 // The forms.
 #[derive(Clone, Copy, PartialEq, Eq, Debug)]

@@ -12,10 +12,11 @@ use node::{Node, refusal};
 use out::Stream;
 use profile::Profile;
 use setup::{Command, Turns};
+use shown::Hex;
 use std::env::Env;
-use std::io::{Read, Stderr, Stdout};
+use std::fmt;
+use std::io::{Read, Stderr, Stdout, Write};
 use std::rt::Files;
-use template::{four, say};
 use window::Input;
 
 // The largest room, the longest event, and the longest list.
@@ -40,6 +41,17 @@ enum Wrong {
     Room(usize),
     Event(usize),
     List(usize),
+}
+
+impl fmt::Display for Wrong {
+    fn fmt<W: fmt::Write>(&self, f: &mut fmt::Formatter<W>) -> fmt::Result {
+        match self {
+            Wrong::Ends => write!(f, "the file ends within the call"),
+            Wrong::Room(n) => write!(f, "a room of {n} octets; at most {ROOM}"),
+            Wrong::Event(n) => write!(f, "an event of {n} octets; at most {EVENT}"),
+            Wrong::List(n) => write!(f, "a batch of {n} numbers; at most {LIST}"),
+        }
+    }
 }
 
 // The call that octets begin with, if it is there whole.
@@ -167,39 +179,27 @@ impl<'a, F: Read> Calls<'a, F> {
 
     // Writes a line: the answer, of a list how many pairs were applied, how many octets were written, and these in hex.
     fn write_line(&mut self, r: &Called, octets: &[u8]) -> bool {
-        let v = four(
-            r.answer as u64,
-            r.written as u64,
-            r.applied.unwrap_or(0) as u64,
-            0,
-        );
-        let form = match r.applied {
-            Some(_) => b"batch %k %m %l %x\n".as_slice(),
-            None => b"%k %l %x\n".as_slice(),
+        let (answer, written, hex) = (r.answer, r.written, Hex(octets));
+        let _ = match r.applied {
+            Some(applied) => writeln!(self.to, "batch {answer} {applied} {written} {hex}"),
+            None => writeln!(self.to, "{answer} {written} {hex}"),
         };
-        let written = template::write(&mut self.to, form, &v, octets);
-        if !written {
+        let done = self.to.flush().is_ok();
+        if !done {
             self.command.fail_output(&self.to);
         }
-        written
+        done
     }
 
     // Says what is wrong with the next call.
     fn stop(&mut self, wrong: Wrong) -> bool {
-        let (form, size) = match wrong {
-            Wrong::Ends => (b"the file ends within the call\n".as_slice(), 0),
-            Wrong::Room(n) => (b"a room of %n octets; at most 20000\n".as_slice(), n),
-            Wrong::Event(n) => (b"an event of %n octets; at most 300\n".as_slice(), n),
-            Wrong::List(n) => (b"a batch of %n numbers; at most 1000\n".as_slice(), n),
-        };
-        let v = four(self.number, self.input.place.offset, 0, size as u64);
-        say(
-            self.command.error,
-            b"calls: call %k, at octet %l of the file: ",
-            &v,
-            b"",
+        let mut to = out::to_error(self.command.error);
+        let _ = writeln!(
+            to,
+            "calls: call {}, at octet {} of the file: {wrong}",
+            self.number, self.input.place.offset
         );
-        say(self.command.error, form, &v, b"");
+        let _ = to.flush();
         false
     }
 }
@@ -219,7 +219,7 @@ fn run<F: Read + Drop>(command: Command, output: Stdout, file: F, profile: Profi
 // The file that an argument names, from a fresh node.
 pub fn run_file<R: Env + Files>(rt: &R, output: Stdout, error: Stderr, argument: usize) {
     let command = Command {
-        name: b"calls",
+        name: "calls",
         error,
     };
     if let Some((profile, file)) = command.start(rt, argument) {
@@ -231,6 +231,6 @@ pub fn main<R: Env + Files>(rt: &R, output: Stdout, error: Stderr) {
     if setup::arg_count(rt) == 4 {
         run_file(rt, output, error, 3);
     } else {
-        setup::say_line(error, b"usage: calls PROFILE CALLS\n");
+        setup::say_line(error, &"usage: calls PROFILE CALLS");
     }
 }

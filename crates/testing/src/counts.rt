@@ -9,60 +9,55 @@
 use crate::lent;
 use crate::records::block;
 use out::Stream;
-use setup::Command;
+use setup::{Command, Turns};
 use std::env::Env;
-use std::io::{Read, Stderr};
-use std::num::wrapping_add_usize;
+use std::io::{Read, Stderr, Stdout, Write};
 use std::rt::Files;
 use tally::{Fault, Tally};
-use template::four;
 
 // The longest record with its mark: no window is narrower.
 const LONGEST: usize = 1026;
 
-// The number of what does not fit, for the form below.
-fn number_of(f: Fault) -> u64 {
+// What does not fit, in a word.
+fn word_of(f: Fault) -> &'static str {
     match f {
-        Fault::None => 0,
-        Fault::Mark => 1,
-        Fault::Cut => 2,
-        Fault::Value => 3,
-        Fault::Field => 4,
+        Fault::None => "",
+        Fault::Mark => "mark",
+        Fault::Cut => "cut",
+        Fault::Value => "value",
+        Fault::Field => "field",
     }
 }
 
 // Writes the line of a case.
 fn write_tally(to: &mut Stream, t: Tally) {
-    let f = t.fault;
-    let answer = tally::count::answer(f);
-    if answer != 0 {
-        let v = four(answer as u64, number_of(f), t.at as u64, 0);
-        template::write(to, b"%k %L%;mark%;cut%;value%;field%. %m\n", &v, b"");
-        return;
-    }
-    let v = four(t.count as u64, t.number, (t.number != 0) as u64, 0);
-    template::write(to, b"0 %k %M-%;%l%.\n", &v, b"");
+    let answer = tally::count::answer(t.fault);
+    let _ = if answer != 0 {
+        writeln!(to, "{answer} {} {}", word_of(t.fault), t.at)
+    } else if t.number == 0 {
+        writeln!(to, "0 {} -", t.count)
+    } else {
+        writeln!(to, "0 {} {}", t.count, t.number)
+    };
+    let _ = to.flush();
 }
 
 // One turn: counts on over what a window of so many octets shows of the list.
-fn turn(t: Tally, list: &[u8], wide: usize, id: u32, ggsn: u32) -> Tally {
+fn count_on(t: Tally, list: &[u8], wide: usize, id: u32, ggsn: u32) -> Tally {
     let here = octets::front(octets::part(list, t.at, list.len()), wide);
-    let ended = list.len() <= wrapping_add_usize(t.at, wide);
+    let ended = list.len() <= t.at.wrapping_add(wide);
     tally::count::go_on(t, here, ended, id, ggsn)
 }
 
 // In turns, until one has a fault or moves no further. Each moves by an octet at least, and a list has less than 65,536.
 fn in_turns(list: &[u8], wide: usize, id: u32, ggsn: u32) -> Tally {
     let mut t = tally::count::START;
-    let mut turns: u32 = 65536;
-    while 0 < turns {
-        let u = turn(t, list, wide, id, ggsn);
-        let f = u.fault;
-        if (u.at == t.at) | (tally::count::answer(f) != 0) {
-            return u;
+    for _ in 0..65536 {
+        let from = t.at;
+        t = count_on(t, list, wide, id, ggsn);
+        if t.at == from || tally::count::answer(t.fault) != 0 {
+            break;
         }
-        t = u;
-        turns -= 1;
     }
     t
 }
@@ -73,69 +68,66 @@ fn tally_of(head: &[u8], list: &[u8]) -> Tally {
     let ggsn = block::four(head, 4);
     let wide = block::two(head, 8);
     if wide < LONGEST {
-        return tally::count::count(list, id, ggsn);
+        tally::count::count(list, id, ggsn)
+    } else {
+        in_turns(list, wide, id, ggsn)
     }
-    in_turns(list, wide, id, ggsn)
 }
 
-fn cut_short(error: Stderr) -> bool {
-    setup::say_line(error, b"counts: the last case is cut short\n");
-    false
-}
-
-// Takes the n octets of a list, and answers whether they were there.
-fn take_list<F: Read>(
-    to: &mut Stream,
+// A file of cases.
+#[derive(Drop)]
+struct Counts<F> {
+    to: Stream,
     error: Stderr,
-    file: &mut F,
-    head: &[u8],
-    b: &mut [u8],
-    n: usize,
-) -> bool {
-    let got = window::read_full(file, lent(b, n));
-    if got < n {
-        return cut_short(error);
-    }
-    write_tally(to, tally_of(head, octets::front(b, n)));
-    true
+    file: F,
 }
 
-// Takes one case from a file, and answers whether to go on.
-fn one<F: Read>(to: &mut Stream, error: Stderr, file: &mut F) -> bool {
-    let mut head = [0u8; 12];
-    let h = window::read_full(file, &mut head);
-    if h == 0 {
-        return false;
+impl<F: Read> Turns for Counts<F> {
+    // Takes one case, and answers whether to go on.
+    fn turn(&mut self) -> bool {
+        let mut head = [0u8; 12];
+        match window::read_full(&mut self.file, &mut head) {
+            0 => false,
+            12 => self.take_list(&head),
+            _ => self.cut_short(),
+        }
     }
-    if h < 12 {
-        return cut_short(error);
-    }
-    let mut b = [0u8; 65536];
-    take_list(to, error, file, &head, &mut b, block::two(&head, 10))
 }
 
-// Counts its turns down, as `records` does.
-fn all<F: Read>(to: &mut Stream, error: Stderr, file: &mut F) {
-    let mut turns = u64::MAX;
-    while turns > 0 && one(to, error, file) {
-        turns -= 1;
+impl<F: Read> Counts<F> {
+    // Takes the list of a case, and answers whether it was there.
+    fn take_list(&mut self, head: &[u8]) -> bool {
+        let mut b = [0u8; 65536];
+        let n = block::two(head, 10);
+        if window::read_full(&mut self.file, lent(&mut b, n)) < n {
+            return self.cut_short();
+        }
+        write_tally(&mut self.to, tally_of(head, octets::front(&b, n)));
+        true
+    }
+
+    fn cut_short(&self) -> bool {
+        setup::say_line(self.error, &"counts: the last case is cut short");
+        false
     }
 }
 
 // The cases of the file that an argument names.
-pub fn count_file<R: Env + Files>(rt: &R, to: &mut Stream, error: Stderr, argument: usize) {
-    if let Some(mut file) = command(error).open(rt, argument) {
-        all(to, error, &mut file);
-    }
-}
-
-fn command(error: Stderr) -> Command {
-    Command {
-        name: b"counts",
+pub fn count_file<R: Env + Files>(rt: &R, output: Stdout, error: Stderr, argument: usize) {
+    let command = Command {
+        name: "counts",
         error,
+    };
+    if let Some(file) = command.open(rt, argument) {
+        main(output, error, file);
     }
 }
 
-pub fn main<F: Read>(to: &mut Stream, error: Stderr, input: &mut F) {
-    all(to, error, input);
+pub fn main<F: Read + Drop>(output: Stdout, error: Stderr, file: F) {
+    let mut counts = Counts {
+        to: out::to_output(output),
+        error,
+        file,
+    };
+    setup::run(&mut counts);
 }

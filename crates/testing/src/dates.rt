@@ -7,40 +7,59 @@
 use crate::records::block;
 use calendar::Stamp;
 use out::Stream;
-use std::io::{Read, Stderr};
-use template::four;
+use setup::Turns;
+use shown::Hex;
+use std::io;
+use std::io::{Read, Stderr, Stdout, Write};
+
+// The octets of a time, and what they are read as.
+fn put_octets(to: &mut Stream, octets: &[u8]) -> io::Result<()> {
+    match calendar::stamp_of(octets) {
+        Some(back) => writeln!(to, "{} {} {}", Hex(octets), back.seconds, back.zone),
+        None => writeln!(to, "none"),
+    }
+}
 
 // One time.
 fn write_time(to: &mut Stream, t: Stamp) {
-    if let Some(octets) = calendar::stamp_octets(t) {
-        if let Some(back) = calendar::stamp_of(&octets) {
-            let v = four(u64::from(back.seconds), u64::from(back.zone), 0, 0);
-            template::write(to, b"%x %k %l\n", &v, &octets);
-            return;
+    let _ = match calendar::stamp_octets(t) {
+        Some(octets) => put_octets(to, &octets),
+        None => writeln!(to, "none"),
+    };
+    let _ = to.flush();
+}
+
+// A file of times.
+#[derive(Drop)]
+struct Dates<F> {
+    to: Stream,
+    error: Stderr,
+    file: F,
+}
+
+impl<F: Read> Turns for Dates<F> {
+    // Takes one time, and answers whether to go on.
+    fn turn(&mut self) -> bool {
+        let mut b = [0u8; 6];
+        match window::read_full(&mut self.file, &mut b) {
+            0 => false,
+            6 => {
+                write_time(&mut self.to, block::stamp_at(&b, 0));
+                true
+            }
+            _ => {
+                setup::say_line(self.error, &"dates: the last time is cut short");
+                false
+            }
         }
     }
-    template::write(to, b"none\n", &four(0, 0, 0, 0), b"");
 }
 
-// Takes one time from a file, and answers whether to go on.
-fn one<F: Read>(to: &mut Stream, error: Stderr, file: &mut F) -> bool {
-    let mut b = [0u8; 6];
-    let n = window::read_full(file, &mut b);
-    if n == 0 {
-        return false;
-    }
-    if n < 6 {
-        setup::say_line(error, b"dates: the last time is cut short\n");
-        return false;
-    }
-    write_time(to, block::stamp_at(&b, 0));
-    true
-}
-
-// Counts its turns down, as `records` does.
-pub fn main<F: Read>(to: &mut Stream, error: Stderr, file: &mut F) {
-    let mut turns = u64::MAX;
-    while turns > 0 && one(to, error, file) {
-        turns -= 1;
-    }
+pub fn main<F: Read + Drop>(output: Stdout, error: Stderr, file: F) {
+    let mut dates = Dates {
+        to: out::to_output(output),
+        error,
+        file,
+    };
+    setup::run(&mut dates);
 }

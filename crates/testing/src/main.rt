@@ -26,20 +26,19 @@ use std::io::{Read, Stderr, Stdout};
 use std::rt::Files;
 
 // Each file of calls, from an argument on, from a fresh node.
-fn all<R: Env + Files, F: Read>(
+fn all<R: Env + Files, F: Read + Drop>(
     rt: &R,
     output: Stdout,
     error: Stderr,
-    input: &mut F,
+    input: F,
     calls: usize,
 ) {
     for i in calls..setup::arg_count(rt) {
         calls::run_file(rt, output, error, i);
     }
-    let mut to = out::to_output(output);
-    records::all(&mut to, error, input, false, records::BOTH);
-    records::both_mm(rt, &mut to, error, 3);
-    table::write_rows(&mut to);
+    records::both(output, error, input);
+    records::both_mm(rt, output, error, 3);
+    table::write_rows(&mut out::to_output(output));
 }
 
 // The first n octets of a buffer; all where there are fewer.
@@ -50,25 +49,24 @@ fn lent(buffer: &mut [u8], n: usize) -> &mut [u8] {
 
 fn main(rt: HostRuntime) {
     let output = rt.stdout();
-    let mut to = out::to_output(output);
-    let mut input = rt.stdin();
     let error = rt.stderr();
+    let input = rt.stdin();
     let mut held = [0u8; 16];
     match setup::arg(&rt, 1, &mut held) {
         b"calls" => calls::main(&rt, output, error),
-        b"records" => records::main(&rt, &mut to, error, &mut input),
-        b"dates" => dates::main(&mut to, error, &mut input),
-        b"counts" => counts::main(&mut to, error, &mut input),
-        b"pace" => pace::main(&rt, &mut to, error),
-        b"tick" => tick::main(&rt, &mut to, error),
-        b"all" => all(&rt, output, error, &mut input, 4),
+        b"records" => records::main(&rt, output, error, input),
+        b"dates" => dates::main(output, error, input),
+        b"counts" => counts::main(output, error, input),
+        b"pace" => pace::main(&rt, output, error),
+        b"tick" => tick::main(&rt, output, error),
+        b"all" => all(&rt, output, error, input, 4),
         b"all-counted" => {
-            all(&rt, output, error, &mut input, 5);
-            counts::count_file(&rt, &mut to, error, 4);
+            all(&rt, output, error, input, 5);
+            counts::count_file(&rt, output, error, 4);
         }
         _ => setup::say_line(
             error,
-            b"usage: testing calls|records|dates|counts|pace|tick|all ARGUMENT..\n",
+            &"usage: testing calls|records|dates|counts|pace|tick|all ARGUMENT..",
         ),
     }
 }

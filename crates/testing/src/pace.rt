@@ -10,32 +10,40 @@
 ghost use Rattle.std.specs.Prelude.{◌≤◌};
 
 use entries::Entry;
+use entries::read::Cdr;
 use event::framing;
 use out::Stream;
 use profile::Profile;
 use scdr::Record;
 use setup::Command;
 use std::env::Env;
-use std::io::Stderr;
-use std::num::{wrapping_add_u64, wrapping_add_usize, wrapping_sub_u64};
+use std::io::{Stderr, Stdout, Write};
 use std::rt::Files;
 use std::time::{CpuClock, Duration};
-use template::four;
 
-// A place again below the end, from the start on; 0 where there is no place.
+// How often each is done: the step, the writer, the reader; and how often a list is counted, five times for each name.
+const STEPS: u64 = 90000;
+
+const WRITES: u64 = 20000;
+
+const READS: u64 = 100000;
+
+const COUNTS: u64 = 320;
+
+// How many records are kept.
+const KEPT: usize = 64;
+
+// A place again below the end, from the start on.
 fn around(at: usize, end: usize) -> usize
     ensures { result ≤ at }
 {
-    if at < end {
-        return at;
-    }
-    0
+    if at < end { at } else { 0 }
 }
 
 // The place after the event at a place.
 pub fn after_event(s: &[u8], at: usize) -> usize {
     let n = framing::next_length(octets::part(s, at, s.len()));
-    wrapping_add_usize(at, n)
+    at.wrapping_add(n)
 }
 
 // Calls of one kind: the events of a file one after another, from a fresh node on again after the last. Answers how many octets they write.
@@ -44,8 +52,7 @@ fn run_events(profile: Profile, s: &[u8]) -> u64 {
     let mut node = setup::node_of(profile);
     let mut sum: u64 = 0;
     let mut at: usize = 0;
-    let mut calls: u32 = 90000;
-    while 0 < calls {
+    for _ in 0..STEPS {
         let from = around(at, s.len());
         if from == 0 {
             node = setup::node_of(profile);
@@ -53,9 +60,8 @@ fn run_events(profile: Profile, s: &[u8]) -> u64 {
         at = after_event(s, from);
         if let Ok(stepped) = node::step::step(node, octets::part(s, from, at), &mut out) {
             node = stepped.node;
-            sum = wrapping_add_u64(sum, stepped.written as u64);
+            sum = sum.wrapping_add(stepped.written as u64);
         }
-        calls -= 1;
     }
     sum
 }
@@ -77,75 +83,47 @@ fn record_in(s: &[u8], e: Entry) -> &[u8] {
 fn read_records(s: &[u8]) -> u64 {
     let mut sum: u64 = 0;
     let mut at: usize = 0;
-    let mut calls: u32 = 100000;
-    while 0 < calls {
+    for _ in 0..READS {
         let e = entries::step::entry_at(s, around(at, s.len()));
         let r = scdr::read::read_record(record_in(s, e));
         at = next(e);
-        sum = wrapping_add_u64(sum, r.cdr.count as u64);
-        calls -= 1;
+        sum = sum.wrapping_add(r.map_or(0, |cdr| cdr.count as u64));
     }
     sum
 }
 
-// The first records of a list, as many as the array has.
-#[derive(Clone, Copy)]
-struct Kept {
-    n: usize,
-    records: [Record; 64],
-}
-
-// What the reader makes of nothing.
-fn blank() -> Record {
-    let r = scdr::read::read_record(b"");
-    r.cdr
-}
-
-fn keep(s: &[u8]) -> Kept {
-    let mut records = [blank(); 64];
-    let mut n: usize = 0;
-    let mut at: usize = 0;
-    while n < 64 {
+// The first records of a list, as many as there is room for: how many they are.
+fn keep(s: &[u8], records: &mut [Option<Record>]) -> usize {
+    let room = records.len();
+    let mut at = 0;
+    for (i, record) in records.iter_mut().enumerate() {
         let z = entries::read::read_entry(s, at);
-        if z.answer != 0 {
-            return Kept { n, records };
-        }
-        let e = z.entry;
-        let cdr = z.cdr;
-        records[n] = cdr;
-        n += 1;
-        at = next(e);
+        let Some(Cdr::Pdp(cdr)) = z.cdr else {
+            return i;
+        };
+        *record = Some(cdr);
+        at = next(z.entry);
     }
-    Kept { n, records }
+    room
 }
 
-// The records that were kept written one after another, again and again. Answers how many octets they have.
-fn write_records(k: Kept) -> u64 {
-    let records = k.records;
+// Records written one after another, again and again. Answers how many octets they have.
+fn write_records(records: &[Option<Record>]) -> u64 {
     let mut out = [0u8; 1024];
     let mut sum: u64 = 0;
-    let mut i: usize = 0;
-    let mut calls: u32 = 20000;
-    while 0 < calls {
-        let at = around(i, k.n);
-        if 64 <= at {
-            return sum;
+    for record in records.iter().cycle().take(WRITES as usize) {
+        if let Some(r) = record {
+            if let Ok(n) = scdr::write::write_record(r, &mut out) {
+                sum = sum.wrapping_add(n as u64);
+            }
         }
-        if let Ok(n) = scdr::write::write_record(&records[at], &mut out) {
-            sum = wrapping_add_u64(sum, n as u64);
-        }
-        i = at + 1;
-        calls -= 1;
     }
     sum
 }
-
-// How often a list is counted: five times for each name.
-const COUNTS: u64 = 320;
 
 // What a count answers, as one number.
 fn counted(count: usize, number: u64) -> u64 {
-    wrapping_add_u64(count as u64, number)
+    number.wrapping_add(count as u64)
 }
 
 // The records of a name in a list, each read in full: how many, and the number of the last.
@@ -153,19 +131,18 @@ fn count_reading(s: &[u8], id: u32, ggsn: u32) -> u64 {
     let mut count: usize = 0;
     let mut number: u64 = 0;
     let mut at: usize = 0;
-    let mut left = s.len();
-    while 0 < left {
+    for _ in 0..s.len() {
         let z = entries::read::read_entry(s, at);
-        if z.answer != 0 {
-            return counted(count, number);
+        let Some(cdr) = z.cdr else {
+            break;
+        };
+        if let Cdr::Pdp(r) = cdr {
+            if r.charging == id && r.ggsn == ggsn {
+                count = count.wrapping_add(1);
+                number = r.number;
+            }
         }
-        let e = z.entry;
-        if !z.mm & (z.cdr.charging == id) & (z.cdr.ggsn == ggsn) {
-            count = wrapping_add_usize(count, 1);
-            number = z.cdr.number;
-        }
-        at = next(e);
-        left -= 1;
+        at = next(z.entry);
     }
     counted(count, number)
 }
@@ -176,28 +153,18 @@ fn count_stepping(s: &[u8], id: u32, ggsn: u32) -> u64 {
     counted(t.count, t.number)
 }
 
-fn count_one(s: &[u8], reading: bool, id: u32, ggsn: u32) -> u64 {
-    if reading {
-        return count_reading(s, id, ggsn);
-    }
-    count_stepping(s, id, ggsn)
-}
-
-// Lists counted for the names of the records that were kept, one after another. Answers a sum over the counts and the last numbers.
-fn count_names(s: &[u8], k: Kept, reading: bool) -> u64 {
-    let records = k.records;
+// Lists counted for the names of records, one after another. Answers a sum over the counts and the last numbers.
+fn count_names(s: &[u8], records: &[Option<Record>], reading: bool) -> u64 {
     let mut sum: u64 = 0;
-    let mut i: usize = 0;
-    let mut calls = COUNTS;
-    while 0 < calls {
-        let at = around(i, k.n);
-        if 64 <= at {
-            return sum;
+    for record in records.iter().cycle().take(COUNTS as usize) {
+        if let Some(r) = record {
+            let one = if reading {
+                count_reading(s, r.charging, r.ggsn)
+            } else {
+                count_stepping(s, r.charging, r.ggsn)
+            };
+            sum = sum.wrapping_add(one);
         }
-        let r = records[at];
-        sum = wrapping_add_u64(sum, count_one(s, reading, r.charging, r.ggsn));
-        i = at + 1;
-        calls -= 1;
     }
     sum
 }
@@ -209,16 +176,14 @@ fn micros(t: Duration) -> u64 {
 
 // The microseconds of this process; 0 where the system does not tell them.
 pub fn clock(rt: &impl CpuClock) -> u64 {
-    match rt.process_cpu_time() {
-        Ok(t) => micros(t),
-        Err(_) => 0,
-    }
+    rt.process_cpu_time().map_or(0, micros)
 }
 
 // One line: calls of which kind, how many, a sum over what they answered, and the microseconds since a time.
-pub fn say(rt: &impl CpuClock, to: &mut Stream, kind: &[u8], calls: u64, sum: u64, from: u64) {
-    let took = wrapping_sub_u64(clock(rt), from);
-    template::write(to, b"%a %k %l %m\n", &four(calls, sum, took, 0), kind);
+pub fn say(rt: &impl CpuClock, to: &mut Stream, kind: &str, calls: u64, sum: u64, from: u64) {
+    let took = clock(rt).wrapping_sub(from);
+    let _ = writeln!(to, "{kind} {calls} {sum} {took}");
+    let _ = to.flush();
 }
 
 // The file that an argument of a command names, from the start of a buffer: how many octets it has.
@@ -234,10 +199,6 @@ pub fn load<R: Env + Files>(
     }
 }
 
-pub fn in_file(held: &[u8; 65536], n: usize) -> &[u8] {
-    octets::front(held, n)
-}
-
 fn pace_step<R: Env + Files + CpuClock>(
     rt: &R,
     to: &mut Stream,
@@ -247,57 +208,56 @@ fn pace_step<R: Env + Files + CpuClock>(
     let mut held = [0u8; 65536];
     let n = load(rt, command, 3, &mut held);
     let from = clock(rt);
-    let sum = run_events(profile, in_file(&held, n));
-    say(rt, to, b"step", 90000, sum, from);
+    let sum = run_events(profile, octets::front(&held, n));
+    say(rt, to, "step", STEPS, sum, from);
 }
 
-fn pace_write(rt: &impl CpuClock, to: &mut Stream, list: &[u8]) {
-    let kept = keep(list);
+fn pace_records<R: Env + Files + CpuClock>(rt: &R, to: &mut Stream, command: Command) {
+    let mut held = [0u8; 65536];
+    let n = load(rt, command, 4, &mut held);
+    pace_list(rt, to, octets::front(&held, n));
+}
+
+fn pace_list(rt: &impl CpuClock, to: &mut Stream, list: &[u8]) {
+    let mut records = [None; KEPT];
+    let n = keep(list, &mut records);
+    let kept = records.get(..n).unwrap_or(&records);
     let from = clock(rt);
     let sum = write_records(kept);
-    say(rt, to, b"write", 20000, sum, from);
-}
-
-fn pace_read(rt: &impl CpuClock, to: &mut Stream, list: &[u8]) {
+    say(rt, to, "write", WRITES, sum, from);
     let from = clock(rt);
     let sum = read_records(list);
-    say(rt, to, b"read", 100000, sum, from);
+    say(rt, to, "read", READS, sum, from);
+    pace_count(rt, to, "count", list, kept, false);
+    pace_count(rt, to, "full", list, kept, true);
 }
 
-fn pace_count(rt: &impl CpuClock, to: &mut Stream, kind: &[u8], list: &[u8], reading: bool) {
-    let kept = keep(list);
+fn pace_count(
+    rt: &impl CpuClock,
+    to: &mut Stream,
+    kind: &str,
+    list: &[u8],
+    kept: &[Option<Record>],
+    reading: bool,
+) {
     let records = entries::count::count(list) as u64;
     let from = clock(rt);
     let sum = count_names(list, kept, reading);
     say(rt, to, kind, records % 65536 * COUNTS, sum, from);
 }
 
-fn pace_records<R: Env + Files + CpuClock>(rt: &R, to: &mut Stream, command: Command) {
-    let mut held = [0u8; 65536];
-    let n = load(rt, command, 4, &mut held);
-    pace_list(rt, to, &held, n);
-}
-
-fn pace_list(rt: &impl CpuClock, to: &mut Stream, held: &[u8; 65536], n: usize) {
-    let list = in_file(held, n);
-    pace_write(rt, to, list);
-    pace_read(rt, to, list);
-    pace_count(rt, to, b"count", list, false);
-    pace_count(rt, to, b"full", list, true);
-}
-
-pub fn main<R: Env + Files + CpuClock>(rt: &R, to: &mut Stream, error: Stderr) {
+pub fn main<R: Env + Files + CpuClock>(rt: &R, output: Stdout, error: Stderr) {
     if setup::arg_count(rt) != 5 {
-        setup::say_line(error, b"usage: pace PROFILE EVENTS RECORDS\n");
+        setup::say_line(error, &"usage: pace PROFILE EVENTS RECORDS");
         return;
     }
     let command = Command {
-        name: b"pace",
+        name: "pace",
         error,
     };
-    let Some(p) = command.profile(rt, 2) else {
-        return;
-    };
-    pace_step(rt, to, command, p);
-    pace_records(rt, to, command);
+    if let Some(p) = command.profile(rt, 2) {
+        let mut to = out::to_output(output);
+        pace_step(rt, &mut to, command, p);
+        pace_records(rt, &mut to, command);
+    }
 }

@@ -12,218 +12,246 @@ pub mod block;
 
 use crate::lent;
 use ber::written::NotWritten;
+use mcdr::MmRecord;
 use out::Stream;
-use setup::{Command, is_word};
-use shown::Shown;
+use scdr::Record;
+use setup::{Command, Turns};
+use shown::{Hex, Shown};
 use std::env::Env;
-use std::io::{Read, Stderr, Write};
+use std::io::{Read, Stderr, Stdout, Write};
+use std::marker::PhantomData;
 use std::rt::Files;
-use template::four;
 
 // What is to be done with a file.
-const WRITE: u8 = 0;
-
-const READ: u8 = 1;
-
-pub const BOTH: u8 = 2;
-
-// Writes a line: the number of a refusal, or else octets in hex.
-fn line(to: &mut Stream, answer: u8, s: &[u8]) {
-    let v = four(answer as u64, (answer != 0) as u64, 0, 0);
-    template::write(to, b"%L%;%k%.%x\n", &v, s);
+#[derive(Clone, Copy)]
+enum Task {
+    Write,
+    Read,
+    Both,
 }
 
-// One block of an S-CDR: its record's octets, or the number of the refusal; and read back, where that is asked. Unless it is, a block whose
-// flags are neither 0 nor 1 is refused: a record can't hold anything else.
-fn write_block(to: &mut Stream, b: &[u8], back: bool) {
-    if !back & !block::flags_ok(b) {
-        refused(to, NotWritten::OutsideRules);
+// The number of the refusal table for octets that are no record within the rules.
+const NO_RECORD: u8 = 20;
+
+// A kind of records, each of which has a block.
+trait Kind: Sized + Drop {
+    // How many octets a block has, at most 549.
+    const SIZE: usize;
+
+    // Are a block's flags 0 or 1? A record can't hold anything else.
+    fn flags_ok(block: &[u8]) -> bool;
+
+    fn of_block(block: &[u8]) -> Self;
+
+    fn write(&self, out: &mut [u8]) -> Result<usize, NotWritten>;
+
+    fn read(octets: &[u8]) -> Option<Self>;
+
+    fn put_block(&self, to: &mut Stream);
+
+    // Where the access point name lies in a record's octets, if its kind has one.
+    fn name(octets: &[u8]) -> Option<&[u8]>;
+}
+
+impl Kind for Record {
+    const SIZE: usize = 549;
+
+    fn flags_ok(block: &[u8]) -> bool {
+        block::flags_ok(block)
+    }
+
+    fn of_block(block: &[u8]) -> Record {
+        block::record_of(block)
+    }
+
+    fn write(&self, out: &mut [u8]) -> Result<usize, NotWritten> {
+        scdr::write::write_record(self, out)
+    }
+
+    fn read(octets: &[u8]) -> Option<Record> {
+        scdr::read::read_record(octets)
+    }
+
+    fn put_block(&self, to: &mut Stream) {
+        let _ = write!(to, "{}", Shown::plain(self));
+    }
+
+    fn name(octets: &[u8]) -> Option<&[u8]> {
+        Some(scdr::read::apn_part(octets))
+    }
+}
+
+impl Kind for MmRecord {
+    const SIZE: usize = 191;
+
+    fn flags_ok(_block: &[u8]) -> bool {
+        true
+    }
+
+    fn of_block(block: &[u8]) -> MmRecord {
+        block::mm_record_of(block)
+    }
+
+    fn write(&self, out: &mut [u8]) -> Result<usize, NotWritten> {
+        mcdr::write::write_record(self, out)
+    }
+
+    fn read(octets: &[u8]) -> Option<MmRecord> {
+        mcdr::read::read_record(octets)
+    }
+
+    fn put_block(&self, to: &mut Stream) {
+        let _ = write!(to, "{}", Shown::plain(self));
+    }
+
+    fn name(_octets: &[u8]) -> Option<&[u8]> {
+        None
+    }
+}
+
+// One block: its record's octets, or the number of the refusal; and read back, where that is asked. Unless it is, its flags are looked at.
+fn write_block<K: Kind>(to: &mut Stream, block: &[u8], back: bool) {
+    if !back && !K::flags_ok(block) {
+        refuse(to, NotWritten::OutsideRules);
         return;
     }
     let mut out = [0u8; 1024];
-    match scdr::write::write_record(&block::record_of(b), &mut out) {
-        Ok(n) => written(to, octets::front(&out, n), back),
-        Err(e) => refused(to, e),
+    match K::of_block(block).write(&mut out) {
+        Ok(n) => put_record::<K>(to, octets::front(&out, n), back),
+        Err(e) => refuse(to, e),
     }
 }
 
 // The number of a refusal.
-fn refused(to: &mut Stream, e: NotWritten) {
-    line(to, e.number(), b"");
+fn refuse(to: &mut Stream, e: NotWritten) {
+    let _ = writeln!(to, "{}", e.number());
 }
 
-// The octets of an S-CDR; what they are read as, and the access point name where it lies in them.
-fn written(to: &mut Stream, s: &[u8], back: bool) {
-    line(to, 0, s);
+// The octets of a record; and what they are read as, and the access point name where it lies in them.
+fn put_record<K: Kind>(to: &mut Stream, octets: &[u8], back: bool) {
+    let _ = writeln!(to, "{}", Hex(octets));
     if back {
-        read_one(to, s);
-        line(to, 0, scdr::read::apn_part(s));
+        read_record::<K>(to, octets);
+        if let Some(name) = K::name(octets) {
+            let _ = writeln!(to, "{}", Hex(name));
+        }
     }
 }
 
-// One S-CDR: its block, or the number of the refusal.
-fn read_one(to: &mut Stream, s: &[u8]) {
-    let r = scdr::read::read_record(s);
-    if r.answer != 0 {
-        line(to, r.answer, b"");
-        return;
-    }
-    let _ = write!(to, "{}", Shown::plain(&r.cdr));
-    let _ = to.flush();
-}
-
-// One block of an M-CDR, in the same way.
-fn write_mm_block(to: &mut Stream, b: &[u8], back: bool) {
-    let mut out = [0u8; 1024];
-    match mcdr::write::write_record(&block::mm_record_of(b), &mut out) {
-        Ok(n) => mm_written(to, octets::front(&out, n), back),
-        Err(e) => refused(to, e),
+// One record: its block, or the number of the refusal.
+fn read_record<K: Kind>(to: &mut Stream, octets: &[u8]) {
+    match K::read(octets) {
+        Some(record) => record.put_block(to),
+        None => {
+            let _ = writeln!(to, "{NO_RECORD}");
+        }
     }
 }
 
-fn mm_written(to: &mut Stream, s: &[u8], back: bool) {
-    line(to, 0, s);
-    if back {
-        read_one_mm(to, s);
-    }
-}
-
-// One M-CDR: its block, or the number of the refusal.
-fn read_one_mm(to: &mut Stream, s: &[u8]) {
-    let r = mcdr::read::read_record(s);
-    if r.answer != 0 {
-        line(to, r.answer, b"");
-        return;
-    }
-    let _ = write!(to, "{}", Shown::plain(&r.cdr));
-    let _ = to.flush();
-}
-
-// How many octets a block has: of an M-CDR, or of an S-CDR.
-fn size_of(mm: bool) -> usize {
-    if mm {
-        return 191;
-    }
-    549
-}
-
-// Takes one block from a file, and answers whether to go on.
-fn one_block<F: Read>(to: &mut Stream, error: Stderr, file: &mut F, mm: bool, back: bool) -> bool {
-    let mut b = [0u8; 549];
-    let size = size_of(mm);
-    let n = window::read_full(file, lent(&mut b, size));
-    if n == 0 {
-        return false;
-    }
-    if n < size {
-        setup::say_line(error, b"records: the last block is cut short\n");
-        return false;
-    }
-    write_front(to, octets::front(&b, size), mm, back);
-    true
-}
-
-fn write_front(to: &mut Stream, b: &[u8], mm: bool, back: bool) {
-    if mm {
-        write_mm_block(to, b, back);
-        return;
-    }
-    write_block(to, b, back);
-}
-
-// Takes one record from a file, and answers whether to go on.
-fn one_record<F: Read>(to: &mut Stream, error: Stderr, file: &mut F, mm: bool) -> bool {
-    let mut head = [0u8; 2];
-    let h = window::read_full(file, &mut head);
-    if h == 0 {
-        return false;
-    }
-    let n = block::two(&head, 0);
-    let mut b = [0u8; 65536];
-    take_record(to, error, file, mm, &mut b, n)
-}
-
-// Takes the n octets of a record, and answers whether they were there.
-fn take_record<F: Read>(
-    to: &mut Stream,
+// A file of blocks, or of records.
+#[derive(Drop)]
+struct Records<F, K> {
+    to: Stream,
     error: Stderr,
-    file: &mut F,
-    mm: bool,
-    b: &mut [u8],
-    n: usize,
-) -> bool {
-    let got = window::read_full(file, lent(b, n));
-    if got < n {
-        setup::say_line(error, b"records: the last record is cut short\n");
-        return false;
-    }
-    read_front(to, mm, b, n);
-    true
+    file: F,
+    task: Task,
+    kind: PhantomData<K>,
 }
 
-fn read_front(to: &mut Stream, mm: bool, s: &[u8], n: usize) {
-    if mm {
-        read_one_mm(to, octets::front(s, n));
-        return;
+impl<F: Read, K: Kind> Turns for Records<F, K> {
+    // Takes one block or one record, and answers whether to go on.
+    fn turn(&mut self) -> bool {
+        let more = match self.task {
+            Task::Write => self.take_block(false),
+            Task::Read => self.take_record(),
+            Task::Both => self.take_block(true),
+        };
+        let _ = self.to.flush();
+        more
     }
-    read_one(to, octets::front(s, n));
 }
 
-// Does one task, of M-CDRs or of S-CDRs, and answers whether to go on.
-fn one<F: Read>(to: &mut Stream, error: Stderr, file: &mut F, mm: bool, task: u8) -> bool {
-    if task == READ {
-        return one_record(to, error, file, mm);
+impl<F: Read, K: Kind> Records<F, K> {
+    // Takes one block, and answers whether it was there.
+    fn take_block(&mut self, back: bool) -> bool {
+        let mut b = [0u8; 549];
+        let n = window::read_full(&mut self.file, lent(&mut b, K::SIZE));
+        if n == 0 {
+            return false;
+        }
+        if n < K::SIZE {
+            setup::say_line(self.error, &"records: the last block is cut short");
+            return false;
+        }
+        write_block::<K>(&mut self.to, octets::front(&b, n), back);
+        true
     }
-    one_block(to, error, file, mm, task == BOTH)
+
+    // Takes one record, and answers whether it was there.
+    fn take_record(&mut self) -> bool {
+        let mut head = [0u8; 2];
+        if window::read_full(&mut self.file, &mut head) == 0 {
+            return false;
+        }
+        let mut b = [0u8; 65536];
+        let n = block::two(&head, 0);
+        if window::read_full(&mut self.file, lent(&mut b, n)) < n {
+            setup::say_line(self.error, &"records: the last record is cut short");
+            return false;
+        }
+        read_record::<K>(&mut self.to, octets::front(&b, n));
+        true
+    }
 }
 
-// A proved loop has to end, and nothing says that a file does. So it counts its turns down, from a number that no run uses up.
-pub fn all<F: Read>(to: &mut Stream, error: Stderr, file: &mut F, mm: bool, task: u8) {
-    let mut turns = u64::MAX;
-    while turns > 0 && one(to, error, file, mm, task) {
-        turns -= 1;
-    }
+// Does one task with a file of one kind.
+fn run<F: Read + Drop, K: Kind>(
+    output: Stdout,
+    error: Stderr,
+    file: F,
+    task: Task,
+    kind: PhantomData<K>,
+) {
+    let mut records = Records {
+        to: out::to_output(output),
+        error,
+        file,
+        task,
+        kind,
+    };
+    setup::run(&mut records);
+}
+
+// The blocks of S-CDRs in a file.
+pub fn both<F: Read + Drop>(output: Stdout, error: Stderr, file: F) {
+    run(output, error, file, Task::Both, PhantomData::<Record>);
 }
 
 // The blocks of M-CDRs in the file that an argument names.
-pub fn both_mm<R: Env + Files>(rt: &R, to: &mut Stream, error: Stderr, argument: usize) {
-    if let Some(mut file) = command(error).open(rt, argument) {
-        all(to, error, &mut file, true, BOTH);
-    }
-}
-
-// The command is a word, or for M-CDRs another.
-fn is_task(rt: &impl Env, word: &[u8], for_mm: &[u8]) -> bool {
-    is_word(rt, 2, word) | is_word(rt, 2, for_mm)
-}
-
-fn run<F: Read>(rt: &impl Env, to: &mut Stream, error: Stderr, input: &mut F, task: u8) {
-    let mm = is_word(rt, 2, b"write-mm") | is_word(rt, 2, b"read-mm") | is_word(rt, 2, b"both-mm");
-    all(to, error, input, mm, task);
-}
-
-fn command(error: Stderr) -> Command {
-    Command {
-        name: b"records",
+pub fn both_mm<R: Env + Files>(rt: &R, output: Stdout, error: Stderr, argument: usize) {
+    let command = Command {
+        name: "records",
         error,
+    };
+    if let Some(file) = command.open(rt, argument) {
+        run(output, error, file, Task::Both, PhantomData::<MmRecord>);
     }
 }
 
-pub fn main<F: Read>(rt: &impl Env, to: &mut Stream, error: Stderr, input: &mut F) {
-    if is_task(rt, b"write", b"write-mm") {
-        run(rt, to, error, input, WRITE);
-        return;
+pub fn main<F: Read + Drop>(rt: &impl Env, output: Stdout, error: Stderr, file: F) {
+    let cdr = PhantomData::<Record>;
+    let mm = PhantomData::<MmRecord>;
+    let mut held = [0u8; 16];
+    match setup::arg(rt, 2, &mut held) {
+        b"write" => run(output, error, file, Task::Write, cdr),
+        b"read" => run(output, error, file, Task::Read, cdr),
+        b"both" => run(output, error, file, Task::Both, cdr),
+        b"write-mm" => run(output, error, file, Task::Write, mm),
+        b"read-mm" => run(output, error, file, Task::Read, mm),
+        b"both-mm" => run(output, error, file, Task::Both, mm),
+        _ => setup::say_line(
+            error,
+            &"usage: records write|read|both|write-mm|read-mm|both-mm",
+        ),
     }
-    if is_task(rt, b"both", b"both-mm") {
-        run(rt, to, error, input, BOTH);
-        return;
-    }
-    if is_task(rt, b"read", b"read-mm") {
-        run(rt, to, error, input, READ);
-        return;
-    }
-    setup::say_line(
-        error,
-        b"usage: records write|read|both|write-mm|read-mm|both-mm\n",
-    );
 }

@@ -1,52 +1,60 @@
 // The bench table of 01, row by row through the code. That the definitions give the same is one theorem (specs/Table.antt, proofs/Holds.antt).
 use calendar::Stamp;
 use out::Stream;
-use template::{four, write};
+use std::fmt;
+use std::io::Write;
 
-// Writes a row: what it is of, with a number, and octets.
-fn row(to: &mut Stream, form: &[u8], n: u64, octets: &[u8]) {
-    write(to, form, &four(n, 0, 0, 0), octets);
+// Octets as two digits of sixteen each, after a space.
+#[derive(Clone, Copy)]
+struct Apart<'a>(&'a [u8]);
+
+impl<'a> fmt::Display for Apart<'a> {
+    fn fmt<W: fmt::Write>(&self, f: &mut fmt::Formatter<W>) -> fmt::Result {
+        for x in self.0 {
+            write!(f, " {x:02X}")?;
+        }
+        Ok(())
+    }
 }
 
 fn integer(to: &mut Stream, v: u64) {
     let octets = ber::int::int_octets(v);
-    row(to, b"integer %k ->%_\n", v, &octets);
+    let _ = writeln!(to, "integer {v} ->{}", Apart(&octets));
 }
 
 fn length(to: &mut Stream, n: usize) {
     if let Some(octets) = ber::length::len_octets(n) {
-        row(to, b"length %k ->%_\n", n as u64, &octets);
+        let _ = writeln!(to, "length {n} ->{}", Apart(&octets));
     }
 }
 
 // The offset of a zone is minutes from universal time plus 720.
-fn time(to: &mut Stream, form: &[u8], seconds: u32, zone: u16) {
+fn time(to: &mut Stream, seconds: u32, zone: u16, offset: i32) {
     if let Some(octets) = calendar::stamp_octets(Stamp { seconds, zone }) {
-        row(to, form, u64::from(seconds), &octets);
+        let _ = writeln!(to, "time {seconds}, offset {offset} ->{}", Apart(&octets));
     }
 }
 
-fn imsi(to: &mut Stream, form: &[u8], s: &[u8]) {
+fn imsi(to: &mut Stream, digits: &str, s: &[u8]) {
     if let Some(n) = ber::imsi::imsi_size(s) {
-        row(to, form, 0, octets::front(s, n));
+        let _ = writeln!(to, "IMSI {digits} ->{}", Apart(octets::front(s, n)));
     }
 }
 
 pub fn write_rows(to: &mut Stream) {
-    integer(to, 0);
-    integer(to, 127);
-    integer(to, 128);
-    integer(to, 32768);
-    integer(to, 4294967295);
-    length(to, 127);
-    length(to, 128);
-    length(to, 256);
-    time(to, b"time %k, offset 0 ->%_\n", 0, 720);
-    time(to, b"time %k, offset 0 ->%_\n", 5097600, 720);
-    time(to, b"time %k, offset -90 ->%_\n", 3155759999, 630);
+    for v in [0, 127, 128, 32768, 4294967295] {
+        integer(to, v);
+    }
+    for n in [127, 128, 256] {
+        length(to, n);
+    }
+    time(to, 0, 720, 0);
+    time(to, 5097600, 720, 0);
+    time(to, 3155759999, 630, -90);
     imsi(
         to,
-        b"IMSI 123456 ->%_\n",
+        "123456",
         &[0x21, 0x43, 0x65, 0xFF, 0xFF, 0xFF, 0xFF, 0xFF],
     );
+    let _ = to.flush();
 }

@@ -1,5 +1,0 @@
--- `testing::counts::all` is safe and ends: the turns that are left fall.
-use Rattle.testing.proofs.counts.all.Given as goal
-
-abbrev pub decreases-loop-turns : goal.decreases-loop-turns
-decreases-loop-turns g l = l.turns

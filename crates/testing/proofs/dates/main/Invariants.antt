@@ -1,5 +1,0 @@
--- `testing::dates::main` is safe and ends: the turns that are left fall.
-use Rattle.testing.proofs.dates.main.Given as goal
-
-abbrev pub decreases-loop-turns : goal.decreases-loop-turns
-decreases-loop-turns g l = l.turns
