@@ -1,18 +1,18 @@
 -- One spelling of an access point name: what lowering does to an octet and to a name, and the loop that lowers.
 use mathlib.Core.Path.{◌≡◌, refl, sym, ap, ap₂, subst, ◌∙◌}
 use mathlib.Core.Bool.{true, false}
-use mathlib.Core.List.{List, [], ◌∷◌, ◌++◌}
-use Prim.Native.Nat.{ℕ, ◌+◌, ◌-◌, ◌≤◌, ◌<◌}
+use mathlib.Core.List.{List, [], ◌∷◌}
+use Prim.Native.Nat.{ℕ, ◌+◌, ◌≤◌, ◌<◌}
+use native.Mathlib.Numerals.{add-one}
 use native.Mathlib.Omega.{arith}
 use lib.Dec.{T}
-use lib.ListN.{length, get_or, replicate, length-map, get_or-map, get_or-append, get_or-replicate, get_or-eq_default}
-use lib.Seq.{get_or-append-add}
+use lib.ListN.{length, set, get_or, replicate, length-map, length-replicate, get_or-map}
+use lib.Seq.{take_all, paste, paste-suc}
 use borrow.Author.Tests.{le-leb, lt-leb, ne_eqb}
 use Rattle.format.proofs.Tests.{either, both}
 use Rattle.octets.specs.Chars.{all_of, apn_char, lower, lowered}
 use Rattle.octets.specs.Filled.{fill_to}
-use Rattle.std.proofs.lemmas.List.{get_or_default}
-use Rattle.octets.proofs.Filled.{fill_length}
+use Rattle.octets.proofs.Fronts.{drop_zeros}
 
 -- ---- an octet
 
@@ -79,19 +79,29 @@ lowered_at : (s : List ℕ) (i : ℕ) → get_or (lowered s) i 0 ≡ lower (get_
 unfolding lowered lower
 lowered_at s i = get_or-map lower s i 0
 
--- ---- the array of a name: its octets lowered, and zeros after them
+-- ---- the loop: the first i octets are lowered, and zeros stand after them
 
-at_fill : (n : ℕ) (xs : List ℕ) (i d : ℕ) → i < n → length xs ≤ n → get_or (fill_to n 0 xs) i d ≡ get_or xs i 0
+pub record Lowering (s apn : List ℕ) (i : ℕ) : Type 0 where
+  pub most : i ≤ length s
+  pub room : length s ≤ 63
+  pub is : apn ≡ paste (replicate 63 0) 0 (lowered s) i
+
+pub lowering_none : (s : List ℕ) → length s ≤ 63 → Lowering s (replicate 63 0) 0
+lowering_none s h = record { most = omega arith; room = h; is = refl }
+
+pub lowering_more : {s apn : List ℕ} {i x : ℕ} → Lowering s apn i → i < length s → x ≡ lower (get_or s i 0) → Lowering s (set apn i x) (i + 1)
+lowering_more {s} {apn} {i} f h e = record {
+  most = omega arith;
+  room = f.room;
+  is =
+      let o : 0 + i ≡ i = omega arith in
+      rw (f.is, e, add-one i) (ap (set (paste (replicate 63 0) 0 (lowered s) i) i) (sym (lowered_at s i))
+      ∙ ap (λ (k : ℕ). set (paste (replicate 63 0) 0 (lowered s) i) k (get_or (lowered s) i 0)) (sym o)
+      ∙ paste-suc (replicate 63 0) 0 (lowered s) i 0 (omega (arith, length-replicate {A = ℕ} 63 0, f.room)) (omega (arith, lowered_length s)));
+}
+
+pub lowering_end : {s apn : List ℕ} {i : ℕ} → Lowering s apn i → length s ≤ i → apn ≡ fill_to 63 0 (lowered s)
 unfolding fill_to
-at_fill n xs i d h l =
-    either (length xs) i
-    (λ k. let e : i ≡ length xs + (i - length xs) = omega arith in
-    ap (λ (j : ℕ). get_or (xs ++ replicate (n - length xs) 0) j d) e ∙ get_or-append-add xs (replicate (n - length xs) 0) (i - length xs) d
-    ∙ get_or-replicate (n - length xs) (i - length xs) 0 d (omega arith) ∙ sym (get_or-eq_default xs 0 k))
-    (λ k. get_or-append xs (replicate (n - length xs) 0) d i k ∙ get_or_default xs i d 0 k)
-
-pub lowered_fill : (s : List ℕ) (i d : ℕ) → i < 63 → length s ≤ 63 → get_or (fill_to 63 0 (lowered s)) i d ≡ lower (get_or s i 0)
-lowered_fill s i d h l = at_fill 63 (lowered s) i d h (omega (arith, lowered_length s)) ∙ lowered_at s i
-
-pub lowered_room : (s : List ℕ) → length s ≤ 63 → length (fill_to 63 0 (lowered s)) ≡ 63
-lowered_room s l = fill_length 63 0 (lowered s) (omega (arith, lowered_length s))
+lowering_end {s} {apn} {i} f h =
+    let o : 0 + i ≡ length (lowered s) = omega (arith, f.most, lowered_length s) in
+    f.is ∙ rw (take_all i (lowered s) (omega (arith, lowered_length s)), o, drop_zeros (length (lowered s)) 63)

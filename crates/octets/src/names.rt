@@ -7,7 +7,6 @@ ghost use Rattle.octets.specs.Names.{stored, apn_ok, checked_apn, node_ok};
 
 use crate::chars;
 use crate::chars::Class;
-use std::array;
 
 // An access point name as it is stored: n octets of it, and zeros after them. What is no name has none, and n 0.
 #[derive(Clone, Copy)]
@@ -40,7 +39,11 @@ fn lowered(s: &[u8]) -> [u8; 63]
     requires { length s.now ≤ 63 }
     ensures { result ≡ fill_to 63 0 (lowered s.now) }
 {
-    array::from_fn(|i| chars::lower(crate::octet(s, i)))
+    let mut apn = [0; 63];
+    for (i, x) in s.iter().enumerate() {
+        apn[i] = chars::lower(*x);
+    }
+    apn
 }
 
 // The check of an access point name as an event spells it: the name with its letters lowered, which is one of a record, or none.

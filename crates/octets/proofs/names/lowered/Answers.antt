@@ -1,14 +1,12 @@
--- `octets::names::lowered` meets its contract.
-use Rattle.std.proofs.Common.{rules}
-use lib.ListN.{get_or}
-use Rattle.format.proofs.Made.{made}
-use Rattle.octets.specs.Chars.{lower, lowered}
-use Rattle.octets.specs.Filled.{fill_to}
-use Rattle.octets.proofs.Lowered.{lowered_fill, lowered_room}
+-- `octets::names::lowered` meets its contract. The loop's invariant: the first octets are lowered, and zeros stand after them.
+use Rattle.octets.proofs.Lowered.{lowering_none, lowering_more, lowering_end}
 use Rattle.octets.proofs.names.lowered.Goals as goal
 
+pub loop-i-init : goal.loop-i-init
+loop-i-init c = lowering_none _ c.requires
+
+pub loop-i-preserved : goal.loop-i-preserved
+loop-i-preserved c = lowering_more c.loop-i.invariant c.loop-i-test.true c.lower.ensures
+
 pub returns : goal.returns
-returns c =
-    let s = c.args.s.now in
-    made _ (λ i. lower (get_or s i 0)) _ 63 (λ i y q l f. search rules) c.from_fn.result (fill_to 63 0 (lowered s))
-    c.from_fn.ensures.items (lowered_room s c.requires) (λ i d l. lowered_fill s i d l c.requires)
+returns c = lowering_end c.loop-i.invariant c.loop-i-test.false
