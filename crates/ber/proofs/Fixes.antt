@@ -1,9 +1,12 @@
 -- Any two answers that meet a promise are equal: a theorem for each form of promise.
-use mathlib.Core.Path.{◌≡◌, sym, ◌∙◌}
-use Rattle.std.specs.Prelude.{Option}
+use mathlib.Core.Path.{◌≡◌, refl, sym, ap, ◌∙◌}
+use Rattle.std.specs.Prelude.{Option, None, Some, MatchOption}
 use mathlib.Core.List.{List}
-use Prim.Native.Nat.{ℕ}
+use Prim.Native.Nat.{ℕ, ◌≤◌, ◌<◌}
+use native.Mathlib.Omega.{arith}
 use Rattle.std.specs.Borrow.{Bor}
+use Rattle.arrayvec.specs.ArrayVec.{ArrayVec}
+use Rattle.ber.specs.Length.{len_enc}
 use Rattle.ber.specs.Tlv.{tlv_dec}
 use Rattle.ber.specs.Read.{read_at, octets_of}
 use Rattle.ber.specs.Write.{Puts}
@@ -17,6 +20,19 @@ reads_fixes p s at a b e f = e ∙ sym f
 pub puts_fixes : {x : Option (List ℕ)} {b c d : List ℕ} {at : ℕ} {m n : Option ℕ} → Puts x b c at m → Puts x b d at n
     → ◌≡◌ {A = List ℕ × Option ℕ} (c, m) (d, n)
 puts_fixes a b = a.is ∙ sym b.is
+
+-- the vector: its octets, and how many they are
+pub holds_fixes : (x : List ℕ) (a b : ArrayVec ℕ) → a.items ≡ x → b.items ≡ x → a ≡ b
+holds_fixes x a b e f i = record { items = (e ∙ sym f) i }
+
+-- the vector that says a length, or that there is none
+pub len_fixes : (len : ℕ) (a b : Option (ArrayVec ℕ))
+    → MatchOption a (65536 ≤ len) (λ x. (len < 65536) × (x.items ≡ len_enc len))
+    → MatchOption b (65536 ≤ len) (λ x. (len < 65536) × (x.items ≡ len_enc len)) → a ≡ b
+len_fixes len None None e f = refl
+len_fixes len None (Some b) e f = absurd (omega (arith, f.0))
+len_fixes len (Some a) None e f = absurd (omega (arith, e.0))
+len_fixes len (Some a) (Some b) e f = ap {B = Option (ArrayVec ℕ)} (λ x. Some x) (holds_fixes (len_enc len) a b e.1 f.1)
 
 -- the octets that were found, and the place after them
 pub copies_fixes : (p : List ℕ → Option (List ℕ × List ℕ)) (s : List ℕ) (at : ℕ) (a b : Option (Bor (List ℕ) × ℕ))
