@@ -1,7 +1,7 @@
 -- The laws of a table of fields, by recursion over its rows: of its layout, of rows that are read one after another, of rows that are written so.
 use mathlib.Core.Path.{◌≡◌, refl, sym, ap, ◌∙◌}
 use mathlib.Core.Bool.{Bool, true, false, not, ◌&&◌, ◌||◌}
-use Rattle.std.specs.Prelude.{Option, None, Some}
+use Rattle.std.specs.Prelude.{Option, None, Some, IfSome}
 use Rattle.std.proofs.lemmas.Option.{same_Some}
 use mathlib.Core.List.{List, [], ◌∷◌, ◌++◌, append_assoc}
 use Prim.Native.Nat.{ℕ, ◌+◌, ◌≤◌}
@@ -135,10 +135,13 @@ module _ (s : List ℕ) where
       → bind (here s at) (layout rs).dec ≡ Some v
   rows_yes rs at v next e n = layout_at rs at ∙ rw (e, eq-eqb next (length s) n)
 
-  -- and those that end elsewhere are none
-  pub rows_no : (rs : List Row) (at : ℕ) (v : Values rs) (next : ℕ) → rows_at s rs at ≡ Some (v, next) → (next ≡ length s → ⊥)
-      → bind (here s at) (layout rs).dec ≡ None
-  rows_no rs at v next e n = layout_at rs at ∙ rw (e, ne_eqb next (length s) n)
+  -- and where a row is not there, or they end elsewhere, the layout is none
+  pub rows_no : (rs : List Row) (at : ℕ) → IfSome (rows_at s rs at) (λ q. q.1 ≡ length s → ⊥) → bind (here s at) (layout rs).dec ≡ None
+  rows_no rs at n = layout_at rs at ∙ go (rows_at s rs at) n
+    where
+      go : (o : Option (Values rs × ℕ)) → IfSome o (λ q. q.1 ≡ length s → ⊥) → ended s o ≡ None
+      go None n = refl
+      go (Some q) n = rw (ne_eqb q.1 (length s) n)
 
   -- of all of s, as the value that the rows say, if it passes a test
   pub table_is : {A : Type 0} (rs : List Row) (to : Values rs → A) (back : A → Values rs) (ok : A → Bool)
