@@ -1,5 +1,6 @@
 pub mod Lists
 pub mod Scans
+pub mod Loops
 pub mod Ranges
 pub mod Slots
 pub mod Hearing

@@ -100,12 +100,12 @@ module _ {N A : Type 0} (D : Naming N A) (n : N) where
 -- ---- what f reads off the slots, looked at in their place
 
 module _ {A C : Type 0} (f : C → A) where
-  from_through : (p : A → Bool) (k : ℕ) (cs : List C) → position_from p k (map f cs) ≡ position_from (λ c. p (f c)) k cs
-  from_through p k [] = refl
-  from_through p k (c ∷ cs) = rw (from_through p (k + 1) cs)
+  pub first_through : (p : A → Bool) (k : ℕ) (cs : List C) → position_from p k (map f cs) ≡ position_from (λ c. p (f c)) k cs
+  first_through p k [] = refl
+  first_through p k (c ∷ cs) = rw (first_through p (k + 1) cs)
 
   pub position_through : (p : A → Bool) (cs : List C) → position p (map f cs) ≡ position (λ c. p (f c)) cs
-  position_through p cs = position_from-zero p (map f cs) ∙ from_through p 0 cs ∙ sym (position_from-zero (λ c. p (f c)) cs)
+  position_through p cs = position_from-zero p (map f cs) ∙ first_through p 0 cs ∙ sym (position_from-zero (λ c. p (f c)) cs)
 
   module _ {N : Type 0} (D : Naming N A) where
     pub none_through : (n : N) (cs : List C) → none_bears D n (map f cs) ≡ none_bears (through D f) n cs
