@@ -3,6 +3,7 @@ pub mod Numbers
 pub mod Table
 pub mod Tried
 pub mod Saying
+pub mod Named
 pub mod Theorems
 pub mod Printed
 pub mod Framed
