@@ -1,14 +1,16 @@
 -- Any two answers that meet a promise are equal: a theorem for each form of promise.
 use mathlib.Core.Path.{◌≡◌, refl, sym, ap, ◌∙◌}
-use Rattle.std.specs.Prelude.{Option, None, Some, MatchOption}
+use Rattle.std.specs.Prelude.{Option, None, Some, MatchOption, IfSome}
+use Rattle.std.proofs.lemmas.Option.{none-some, same_Some}
 use mathlib.Core.List.{List}
-use Prim.Native.Nat.{ℕ, ◌≤◌, ◌<◌}
+use Prim.Native.Nat.{ℕ, ◌+◌, ◌-◌, ◌≤◌, ◌<◌}
 use native.Mathlib.Omega.{arith}
+use lib.ListN.{length}
 use Rattle.std.specs.Borrow.{Bor}
 use Rattle.arrayvec.specs.ArrayVec.{ArrayVec}
 use Rattle.ber.specs.Length.{len_enc}
 use Rattle.ber.specs.Tlv.{tlv_dec}
-use Rattle.ber.specs.Read.{read_at, octets_of}
+use Rattle.ber.specs.Read.{read_at, octets_of, LiesIn}
 use Rattle.ber.specs.Write.{Puts}
 
 -- what was found, and the place after it
@@ -34,12 +36,29 @@ len_fixes len None (Some b) e f = absurd (omega (arith, f.0))
 len_fixes len (Some a) None e f = absurd (omega (arith, e.0))
 len_fixes len (Some a) (Some b) e f = ap {B = Option (ArrayVec ℕ)} (λ x. Some x) (holds_fixes (len_enc len) a b e.1 f.1)
 
--- the octets that were found, and the place after them
-pub copies_fixes : (p : List ℕ → Option (List ℕ × List ℕ)) (s : List ℕ) (at : ℕ) (a b : Option (Bor (List ℕ) × ℕ))
-    → octets_of a ≡ read_at p s at → octets_of b ≡ read_at p s at → octets_of a ≡ octets_of b
-copies_fixes p s at a b e f = e ∙ sym f
+-- ---- octets that are answered as a part of those that were lent
 
--- the contents, and the place where they end
-pub lies_fixes : (s : List ℕ) (at t : ℕ) (a b : Option (Bor (List ℕ) × ℕ))
-    → octets_of a ≡ read_at (tlv_dec t) s at → octets_of b ≡ read_at (tlv_dec t) s at → octets_of a ≡ octets_of b
-lies_fixes s at t a b e f = e ∙ sym f
+-- a part that lies in s is known by its octets and by the place after them
+same_part : (s : Bor (List ℕ)) (p q : Bor (List ℕ) × ℕ) → LiesIn s p → LiesIn s q → ◌≡◌ {A = List ℕ × ℕ} (p.0.now, p.1) (q.0.now, q.1) → p ≡ q
+same_part s p q l m e i =
+    let P : List ℕ × ℕ → ℕ × ℕ = λ z. (s.ref_ptr.0, z.1 - length z.0 + s.ref_ptr.1) in
+    (record { ref_ptr = (l ∙ ap P e ∙ sym m) i; now = (e i).0 }, (e i).1)
+
+same_parts : (s : Bor (List ℕ)) (a b : Option (Bor (List ℕ) × ℕ)) → octets_of a ≡ octets_of b → IfSome a (LiesIn s) → IfSome b (LiesIn s) → a ≡ b
+same_parts s None None e l m = refl
+same_parts s None (Some q) e l m = absurd (none-some (q.0.now, q.1) e)
+same_parts s (Some p) None e l m = absurd (none-some (p.0.now, p.1) (sym e))
+same_parts s (Some p) (Some q) e l m =
+    ap {B = Option (Bor (List ℕ) × ℕ)} (λ x. Some x) (same_part s p q l m (same_Some (p.0.now, p.1) (q.0.now, q.1) e))
+
+-- the octets that were found and the place after them, and with the place where they lie the very part
+pub copies_fixes : (p : List ℕ → Option (List ℕ × List ℕ)) (s : Bor (List ℕ)) (at : ℕ) (a b : Option (Bor (List ℕ) × ℕ))
+    → octets_of a ≡ read_at p s.now at → octets_of b ≡ read_at p s.now at
+    → (octets_of a ≡ octets_of b) × (IfSome a (LiesIn s) → IfSome b (LiesIn s) → a ≡ b)
+copies_fixes p s at a b e f = (e ∙ sym f, same_parts s a b (e ∙ sym f))
+
+-- the contents and the place where they end, and with the place where they lie the very part
+pub lies_fixes : (s : Bor (List ℕ)) (at t : ℕ) (a b : Option (Bor (List ℕ) × ℕ))
+    → octets_of a ≡ read_at (tlv_dec t) s.now at → octets_of b ≡ read_at (tlv_dec t) s.now at
+    → (octets_of a ≡ octets_of b) × (IfSome a (LiesIn s) → IfSome b (LiesIn s) → a ≡ b)
+lies_fixes s at t = copies_fixes (tlv_dec t) s at

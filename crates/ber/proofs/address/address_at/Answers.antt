@@ -7,14 +7,14 @@ use Rattle.ber.proofs.address.address_at.Goals as goal
 pub returns-in_err-contents : goal.returns-in_err-contents
 returns-in_err-contents c =
     let a = c.args in
-    rw (first_at a.tag (alone 0x80 (fixed 4)) a.s.now a.at, ← c.part_at.ensures, c.in_err-contents.was) c.from_residual.ensures
+    rw (first_at a.tag (alone 0x80 (fixed 4)) a.s.now a.at, ← c.part_at.ensures.reads, c.in_err-contents.was) c.from_residual.ensures
 
 pub returns-in_err-v : goal.returns-in_err-v
 returns-in_err-v c =
     let a = c.args in
     rw (
       first_at a.tag (alone 0x80 (fixed 4)) a.s.now a.at,
-      ← c.part_at.ensures,
+      ← c.part_at.ensures.reads,
       c.in_ok-contents.was,
       alone_at 0x80 (fixed 4) c.in_ok-contents.contents.now,
       ← c.number_at.ensures.reads,
@@ -26,7 +26,7 @@ returns c =
     let a = c.args in
     rw (
       first_at a.tag (alone 0x80 (fixed 4)) a.s.now a.at,
-      ← c.part_at.ensures,
+      ← c.part_at.ensures.reads,
       c.in_ok-contents.was,
       alone_at 0x80 (fixed 4) c.in_ok-contents.contents.now,
       ← c.number_at.ensures.reads,

@@ -9,14 +9,14 @@ use Rattle.ber.proofs.field.octet_at.Goals as goal
 pub returns-in_err-contents : goal.returns-in_err-contents
 returns-in_err-contents c =
     let a = c.args in
-    rw (first_at a.tag (octet (λ x. true)) a.s.now a.at, ← c.part_at.ensures, c.in_err-contents.was) c.from_residual.ensures
+    rw (first_at a.tag (octet (λ x. true)) a.s.now a.at, ← c.part_at.ensures.reads, c.in_err-contents.was) c.from_residual.ensures
 
 pub returns-then-contents-ne1 : goal.returns-then-contents-ne1
 returns-then-contents-ne1 c =
     let a = c.args in
     rw (
       first_at a.tag (octet (λ x. true)) a.s.now a.at,
-      ← c.part_at.ensures,
+      ← c.part_at.ensures.reads,
       c.in_ok-contents.was,
       one_not (λ x. true) c.in_ok-contents.contents.now c.if-contents-ne1.true,
     ) refl
@@ -24,4 +24,9 @@ returns-then-contents-ne1 c =
 pub returns : goal.returns
 returns c =
     let a = c.args in
-    rw (first_at a.tag (octet (λ x. true)) a.s.now a.at, ← c.part_at.ensures, c.in_ok-contents.was, one_is c.in_ok-contents.contents.now (omega arith)) refl
+    rw (
+      first_at a.tag (octet (λ x. true)) a.s.now a.at,
+      ← c.part_at.ensures.reads,
+      c.in_ok-contents.was,
+      one_is c.in_ok-contents.contents.now (omega arith),
+    ) refl

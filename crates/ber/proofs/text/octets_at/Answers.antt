@@ -11,13 +11,13 @@ use Rattle.ber.proofs.text.octets_at.Goals.{then-contents-few-via-then-contents-
 pub returns-in_err-contents-clause-reads : goal.returns-in_err-contents-clause-reads
 returns-in_err-contents-clause-reads c =
     let a = c.args in
-    rw (first_at a.tag (between (suc a.few) a.most) a.s.now a.at, ← c.part_at.ensures, c.in_err-contents.was, c.from_residual.ensures)
+    rw (first_at a.tag (between (suc a.few) a.most) a.s.now a.at, ← c.part_at.ensures.reads, c.in_err-contents.was, c.from_residual.ensures)
 
 pub returns-then-contents-few-clause-reads : goal.returns-then-contents-few-clause-reads
 returns-then-contents-few-clause-reads c =
     let a = c.args in
     let k = c.in_ok-contents.contents.now in
-    rw (first_at a.tag (between (suc a.few) a.most) a.s.now a.at, ← c.part_at.ensures, c.in_ok-contents.was)
+    rw (first_at a.tag (between (suc a.few) a.most) a.s.now a.at, ← c.part_at.ensures.reads, c.in_ok-contents.was)
     (elim c.then-contents-few.branch [
       | then-contents-few-via-then-contents-few w ↦ rw (between_short (suc a.few) a.most k (omega arith))
       | then-contents-few-via-else-contents-few+then-most-contents w ↦ rw (between_long (suc a.few) a.most k (omega arith))
@@ -28,7 +28,7 @@ returns-clause-reads c =
     let a = c.args in
     rw (
       first_at a.tag (between (suc a.few) a.most) a.s.now a.at,
-      ← c.part_at.ensures,
+      ← c.part_at.ensures.reads,
       c.in_ok-contents.was,
       between_there (suc a.few) a.most c.in_ok-contents.contents.now (omega arith) (omega arith),
     ) refl

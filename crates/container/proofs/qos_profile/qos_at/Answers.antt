@@ -7,14 +7,20 @@ use Rattle.container.proofs.qos_profile.qos_at.Goals as goal
 pub returns-in_err-contents : goal.returns-in_err-contents
 returns-in_err-contents c =
     let a = c.args in
-    rw (first_at a.tag qos a.s.now a.at, ← c.part_at.ensures, c.in_err-contents.was) c.from_residual.ensures
+    rw (first_at a.tag qos a.s.now a.at, ← c.part_at.ensures.reads, c.in_err-contents.was) c.from_residual.ensures
 
 pub returns-in_err-qos_of : goal.returns-in_err-qos_of
 returns-in_err-qos_of c =
     let a = c.args in
-    rw (first_at a.tag qos a.s.now a.at, ← c.part_at.ensures, c.in_ok-contents.was, ← c.qos_of.ensures, c.in_err-qos_of.was) c.from_residual-in_err-qos_of.ensures
+    rw (
+      first_at a.tag qos a.s.now a.at,
+      ← c.part_at.ensures.reads,
+      c.in_ok-contents.was,
+      ← c.qos_of.ensures,
+      c.in_err-qos_of.was,
+    ) c.from_residual-in_err-qos_of.ensures
 
 pub returns : goal.returns
 returns c =
     let a = c.args in
-    rw (first_at a.tag qos a.s.now a.at, ← c.part_at.ensures, c.in_ok-contents.was, ← c.qos_of.ensures, c.in_ok-qos_of.was) refl
+    rw (first_at a.tag qos a.s.now a.at, ← c.part_at.ensures.reads, c.in_ok-contents.was, ← c.qos_of.ensures, c.in_ok-qos_of.was) refl

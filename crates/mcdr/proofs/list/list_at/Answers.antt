@@ -14,14 +14,14 @@ returns-then-not-tag_at c =
 pub returns-in_err-contents : goal.returns-in_err-contents
 returns-in_err-contents c =
     let a = c.args in
-    rw (lists_there a.s.now a.at a.tag (sym c.tag_at.ensures ∙ c.if-not-tag_at.false), ← c.part_at.ensures, c.in_err-contents.was) c.from_residual.ensures
+    rw (lists_there a.s.now a.at a.tag (sym c.tag_at.ensures ∙ c.if-not-tag_at.false), ← c.part_at.ensures.reads, c.in_err-contents.was) c.from_residual.ensures
 
 pub returns-in_err-list_of : goal.returns-in_err-list_of
 returns-in_err-list_of c =
     let a = c.args in
     rw (
       lists_there a.s.now a.at a.tag (sym c.tag_at.ensures ∙ c.if-not-tag_at.false),
-      ← c.part_at.ensures,
+      ← c.part_at.ensures.reads,
       c.in_ok-contents.was,
       ← c.list_of.ensures,
       c.in_err-list_of.was,
@@ -32,7 +32,7 @@ returns c =
     let a = c.args in
     rw (
       lists_there a.s.now a.at a.tag (sym c.tag_at.ensures ∙ c.if-not-tag_at.false),
-      ← c.part_at.ensures,
+      ← c.part_at.ensures.reads,
       c.in_ok-contents.was,
       ← c.list_of.ensures,
       c.in_ok-list_of.was,
