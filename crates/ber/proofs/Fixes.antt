@@ -7,11 +7,11 @@ use Prim.Native.Nat.{ℕ, ◌+◌, ◌-◌, ◌≤◌, ◌<◌}
 use native.Mathlib.Omega.{arith}
 use lib.ListN.{length}
 use Rattle.std.specs.Borrow.{Bor}
-use Rattle.arrayvec.specs.ArrayVec.{ArrayVec}
+use Rattle.ber.specs.declared.octet.Octets.{Octets}
 use Rattle.ber.specs.Length.{len_enc}
 use Rattle.ber.specs.Tlv.{tlv_dec}
 use Rattle.ber.specs.Read.{read_at, octets_of, LiesIn}
-use Rattle.ber.specs.Write.{Puts}
+use Rattle.ber.specs.Write.{Puts, Holds}
 
 -- what was found, and the place after it
 pub reads_fixes : {A : Type 0} (p : List ℕ → Option (A × List ℕ)) (s : List ℕ) (at : ℕ) (a b : Option (A × ℕ))
@@ -23,18 +23,18 @@ pub puts_fixes : {x : Option (List ℕ)} {b c d : List ℕ} {at : ℕ} {m n : Op
     → ◌≡◌ {A = List ℕ × Option ℕ} (c, m) (d, n)
 puts_fixes a b = a.is ∙ sym b.is
 
--- the vector: its octets, and how many they are
-pub holds_fixes : (x : List ℕ) (a b : ArrayVec ℕ) → a.items ≡ x → b.items ≡ x → a ≡ b
-holds_fixes x a b e f i = record { items = (e ∙ sym f) i }
+-- the array, and how many octets of it count
+pub holds_fixes : (m : ℕ) (x : List ℕ) (a b : Octets m) → Holds m x a.octets a.n → Holds m x b.octets b.n → a ≡ b
+holds_fixes m x a b e f i = record { n = (e.size ∙ sym f.size) i; octets = (e.octets ∙ sym f.octets) i }
 
--- the vector that says a length, or that there is none
-pub len_fixes : (len : ℕ) (a b : Option (ArrayVec ℕ))
-    → MatchOption a (65536 ≤ len) (λ x. (len < 65536) × (x.items ≡ len_enc len))
-    → MatchOption b (65536 ≤ len) (λ x. (len < 65536) × (x.items ≡ len_enc len)) → a ≡ b
+-- the octets of a length, or that there are none
+pub len_fixes : (len : ℕ) (a b : Option (Octets 3))
+    → MatchOption a (65536 ≤ len) (λ x. (len < 65536) × Holds 3 (len_enc len) x.octets x.n)
+    → MatchOption b (65536 ≤ len) (λ x. (len < 65536) × Holds 3 (len_enc len) x.octets x.n) → a ≡ b
 len_fixes len None None e f = refl
 len_fixes len None (Some b) e f = absurd (omega (arith, f.0))
 len_fixes len (Some a) None e f = absurd (omega (arith, e.0))
-len_fixes len (Some a) (Some b) e f = ap {B = Option (ArrayVec ℕ)} (λ x. Some x) (holds_fixes (len_enc len) a b e.1 f.1)
+len_fixes len (Some a) (Some b) e f = ap {B = Option (Octets 3)} (λ x. Some x) (holds_fixes 3 (len_enc len) a b e.1 f.1)
 
 -- ---- octets that are answered as a part of those that were lent
 
