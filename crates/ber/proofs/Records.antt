@@ -20,6 +20,7 @@ use Rattle.ber.specs.Read.{read_at}
 use Rattle.ber.proofs.Readers.{into, first_at, alone_at}
 use Rattle.ber.specs.Write.{put, Puts}
 use Rattle.ber.specs.Written.{written}
+use Rattle.ber.specs.Answer.{no_record, answer_of}
 use Rattle.ber.specs.declared.written.NotWritten.{NotWritten}
 use Rattle.ber.specs.declared.written.NotWritten.TheVariants.{OutsideRules, NoRoom}
 use Rattle.ber.proofs.Writers.{puts_room, puts_lost}
@@ -158,3 +159,19 @@ module _ {A : Type 0} (f : Fmt A) (shaped within : A → Bool)
           let (g, _) = (exact s x).0 (sym p) in
           let t = and_l (shaped x) (within x) g in
           (x, t, and_r (shaped x) (within x) g, λ b b' w h q. ((read_written s x t p h q).0 refl).1)
+
+  -- The number that the refusal table has for what the reader answers: 20 exactly where s is the octets of no record within the rules, and 0 exactly
+  -- where it is those of one.
+  pub read_number : (s : List ℕ) {o : Option A} → o ≡ f.dec s
+      → ((answer_of o ≡ no_record) ↔ ((r : A) → T (shaped r && within r) → f.enc r ≡ s → ⊥))
+      × ((answer_of o ≡ 0) ↔ ((r : A) × T (shaped r && within r) × (f.enc r ≡ s)))
+  read_number s {o} p = go o p
+    where
+      go : (o : Option A) → o ≡ f.dec s
+          → ((answer_of o ≡ no_record) ↔ ((r : A) → T (shaped r && within r) → f.enc r ≡ s → ⊥))
+          × ((answer_of o ≡ 0) ↔ ((r : A) × T (shaped r && within r) × (f.enc r ≡ s)))
+      go None p = (
+        (λ z r t e. none-some r (p ∙ (exact s r).1 (t, e)), λ h. refl),
+        (λ z. absurd (omega (arith, z)), λ (r, t, e). absurd (none-some r (p ∙ (exact s r).1 (t, e)))),
+      )
+      go (Some x) p = let (t, e) = (exact s x).0 (sym p) in ((λ z. absurd (omega (arith, z)), λ h. absurd (h x t e)), (λ z. (x, t, e), λ h. refl))

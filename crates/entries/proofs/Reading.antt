@@ -1,5 +1,5 @@
 -- The reader of entries: what it answers with an entry of each kind at the place, and with none.
-use mathlib.Core.Path.{◌≡◌, refl, sym, ◌∙◌}
+use mathlib.Core.Path.{◌≡◌, refl, sym, ap, ◌∙◌}
 use mathlib.Core.Bool.{true, false}
 use Rattle.std.specs.Prelude.{Option, None, Some}
 use mathlib.Core.List.{List, []}
@@ -9,11 +9,12 @@ use Rattle.std.specs.Option.{IsSomeAnd}
 use Rattle.format.specs.Maybe.{bind}
 use Rattle.ber.specs.Tlv.{tlv_dec}
 use Rattle.ber.specs.Field.{first}
+use Rattle.ber.specs.Answer.{no_record, answer_of}
 use Rattle.scdr.specs.declared.Record.{Record}
 use Rattle.scdr.specs.Layout.{scdr}
 use Rattle.mcdr.specs.declared.MmRecord.{MmRecord}
 use Rattle.mcdr.specs.Layout.{mcdr}
-use Rattle.cdrs.specs.Cdr.{pdp, mm, cdr_dec}
+use Rattle.cdrs.specs.Cdr.{Cdr, pdp, mm, cdr_dec}
 use Rattle.cdrs.proofs.Values.{is_mm}
 use Rattle.entries.specs.declared.Entry.{Entry}
 use Rattle.entries.specs.declared.read.Cdr as read
@@ -56,6 +57,21 @@ module _ (s : List ℕ) (at : ℕ) {x : Entry} (k : x ≡ entry_at s at) where
     unfolding cdr_dec
     reads_mm t w = record { entry = k; kind = rw (e, t); reads = rw (e, t) w }
 
+-- ---- the number of an answer: that of a record of either kind, and of a record of one
+
+number_of_cdr : (o : Option read.Cdr) → answer_of o ≡ answer_of (cdr_of o)
+number_of_cdr None = refl
+number_of_cdr (Some (read-cdr.Pdp r)) = refl
+number_of_cdr (Some (read-cdr.Mm r)) = refl
+
+number_of_pdp : (o : Option Record) → answer_of (bind o (λ r. Some (pdp r))) ≡ answer_of o
+number_of_pdp None = refl
+number_of_pdp (Some r) = refl
+
+number_of_mm : (o : Option MmRecord) → answer_of (bind o (λ r. Some (mm r))) ≡ answer_of o
+number_of_mm None = refl
+number_of_mm (Some r) = refl
+
 -- ---- the reader of each kind
 
 module _ {s : List ℕ} {at : ℕ} {e : ReadEntry} (w : ReadsEntry s at e) where
@@ -71,3 +87,19 @@ module _ {s : List ℕ} {at : ℕ} {e : ReadEntry} (w : ReadsEntry s at e) where
   pub answers_mm : e.mm ≡ true → cdr_of e.cdr ≡ bind (mcdr.dec found) (λ r. Some (mm r))
   unfolding cdr_dec
   answers_mm f = let t : is_mm found ≡ true = sym w.kind ∙ f in rw t at w.reads
+
+  -- its number is that of a reader of the record's octets, whatever their kind..
+  pub answers_number : answer_of e.cdr ≡ answer_of (cdr_dec found)
+  answers_number = number_of_cdr e.cdr ∙ ap {A = Option Cdr} answer_of w.reads
+
+  -- .. and 20 where there is no entry
+  pub answers_no_entry : place_of (entry_at s at) ≡ None → answer_of e.cdr ≡ no_record
+  unfolding cdr_dec scdr mcdr first tlv_dec
+  answers_no_entry n = rw n at answers_number
+
+  -- of an S-CDR's octets, and of an M-CDR's, it is the number of that kind's own reader
+  pub number_pdp : e.mm ≡ false → answer_of e.cdr ≡ answer_of (scdr.dec found)
+  number_pdp f = number_of_cdr e.cdr ∙ ap {A = Option Cdr} answer_of (answers_pdp f) ∙ number_of_pdp (scdr.dec found)
+
+  pub number_mm : e.mm ≡ true → answer_of e.cdr ≡ answer_of (mcdr.dec found)
+  number_mm f = number_of_cdr e.cdr ∙ ap {A = Option Cdr} answer_of (answers_mm f) ∙ number_of_mm (mcdr.dec found)

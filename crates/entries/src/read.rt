@@ -18,7 +18,7 @@ pub struct ReadEntry {
     pub entry: Entry,
     // the record that was found has the tag of an M-CDR: told of a refused one too, which is no Cdr
     pub mm: bool,
-    // None is the refusal 20: no entry was found, or one whose octets are no record within the rules
+    // None is the refusal 20 (`ber::answer::answer_of` says the number): no entry was found, or one whose octets are no record within the rules
     pub cdr: Option<Cdr>,
 }
 

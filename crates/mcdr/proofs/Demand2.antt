@@ -9,10 +9,11 @@ use mathlib.Core.List.{List, ◌++◌}
 use Prim.Native.Nat.{ℕ, ◌≤◌}
 use lib.Dec.{T}
 use lib.ListN.{length, drop}
-use Rattle.ber.proofs.Records.{read_written, read_some_written}
+use Rattle.ber.specs.Answer.{no_record, answer_of}
+use Rattle.ber.proofs.Records.{read_written, read_some_written, read_number}
 use Rattle.mcdr.specs.declared.MmRecord.{MmRecord}
 use Rattle.mcdr.specs.Rules.{shaped, within}
-use Rattle.mcdr.specs.Layout.{mcdr}
+use Rattle.mcdr.specs.Layout.{rules, mcdr}
 use Rattle.mcdr.specs.Answers.{write_of, Writes}
 use Rattle.mcdr.proofs.Theorems.{exact}
 use Rattle.mcdr.proofs.Answering.{writes_answers, answers_writes}
@@ -25,7 +26,13 @@ write_answers r b = record { is = refl }
 pub read_answers : (s : List ℕ) → (o : Option MmRecord) × (o ≡ mcdr.dec s)
 read_answers s = (mcdr.dec s, refl)
 
--- ---- they are those of any record's writer and reader
+-- ---- the number of what the reader answers
+
+-- 20 is answered exactly where s is the octets of no record within the rules, and 0 exactly where it is those of one
+pub read_numbers : (s : List ℕ) {o : Option MmRecord} → o ≡ mcdr.dec s
+    → ((answer_of o ≡ no_record) ↔ ((r : MmRecord) → T (rules r) → mcdr.enc r ≡ s → ⊥))
+    × ((answer_of o ≡ 0) ↔ ((r : MmRecord) × T (rules r) × (mcdr.enc r ≡ s)))
+read_numbers s p = read_number mcdr shaped within exact s p
 
 -- ---- demand 2
 

@@ -1,4 +1,5 @@
--- What the writer and the reader of an M-CDR answer, with the numbers of 01's refusal table.
+-- What the writer of an M-CDR answers. What the reader answers is `mcdr.dec` (specs/Layout.antt). The numbers of 01's refusal table for both stand
+-- in ber: `number_of` of what the writer answers (specs/Written.antt), `answer_of` of what the reader does (specs/Answer.antt).
 use Rattle.std.specs.Prelude.{◌≡◌, List, [], ℕ}
 use Rattle.std.specs.Prelude.{Option, None, Some, Result}
 use Rattle.ber.specs.declared.written.NotWritten.{NotWritten}

@@ -5,8 +5,8 @@ ghost use Rattle.mcdr.specs.Layout.{mcdr};
 use crate::{MmRecord, fields, rules, tags};
 use ber::tlv;
 
-// Reads a record, without its mark: all of s. It answers the record whose octets s is, if that is one within the rules; None is the
-// refusal 20.
+// Reads a record, without its mark: all of s. It answers the record whose octets s is, if that is one within the rules; else None, which is
+// the refusal 20 (`ber::answer::answer_of` says the number of an answer).
 pub fn read_record(s: &[u8]) -> Option<MmRecord>
     ensures { result ≡ mcdr.dec s.now }
 {

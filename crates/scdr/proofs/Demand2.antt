@@ -9,10 +9,11 @@ use mathlib.Core.List.{List, ◌++◌}
 use Prim.Native.Nat.{ℕ, ◌≤◌}
 use lib.Dec.{T}
 use lib.ListN.{length, drop}
-use Rattle.ber.proofs.Records.{read_written, read_some_written}
+use Rattle.ber.specs.Answer.{no_record, answer_of}
+use Rattle.ber.proofs.Records.{read_written, read_some_written, read_number}
 use Rattle.scdr.specs.declared.Record.{Record}
 use Rattle.scdr.specs.Rules.{shaped, within}
-use Rattle.scdr.specs.Layout.{scdr}
+use Rattle.scdr.specs.Layout.{rules, scdr}
 use Rattle.scdr.specs.Answers.{write_of, Writes}
 use Rattle.scdr.proofs.Theorems.{exact}
 use Rattle.scdr.proofs.Answering.{writes_answers, answers_writes}
@@ -25,7 +26,13 @@ write_answers r b = record { is = refl }
 pub read_answers : (s : List ℕ) → (o : Option Record) × (o ≡ scdr.dec s)
 read_answers s = (scdr.dec s, refl)
 
--- ---- they are those of any record's writer and reader
+-- ---- the number of what the reader answers
+
+-- 20 is answered exactly where s is the octets of no record within the rules, and 0 exactly where it is those of one
+pub read_numbers : (s : List ℕ) {o : Option Record} → o ≡ scdr.dec s
+    → ((answer_of o ≡ no_record) ↔ ((r : Record) → T (rules r) → scdr.enc r ≡ s → ⊥))
+    × ((answer_of o ≡ 0) ↔ ((r : Record) × T (rules r) × (scdr.enc r ≡ s)))
+read_numbers s p = read_number scdr shaped within exact s p
 
 -- ---- demand 2
 

@@ -1,4 +1,5 @@
--- What the writer and the reader of a record answer, with the numbers of 01's refusal table.
+-- What the writer of a record answers. What the reader answers is `scdr.dec` (specs/Layout.antt). The numbers of 01's refusal table for both stand
+-- in ber: `number_of` of what the writer answers (specs/Written.antt), `answer_of` of what the reader does (specs/Answer.antt).
 use Rattle.std.specs.Prelude.{◌≡◌, false, List, [], ℕ, ◌≤◌, length}
 use Rattle.std.specs.Prelude.{Option, None, Some, IfSome, Result}
 use Rattle.format.specs.Maybe.{guard}
@@ -9,10 +10,8 @@ use Rattle.scdr.specs.declared.Record.{Record}
 use Rattle.scdr.specs.Rules.{within}
 use Rattle.octets.specs.Filled.{fill_to}
 use Rattle.scdr.specs.Layout.{scdr}
-
 -- 20: not an image of any record within the rules
-abbrev pub no_record : ℕ
-no_record = 20
+pub use Rattle.ber.specs.Answer.{no_record}
 
 -- ---- the lone writer: a record outside the rules is refused, then one that does not fit; else the record's octets stand at the buffer's
 -- start, every later octet as before

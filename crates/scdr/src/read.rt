@@ -8,8 +8,8 @@ ghost use Rattle.scdr.specs.Private.Taken.{Taken};
 use crate::{Record, duration, fields, rules, tags};
 use ber::tlv;
 
-// Reads a record, without its mark: all of s. It answers the record whose octets s is, if that is one within the rules; None is the
-// refusal 20.
+// Reads a record, without its mark: all of s. It answers the record whose octets s is, if that is one within the rules; else None, which is
+// the refusal 20 (`ber::answer::answer_of` says the number of an answer).
 pub fn read_record(s: &[u8]) -> Option<Record>
     ensures { result ≡ scdr.dec s.now }
 {

@@ -11,6 +11,7 @@
 pub mod block;
 
 use crate::lent;
+use ber::answer;
 use ber::written::NotWritten;
 use mcdr::MmRecord;
 use out::Stream;
@@ -29,9 +30,6 @@ enum Task {
     Read,
     Both,
 }
-
-// The number of the refusal table for octets that are no record within the rules.
-const NO_RECORD: u8 = 20;
 
 // A kind of records, each of which has a block.
 trait Kind: Sized + Drop {
@@ -140,10 +138,11 @@ fn put_record<K: Kind>(to: &mut Stream, octets: &[u8], back: bool) {
 
 // One record: its block, or the number of the refusal.
 fn read_record<K: Kind>(to: &mut Stream, octets: &[u8]) {
-    match K::read(octets) {
+    let read = K::read(octets);
+    match &read {
         Some(record) => record.put_block(to),
         None => {
-            let _ = writeln!(to, "{NO_RECORD}");
+            let _ = writeln!(to, "{}", answer::answer_of(&read));
         }
     }
 }
