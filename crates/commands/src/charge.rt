@@ -26,7 +26,7 @@ const MOST: usize = 16416;
 // records, and their octets.
 #[derive(Drop)]
 struct Charge<'a, F> {
-    command: Command,
+    command: Command<'a>,
     output: Stdout,
     input: Input<'a, F>,
     node: Node,
@@ -113,9 +113,9 @@ fn run<F: Read + Drop>(command: Command, output: Stdout, file: F, profile: Profi
     charge.say_tally();
 }
 
-fn command(error: Stderr) -> Command {
+fn command(error: Stderr) -> Command<'static> {
     Command {
-        name: "charge",
+        name: b"charge",
         error,
     }
 }
@@ -132,6 +132,6 @@ pub fn main<R: Env + Files>(rt: &R, output: Stdout, error: Stderr) {
     if setup::arg_count(rt) == 4 {
         charge_file(rt, output, error);
     } else {
-        setup::say_line(error, &"usage: charge PROFILE EVENTS");
+        setup::say_line(error, b"usage: charge PROFILE EVENTS\n");
     }
 }

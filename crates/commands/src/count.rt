@@ -21,7 +21,7 @@ const LONGEST: usize = 1026;
 // A list through its window, of whose records those of a name are counted; and what was counted up to the next.
 #[derive(Drop)]
 struct Count<'a, F> {
-    command: Command,
+    command: Command<'a>,
     input: Input<'a, F>,
     id: u32,
     ggsn: u32,
@@ -108,14 +108,14 @@ pub fn count_file<R: Env + Files>(rt: &R, output: Stdout, error: Stderr, argumen
     let Some(id) = id_of(rt, argument.wrapping_add(1)) else {
         setup::say_line(
             error,
-            &"count: ID is a whole number of 0 to 4294967295 in decimal, without zeros in front",
+            b"count: ID is a whole number of 0 to 4294967295 in decimal, without zeros in front\n",
         );
         return;
     };
     let Some(ggsn) = address_of(rt, argument.wrapping_add(2)) else {
         setup::say_line(
             error,
-            &"count: GGSN is an address: four numbers of 0 to 255 with dots",
+            b"count: GGSN is an address: four numbers of 0 to 255 with dots\n",
         );
         return;
     };
@@ -124,9 +124,9 @@ pub fn count_file<R: Env + Files>(rt: &R, output: Stdout, error: Stderr, argumen
     }
 }
 
-fn command(error: Stderr) -> Command {
+fn command(error: Stderr) -> Command<'static> {
     Command {
-        name: "count",
+        name: b"count",
         error,
     }
 }
@@ -135,6 +135,6 @@ pub fn main<R: Env + Files>(rt: &R, output: Stdout, error: Stderr) {
     if setup::arg_count(rt) == 5 {
         count_file(rt, output, error, 2);
     } else {
-        setup::say_line(error, &"usage: count RECORDS ID GGSN");
+        setup::say_line(error, b"usage: count RECORDS ID GGSN\n");
     }
 }

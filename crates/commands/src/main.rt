@@ -31,6 +31,6 @@ fn main(rt: HostRuntime) {
             show::show_file(&rt, output, error, 4, shown::Style::Text);
             count::count_file(&rt, output, error, 4);
         }
-        _ => setup::say_line(error, &"usage: commands charge|show|count ARGUMENT.."),
+        _ => setup::say_line(error, b"usage: commands charge|show|count ARGUMENT..\n"),
     }
 }

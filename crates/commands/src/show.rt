@@ -41,7 +41,7 @@ impl fmt::Display for Wrong {
 // A list through its window, each record of which is shown in a style; how many were; and what is wrong with the next.
 #[derive(Drop)]
 struct Show<'a, F> {
-    command: Command,
+    command: Command<'a>,
     to: Stream,
     style: Style,
     input: Input<'a, F>,
@@ -142,9 +142,9 @@ fn run<F: Read + Drop>(command: Command, to: Stream, file: F, style: Style) {
     show.finish();
 }
 
-fn command(error: Stderr) -> Command {
+fn command(error: Stderr) -> Command<'static> {
     Command {
-        name: "show",
+        name: b"show",
         error,
     }
 }
@@ -168,6 +168,6 @@ pub fn main<R: Env + Files>(rt: &R, output: Stdout, error: Stderr) {
     match (setup::arg_count(rt), json) {
         (3, false) => show_file(rt, output, error, 2, Style::Text),
         (4, true) => show_file(rt, output, error, 3, Style::Json),
-        _ => setup::say_line(error, &"usage: show [--json] RECORDS"),
+        _ => setup::say_line(error, b"usage: show [--json] RECORDS\n"),
     }
 }

@@ -44,8 +44,13 @@ pub fn say_why(error: Stderr, what: &[u8], why: io::Error) {
     let _ = to.flush();
 }
 
-// Says a line as it stands.
-pub fn say_line(error: Stderr, line: &impl fmt::Display) {
+// Says a line as it stands, in which its line feed is.
+pub fn say_line(error: Stderr, line: &[u8]) {
+    let _ = error.write_all(line);
+}
+
+// Says what can be shown, and a line feed after it.
+pub fn say(error: Stderr, line: &impl fmt::Display) {
     let mut to = out::to_error(error);
     let _ = writeln!(to, "{line}");
     let _ = to.flush();
@@ -104,30 +109,33 @@ pub fn run<T: Turns>(turns: &mut T) {
     }
 }
 
-// A command: its name, with which it says what is wrong, and standard error, where it does.
+// A command: its name, any octets, with which it says what is wrong, and standard error, where it does.
 #[derive(Clone, Copy)]
-pub struct Command {
-    pub name: &'static str,
+pub struct Command<'a> {
+    pub name: &'a [u8],
     pub error: Stderr,
 }
 
-impl Command {
+impl<'a> Command<'a> {
     // Says a line, after the command's name.
     pub fn say(self, line: &impl fmt::Display) {
-        let name = self.name;
-        say_line(self.error, &format_args!("{name}: {line}"));
+        let mut to = out::to_error(self.error);
+        let _ = to.write_all(self.name);
+        let _ = writeln!(to, ": {line}");
+        let _ = to.flush();
     }
 
     // Says what failed, and why, after the command's name.
     pub fn fail(self, what: &[u8], why: io::Error) {
         let mut to = out::to_error(self.error);
-        let _ = write!(to, "{}: ", self.name);
+        let _ = to.write_all(self.name);
+        let _ = to.write_all(b": ");
         let _ = to.flush();
         say_why(self.error, what, why);
     }
 
-    // The same of standard output, where a write failed.
-    pub fn fail_output(self, output: &Stream) {
+    // The same of standard output, where a write failed. A stream to another end is called so too.
+    pub fn fail_output<W: Write>(self, output: &Stream<W>) {
         if let Some(why) = output.failed() {
             self.fail(b"standard output", why);
         }

@@ -130,7 +130,7 @@ fn ask(node: Node, batch: bool, octets: &[u8], out: &mut [u8]) -> Called {
 // A file of calls through its window, the node that they are run on, and the number of the next, from 1.
 #[derive(Drop)]
 struct Calls<'a, F> {
-    command: Command,
+    command: Command<'a>,
     to: Stream,
     input: Input<'a, F>,
     node: Node,
@@ -219,7 +219,7 @@ fn run<F: Read + Drop>(command: Command, output: Stdout, file: F, profile: Profi
 // The file that an argument names, from a fresh node.
 pub fn run_file<R: Env + Files>(rt: &R, output: Stdout, error: Stderr, argument: usize) {
     let command = Command {
-        name: "calls",
+        name: b"calls",
         error,
     };
     if let Some((profile, file)) = command.start(rt, argument) {
@@ -231,6 +231,6 @@ pub fn main<R: Env + Files>(rt: &R, output: Stdout, error: Stderr) {
     if setup::arg_count(rt) == 4 {
         run_file(rt, output, error, 3);
     } else {
-        setup::say_line(error, &"usage: calls PROFILE CALLS");
+        setup::say_line(error, b"usage: calls PROFILE CALLS\n");
     }
 }

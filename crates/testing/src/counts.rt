@@ -107,7 +107,7 @@ impl<F: Read> Counts<F> {
     }
 
     fn cut_short(&self) -> bool {
-        setup::say_line(self.error, &"counts: the last case is cut short");
+        setup::say_line(self.error, b"counts: the last case is cut short\n");
         false
     }
 }
@@ -115,7 +115,7 @@ impl<F: Read> Counts<F> {
 // The cases of the file that an argument names.
 pub fn count_file<R: Env + Files>(rt: &R, output: Stdout, error: Stderr, argument: usize) {
     let command = Command {
-        name: "counts",
+        name: b"counts",
         error,
     };
     if let Some(file) = command.open(rt, argument) {

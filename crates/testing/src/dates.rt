@@ -48,7 +48,7 @@ impl<F: Read> Turns for Dates<F> {
                 true
             }
             _ => {
-                setup::say_line(self.error, &"dates: the last time is cut short");
+                setup::say_line(self.error, b"dates: the last time is cut short\n");
                 false
             }
         }

@@ -66,7 +66,7 @@ fn main(rt: HostRuntime) {
         }
         _ => setup::say_line(
             error,
-            &"usage: testing calls|records|dates|counts|pace|tick|all ARGUMENT..",
+            b"usage: testing calls|records|dates|counts|pace|tick|all ARGUMENT..\n",
         ),
     }
 }

@@ -248,11 +248,11 @@ fn pace_count(
 
 pub fn main<R: Env + Files + CpuClock>(rt: &R, output: Stdout, error: Stderr) {
     if setup::arg_count(rt) != 5 {
-        setup::say_line(error, &"usage: pace PROFILE EVENTS RECORDS");
+        setup::say_line(error, b"usage: pace PROFILE EVENTS RECORDS\n");
         return;
     }
     let command = Command {
-        name: "pace",
+        name: b"pace",
         error,
     };
     if let Some(p) = command.profile(rt, 2) {

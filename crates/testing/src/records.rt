@@ -179,7 +179,7 @@ impl<F: Read, K: Kind> Records<F, K> {
             return false;
         }
         if n < K::SIZE {
-            setup::say_line(self.error, &"records: the last block is cut short");
+            setup::say_line(self.error, b"records: the last block is cut short\n");
             return false;
         }
         write_block::<K>(&mut self.to, octets::front(&b, n), back);
@@ -195,7 +195,7 @@ impl<F: Read, K: Kind> Records<F, K> {
         let mut b = [0u8; 65536];
         let n = block::two(&head, 0);
         if window::read_full(&mut self.file, lent(&mut b, n)) < n {
-            setup::say_line(self.error, &"records: the last record is cut short");
+            setup::say_line(self.error, b"records: the last record is cut short\n");
             return false;
         }
         read_record::<K>(&mut self.to, octets::front(&b, n));
@@ -229,7 +229,7 @@ pub fn both<F: Read + Drop>(output: Stdout, error: Stderr, file: F) {
 // The blocks of M-CDRs in the file that an argument names.
 pub fn both_mm<R: Env + Files>(rt: &R, output: Stdout, error: Stderr, argument: usize) {
     let command = Command {
-        name: "records",
+        name: b"records",
         error,
     };
     if let Some(file) = command.open(rt, argument) {
@@ -250,7 +250,7 @@ pub fn main<F: Read + Drop>(rt: &impl Env, output: Stdout, error: Stderr, file: 
         b"both-mm" => run(output, error, file, Task::Both, mm),
         _ => setup::say_line(
             error,
-            &"usage: records write|read|both|write-mm|read-mm|both-mm",
+            b"usage: records write|read|both|write-mm|read-mm|both-mm\n",
         ),
     }
 }

@@ -42,11 +42,11 @@ fn run_last(profile: Profile, s: &[u8]) -> (u64, u64) {
 
 pub fn main<R: Env + Files + CpuClock>(rt: &R, output: Stdout, error: Stderr) {
     if setup::arg_count(rt) != 4 {
-        setup::say_line(error, &"usage: tick PROFILE EVENTS");
+        setup::say_line(error, b"usage: tick PROFILE EVENTS\n");
         return;
     }
     let command = Command {
-        name: "tick",
+        name: b"tick",
         error,
     };
     if let Some(p) = command.profile(rt, 2) {
