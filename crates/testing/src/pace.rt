@@ -7,6 +7,9 @@
 // counted again and again, for the names of these 64 in turn. Standard output has a line for each of the five: its name, how many calls there
 // were (of a count: how many records it went over), a sum over what they answered, and the microseconds that they took. Each file is held
 // whole, so it has 65,536 octets at most.
+//
+// An M-CDR among the first 64 keeps its turn: a write of it adds nothing, and the name that is counted for it is 0 at 0.0.0.0. A list whose
+// first entry does not read is as one with an M-CDR there.
 ghost use Rattle.std.specs.Prelude.{◌≤◌};
 
 use entries::Entry;
@@ -92,16 +95,17 @@ fn read_records(s: &[u8]) -> u64 {
     sum
 }
 
-// The first records of a list, as many as there is room for: how many they are.
+// The S-CDRs among the first records of a list, each at its place, as many places as there is room for: how many records there are.
 fn keep(s: &[u8], records: &mut [Option<Record>]) -> usize {
     let room = records.len();
     let mut at = 0;
     for (i, record) in records.iter_mut().enumerate() {
         let z = entries::read::read_entry(s, at);
-        let Some(Cdr::Pdp(cdr)) = z.cdr else {
-            return i;
-        };
-        *record = Some(cdr);
+        match z.cdr {
+            Some(Cdr::Pdp(cdr)) => *record = Some(cdr),
+            Some(Cdr::Mm(_)) => {}
+            None => return i,
+        }
         at = next(z.entry);
     }
     room
@@ -153,18 +157,25 @@ fn count_stepping(s: &[u8], id: u32, ggsn: u32) -> u64 {
     counted(t.count, t.number)
 }
 
+// The name of the S-CDR at a place; 0 at 0.0.0.0 where none is.
+fn name_at(record: &Option<Record>) -> (u32, u32) {
+    match record {
+        Some(r) => (r.charging, r.ggsn),
+        None => (0, 0),
+    }
+}
+
 // Lists counted for the names of records, one after another. Answers a sum over the counts and the last numbers.
 fn count_names(s: &[u8], records: &[Option<Record>], reading: bool) -> u64 {
     let mut sum: u64 = 0;
     for record in records.iter().cycle().take(COUNTS as usize) {
-        if let Some(r) = record {
-            let one = if reading {
-                count_reading(s, r.charging, r.ggsn)
-            } else {
-                count_stepping(s, r.charging, r.ggsn)
-            };
-            sum = sum.wrapping_add(one);
-        }
+        let (id, ggsn) = name_at(record);
+        let one = if reading {
+            count_reading(s, id, ggsn)
+        } else {
+            count_stepping(s, id, ggsn)
+        };
+        sum = sum.wrapping_add(one);
     }
     sum
 }
@@ -220,7 +231,7 @@ fn pace_records<R: Env + Files + CpuClock>(rt: &R, to: &mut Stream, command: Com
 
 fn pace_list(rt: &impl CpuClock, to: &mut Stream, list: &[u8]) {
     let mut records = [None; KEPT];
-    let n = keep(list, &mut records);
+    let n = keep(list, &mut records).max(1);
     let kept = records.get(..n).unwrap_or(&records);
     let from = clock(rt);
     let sum = write_records(kept);
