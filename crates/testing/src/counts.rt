@@ -6,12 +6,11 @@
 // A line a case out: the answer 0, how many records the name has and the number of the last, or - where it carries none; or 21, a word for
 // what does not fit, and its place. A window from 1,026 on has the list counted in turns of so many octets, any other all at once
 // (docs/FORMATS.md).
-use crate::lent;
 use crate::records::block;
-use out::Stream;
+use crate::{lent, put_line};
 use setup::{Command, Turns};
 use std::env::Env;
-use std::io::{Read, Stderr, Stdout, Write};
+use std::io::{Read, Stderr, Stdout};
 use std::rt::Files;
 use tally::{Fault, Tally};
 
@@ -30,16 +29,18 @@ fn word_of(f: Fault) -> &'static str {
 }
 
 // Writes the line of a case.
-fn write_tally(to: &mut Stream, t: Tally) {
+fn write_tally(output: Stdout, t: Tally) {
     let answer = tally::count::answer(t.fault);
-    let _ = if answer != 0 {
-        writeln!(to, "{answer} {} {}", word_of(t.fault), t.at)
+    if answer != 0 {
+        put_line(
+            output,
+            &format_args!("{answer} {} {}", word_of(t.fault), t.at),
+        );
     } else if t.number == 0 {
-        writeln!(to, "0 {} -", t.count)
+        put_line(output, &format_args!("0 {} -", t.count));
     } else {
-        writeln!(to, "0 {} {}", t.count, t.number)
-    };
-    let _ = to.flush();
+        put_line(output, &format_args!("0 {} {}", t.count, t.number));
+    }
 }
 
 // One turn: counts on over what a window of so many octets shows of the list.
@@ -77,7 +78,7 @@ fn tally_of(head: &[u8], list: &[u8]) -> Tally {
 // A file of cases.
 #[derive(Drop)]
 struct Counts<F> {
-    to: Stream,
+    output: Stdout,
     error: Stderr,
     file: F,
 }
@@ -102,7 +103,7 @@ impl<F: Read> Counts<F> {
         if window::read_full(&mut self.file, lent(&mut b, n)) < n {
             return self.cut_short();
         }
-        write_tally(&mut self.to, tally_of(head, octets::front(&b, n)));
+        write_tally(self.output, tally_of(head, octets::front(&b, n)));
         true
     }
 
@@ -125,7 +126,7 @@ pub fn count_file<R: Env + Files>(rt: &R, output: Stdout, error: Stderr, argumen
 
 pub fn main<F: Read + Drop>(output: Stdout, error: Stderr, file: F) {
     let mut counts = Counts {
-        to: out::to_output(output),
+        output,
         error,
         file,
     };

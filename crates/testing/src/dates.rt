@@ -4,35 +4,36 @@
 //
 // Standard input has times of six octets each: the seconds, and the zone. A line a time out: its nine octets in hex, and the seconds and
 // the zone that these are read as; or the word none, where the time or the zone is out of range (docs/FORMATS.md).
+use crate::put_line;
 use crate::records::block;
 use calendar::Stamp;
-use out::Stream;
 use setup::Turns;
 use shown::Hex;
-use std::io;
-use std::io::{Read, Stderr, Stdout, Write};
+use std::io::{Read, Stderr, Stdout};
 
 // The octets of a time, and what they are read as.
-fn put_octets(to: &mut Stream, octets: &[u8]) -> io::Result<()> {
+fn put_octets(output: Stdout, octets: &[u8]) {
     match calendar::stamp_of(octets) {
-        Some(back) => writeln!(to, "{} {} {}", Hex(octets), back.seconds, back.zone),
-        None => writeln!(to, "none"),
+        Some(back) => put_line(
+            output,
+            &format_args!("{} {} {}", Hex(octets), back.seconds, back.zone),
+        ),
+        None => put_line(output, &"none"),
     }
 }
 
 // One time.
-fn write_time(to: &mut Stream, t: Stamp) {
-    let _ = match calendar::stamp_octets(t) {
-        Some(octets) => put_octets(to, &octets),
-        None => writeln!(to, "none"),
-    };
-    let _ = to.flush();
+fn write_time(output: Stdout, t: Stamp) {
+    match calendar::stamp_octets(t) {
+        Some(octets) => put_octets(output, &octets),
+        None => put_line(output, &"none"),
+    }
 }
 
 // A file of times.
 #[derive(Drop)]
 struct Dates<F> {
-    to: Stream,
+    output: Stdout,
     error: Stderr,
     file: F,
 }
@@ -44,7 +45,7 @@ impl<F: Read> Turns for Dates<F> {
         match window::read_full(&mut self.file, &mut b) {
             0 => false,
             6 => {
-                write_time(&mut self.to, block::stamp_at(&b, 0));
+                write_time(self.output, block::stamp_at(&b, 0));
                 true
             }
             _ => {
@@ -57,7 +58,7 @@ impl<F: Read> Turns for Dates<F> {
 
 pub fn main<F: Read + Drop>(output: Stdout, error: Stderr, file: F) {
     let mut dates = Dates {
-        to: out::to_output(output),
+        output,
         error,
         file,
     };

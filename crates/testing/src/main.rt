@@ -22,7 +22,8 @@ mod table;
 mod tick;
 
 use std::env::Env;
-use std::io::{Read, Stderr, Stdout};
+use std::fmt;
+use std::io::{Read, Stderr, Stdout, Write};
 use std::rt::Files;
 
 // Each file of calls, from an argument on, from a fresh node.
@@ -38,7 +39,19 @@ fn all<R: Env + Files, F: Read + Drop>(
     }
     records::both(output, error, input);
     records::both_mm(rt, output, error, 3);
-    table::write_rows(&mut out::to_output(output));
+    table::write_rows(output);
+}
+
+// Writes what is shown, through a stream of its own: where it can't be written, what comes next is tried all the same.
+fn put(output: Stdout, shown: &impl fmt::Display) {
+    let mut to = out::to_output(output);
+    let _ = write!(to, "{shown}");
+    let _ = to.flush();
+}
+
+// The same of a line.
+fn put_line(output: Stdout, line: &impl fmt::Display) {
+    put(output, &format_args!("{line}\n"));
 }
 
 // The first n octets of a buffer; all where there are fewer.

@@ -12,15 +12,15 @@
 // first entry does not read is as one with an M-CDR there.
 ghost use Rattle.std.specs.Prelude.{◌≤◌};
 
+use crate::put_line;
 use entries::Entry;
 use entries::read::Cdr;
 use event::framing;
-use out::Stream;
 use profile::Profile;
 use scdr::Record;
 use setup::Command;
 use std::env::Env;
-use std::io::{Stderr, Stdout, Write};
+use std::io::{Stderr, Stdout};
 use std::rt::Files;
 use std::time::{CpuClock, Duration};
 
@@ -191,10 +191,9 @@ pub fn clock(rt: &impl CpuClock) -> u64 {
 }
 
 // One line: calls of which kind, how many, a sum over what they answered, and the microseconds since a time.
-pub fn say(rt: &impl CpuClock, to: &mut Stream, kind: &str, calls: u64, sum: u64, from: u64) {
+pub fn say(rt: &impl CpuClock, output: Stdout, kind: &str, calls: u64, sum: u64, from: u64) {
     let took = clock(rt).wrapping_sub(from);
-    let _ = writeln!(to, "{kind} {calls} {sum} {took}");
-    let _ = to.flush();
+    put_line(output, &format_args!("{kind} {calls} {sum} {took}"));
 }
 
 // The file that an argument of a command names, from the start of a buffer: how many octets it has.
@@ -212,7 +211,7 @@ pub fn load<R: Env + Files>(
 
 fn pace_step<R: Env + Files + CpuClock>(
     rt: &R,
-    to: &mut Stream,
+    output: Stdout,
     command: Command,
     profile: Profile,
 ) {
@@ -220,32 +219,32 @@ fn pace_step<R: Env + Files + CpuClock>(
     let n = load(rt, command, 3, &mut held);
     let from = clock(rt);
     let sum = run_events(profile, octets::front(&held, n));
-    say(rt, to, "step", STEPS, sum, from);
+    say(rt, output, "step", STEPS, sum, from);
 }
 
-fn pace_records<R: Env + Files + CpuClock>(rt: &R, to: &mut Stream, command: Command) {
+fn pace_records<R: Env + Files + CpuClock>(rt: &R, output: Stdout, command: Command) {
     let mut held = [0u8; 65536];
     let n = load(rt, command, 4, &mut held);
-    pace_list(rt, to, octets::front(&held, n));
+    pace_list(rt, output, octets::front(&held, n));
 }
 
-fn pace_list(rt: &impl CpuClock, to: &mut Stream, list: &[u8]) {
+fn pace_list(rt: &impl CpuClock, output: Stdout, list: &[u8]) {
     let mut records = [None; KEPT];
     let n = keep(list, &mut records).max(1);
     let kept = records.get(..n).unwrap_or(&records);
     let from = clock(rt);
     let sum = write_records(kept);
-    say(rt, to, "write", WRITES, sum, from);
+    say(rt, output, "write", WRITES, sum, from);
     let from = clock(rt);
     let sum = read_records(list);
-    say(rt, to, "read", READS, sum, from);
-    pace_count(rt, to, "count", list, kept, false);
-    pace_count(rt, to, "full", list, kept, true);
+    say(rt, output, "read", READS, sum, from);
+    pace_count(rt, output, "count", list, kept, false);
+    pace_count(rt, output, "full", list, kept, true);
 }
 
 fn pace_count(
     rt: &impl CpuClock,
-    to: &mut Stream,
+    output: Stdout,
     kind: &str,
     list: &[u8],
     kept: &[Option<Record>],
@@ -254,7 +253,7 @@ fn pace_count(
     let records = entries::count::count(list) as u64;
     let from = clock(rt);
     let sum = count_names(list, kept, reading);
-    say(rt, to, kind, records % 65536 * COUNTS, sum, from);
+    say(rt, output, kind, records % 65536 * COUNTS, sum, from);
 }
 
 pub fn main<R: Env + Files + CpuClock>(rt: &R, output: Stdout, error: Stderr) {
@@ -267,8 +266,7 @@ pub fn main<R: Env + Files + CpuClock>(rt: &R, output: Stdout, error: Stderr) {
         error,
     };
     if let Some(p) = command.profile(rt, 2) {
-        let mut to = out::to_output(output);
-        pace_step(rt, &mut to, command, p);
-        pace_records(rt, &mut to, command);
+        pace_step(rt, output, command, p);
+        pace_records(rt, output, command);
     }
 }

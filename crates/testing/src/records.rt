@@ -10,16 +10,15 @@
 // A block is the plain form of a record, every field at a fixed place (docs/FORMATS.md).
 pub mod block;
 
-use crate::lent;
+use crate::{lent, put, put_line};
 use ber::answer;
 use ber::written::NotWritten;
 use mcdr::MmRecord;
-use out::Stream;
 use scdr::Record;
 use setup::{Command, Turns};
 use shown::{Hex, Shown};
 use std::env::Env;
-use std::io::{Read, Stderr, Stdout, Write};
+use std::io::{Read, Stderr, Stdout};
 use std::marker::PhantomData;
 use std::rt::Files;
 
@@ -45,7 +44,7 @@ trait Kind: Sized + Drop {
 
     fn read(octets: &[u8]) -> Option<Self>;
 
-    fn put_block(&self, to: &mut Stream);
+    fn put_block(&self, output: Stdout);
 
     // Where the access point name lies in a record's octets, if its kind has one.
     fn name(octets: &[u8]) -> Option<&[u8]>;
@@ -70,8 +69,8 @@ impl Kind for Record {
         scdr::read::read_record(octets)
     }
 
-    fn put_block(&self, to: &mut Stream) {
-        let _ = write!(to, "{}", Shown::plain(self));
+    fn put_block(&self, output: Stdout) {
+        put(output, &Shown::plain(self));
     }
 
     fn name(octets: &[u8]) -> Option<&[u8]> {
@@ -98,8 +97,8 @@ impl Kind for MmRecord {
         mcdr::read::read_record(octets)
     }
 
-    fn put_block(&self, to: &mut Stream) {
-        let _ = write!(to, "{}", Shown::plain(self));
+    fn put_block(&self, output: Stdout) {
+        put(output, &Shown::plain(self));
     }
 
     fn name(_octets: &[u8]) -> Option<&[u8]> {
@@ -108,49 +107,47 @@ impl Kind for MmRecord {
 }
 
 // One block: its record's octets, or the number of the refusal; and read back, where that is asked. Unless it is, its flags are looked at.
-fn write_block<K: Kind>(to: &mut Stream, block: &[u8], back: bool) {
+fn write_block<K: Kind>(output: Stdout, block: &[u8], back: bool) {
     if !back && !K::flags_ok(block) {
-        refuse(to, NotWritten::OutsideRules);
+        refuse(output, NotWritten::OutsideRules);
         return;
     }
     let mut out = [0u8; 1024];
     match K::of_block(block).write(&mut out) {
-        Ok(n) => put_record::<K>(to, octets::front(&out, n), back),
-        Err(e) => refuse(to, e),
+        Ok(n) => put_record::<K>(output, octets::front(&out, n), back),
+        Err(e) => refuse(output, e),
     }
 }
 
 // The number of a refusal.
-fn refuse(to: &mut Stream, e: NotWritten) {
-    let _ = writeln!(to, "{}", e.number());
+fn refuse(output: Stdout, e: NotWritten) {
+    put_line(output, &e.number());
 }
 
 // The octets of a record; and what they are read as, and the access point name where it lies in them.
-fn put_record<K: Kind>(to: &mut Stream, octets: &[u8], back: bool) {
-    let _ = writeln!(to, "{}", Hex(octets));
+fn put_record<K: Kind>(output: Stdout, octets: &[u8], back: bool) {
+    put_line(output, &Hex(octets));
     if back {
-        read_record::<K>(to, octets);
+        read_record::<K>(output, octets);
         if let Some(name) = K::name(octets) {
-            let _ = writeln!(to, "{}", Hex(name));
+            put_line(output, &Hex(name));
         }
     }
 }
 
 // One record: its block, or the number of the refusal.
-fn read_record<K: Kind>(to: &mut Stream, octets: &[u8]) {
+fn read_record<K: Kind>(output: Stdout, octets: &[u8]) {
     let read = K::read(octets);
     match &read {
-        Some(record) => record.put_block(to),
-        None => {
-            let _ = writeln!(to, "{}", answer::answer_of(&read));
-        }
+        Some(record) => record.put_block(output),
+        None => put_line(output, &answer::answer_of(&read)),
     }
 }
 
 // A file of blocks, or of records.
 #[derive(Drop)]
 struct Records<F, K> {
-    to: Stream,
+    output: Stdout,
     error: Stderr,
     file: F,
     task: Task,
@@ -160,13 +157,11 @@ struct Records<F, K> {
 impl<F: Read, K: Kind> Turns for Records<F, K> {
     // Takes one block or one record, and answers whether to go on.
     fn turn(&mut self) -> bool {
-        let more = match self.task {
+        match self.task {
             Task::Write => self.take_block(false),
             Task::Read => self.take_record(),
             Task::Both => self.take_block(true),
-        };
-        let _ = self.to.flush();
-        more
+        }
     }
 }
 
@@ -182,7 +177,7 @@ impl<F: Read, K: Kind> Records<F, K> {
             setup::say_line(self.error, b"records: the last block is cut short\n");
             return false;
         }
-        write_block::<K>(&mut self.to, octets::front(&b, n), back);
+        write_block::<K>(self.output, octets::front(&b, n), back);
         true
     }
 
@@ -198,7 +193,7 @@ impl<F: Read, K: Kind> Records<F, K> {
             setup::say_line(self.error, b"records: the last record is cut short\n");
             return false;
         }
-        read_record::<K>(&mut self.to, octets::front(&b, n));
+        read_record::<K>(self.output, octets::front(&b, n));
         true
     }
 }
@@ -212,7 +207,7 @@ fn run<F: Read + Drop, K: Kind>(
     kind: PhantomData<K>,
 ) {
     let mut records = Records {
-        to: out::to_output(output),
+        output,
         error,
         file,
         task,

@@ -1,8 +1,8 @@
 // The bench table of 01, row by row through the code. That the definitions give the same is one theorem (specs/Table.antt, proofs/Holds.antt).
+use crate::put_line;
 use calendar::Stamp;
-use out::Stream;
 use std::fmt;
-use std::io::Write;
+use std::io::Stdout;
 
 // Octets as two digits of sixteen each, after a space.
 #[derive(Clone, Copy)]
@@ -17,44 +17,49 @@ impl<'a> fmt::Display for Apart<'a> {
     }
 }
 
-fn integer(to: &mut Stream, v: u64) {
+fn integer(output: Stdout, v: u64) {
     let octets = ber::int::int_octets(v);
-    let _ = writeln!(to, "integer {v} ->{}", Apart(&octets));
+    put_line(output, &format_args!("integer {v} ->{}", Apart(&octets)));
 }
 
-fn length(to: &mut Stream, n: usize) {
+fn length(output: Stdout, n: usize) {
     if let Some(octets) = ber::length::len_octets(n) {
-        let _ = writeln!(to, "length {n} ->{}", Apart(&octets));
+        put_line(output, &format_args!("length {n} ->{}", Apart(&octets)));
     }
 }
 
 // The offset of a zone is minutes from universal time plus 720.
-fn time(to: &mut Stream, seconds: u32, zone: u16, offset: i32) {
+fn time(output: Stdout, seconds: u32, zone: u16, offset: i32) {
     if let Some(octets) = calendar::stamp_octets(Stamp { seconds, zone }) {
-        let _ = writeln!(to, "time {seconds}, offset {offset} ->{}", Apart(&octets));
+        put_line(
+            output,
+            &format_args!("time {seconds}, offset {offset} ->{}", Apart(&octets)),
+        );
     }
 }
 
-fn imsi(to: &mut Stream, digits: &str, s: &[u8]) {
+fn imsi(output: Stdout, digits: &str, s: &[u8]) {
     if let Some(n) = ber::imsi::imsi_size(s) {
-        let _ = writeln!(to, "IMSI {digits} ->{}", Apart(octets::front(s, n)));
+        put_line(
+            output,
+            &format_args!("IMSI {digits} ->{}", Apart(octets::front(s, n))),
+        );
     }
 }
 
-pub fn write_rows(to: &mut Stream) {
+pub fn write_rows(output: Stdout) {
     for v in [0, 127, 128, 32768, 4294967295] {
-        integer(to, v);
+        integer(output, v);
     }
     for n in [127, 128, 256] {
-        length(to, n);
+        length(output, n);
     }
-    time(to, 0, 720, 0);
-    time(to, 5097600, 720, 0);
-    time(to, 3155759999, 630, -90);
+    time(output, 0, 720, 0);
+    time(output, 5097600, 720, 0);
+    time(output, 3155759999, 630, -90);
     imsi(
-        to,
+        output,
         "123456",
         &[0x21, 0x43, 0x65, 0xFF, 0xFF, 0xFF, 0xFF, 0xFF],
     );
-    let _ = to.flush();
 }

@@ -54,6 +54,6 @@ pub fn main<R: Env + Files + CpuClock>(rt: &R, output: Stdout, error: Stderr) {
         let n = load(rt, command, 3, &mut held);
         let from = clock(rt);
         let (last, sum) = run_last(p, octets::front(&held, n));
-        say(rt, &mut out::to_output(output), "tick", last, sum, from);
+        say(rt, output, "tick", last, sum, from);
     }
 }
