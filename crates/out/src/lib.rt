@@ -16,7 +16,7 @@ use std::io::{Stderr, Stdout, Write};
 pub const ROOM: usize = 4096;
 
 // Where characters go, with those that wait.
-#[derive(Drop)]
+#[derive(Clone, Copy, Drop)]
 pub struct Stream<W = Stdout> {
     end: W,
     text: [u8; ROOM],
