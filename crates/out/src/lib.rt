@@ -1,9 +1,10 @@
 // Characters on their way to standard output or standard error: they wait in a buffer, which is written where it is full, and by `flush`.
 //
-// No contract can say what is written: `put` says what waits after one character, as the write went, and all else puts characters by it.
+// No contract can say what is written: `put` says what waits after one character, as the write went, and all else says that it puts its
+// characters as `put` does, one after another.
 #![tactic(auto)]
 
-ghost use Rattle.std.specs.Prelude.{◌≡◌, IfOk, None, Ok, OnErr, OnOk, length, nat_eq};
+ghost use Rattle.std.specs.Prelude.{◌≡◌, ◌<◌, IfOk, None, Ok, OnErr, OnOk, length, nat_eq, take};
 ghost use Rattle.std.specs.Io.{WritesAtMost};
 ghost use Rattle.std.specs.Result.{result_err};
 ghost use Rattle.std.specs.Io.KnownBytes.{Keeps, WriteAppends};
@@ -65,6 +66,28 @@ impl<W: Write> Stream<W> {
         Ok(())
     }
 
+    // Puts as many of the octets as there is room for, and answers how many. Where a write fails, none of them comes out.
+    fn put_stretch(&mut self, octets: &[u8]) -> io::Result<usize>
+        requires { 0 < length octets.now }
+        ensures bound { WritesAtMost result octets.now }
+        ensures some { IfOk result (λ n. 0 < n) }
+        ensures puts { IfOk result (λ n. PutsAll self.old.text (count_of self.old.waiting) (take n octets.now) self.new.text (count_of self.new.waiting)) }
+        ensures lost { OnErr result (PutsAll self.old.text (count_of self.old.waiting) octets.now self.new.text (count_of self.new.waiting)) }
+    {
+        if self.is_full() {
+            self.write_out();
+        }
+        match &mut self.waiting {
+            Ok(n) => {
+                let size = octets.len().min(ROOM - *n);
+                self.text[*n..*n + size].copy_from_slice(&octets[..size]);
+                *n += size;
+                Ok(size)
+            }
+            Err(why) => Err(*why),
+        }
+    }
+
     fn is_full(&self) -> bool
         ensures { result ≡ nat_eq (count_of self.now.waiting) 4096 }
     {
@@ -91,8 +114,10 @@ impl<W: Write> Write for Stream<W> {
         ensures all { IfOk result (λ n. n ≡ length octets.now) }
         ensures puts { PutsAll self.old.text (count_of self.old.waiting) octets.now self.new.text (count_of self.new.waiting) }
     {
-        for x in octets {
-            self.put(*x)?;
+        let mut rest = octets;
+        while !rest.is_empty() {
+            let n = self.put_stretch(rest)?;
+            rest = &rest[n..];
         }
         Ok(octets.len())
     }
