@@ -4,10 +4,10 @@
 // characters as `put` does, one after another.
 #![tactic(auto)]
 
-ghost use Rattle.std.specs.Prelude.{◌≡◌, ◌<◌, IfOk, None, Ok, OnErr, OnOk, length, nat_eq, take};
+ghost use Rattle.std.specs.Prelude.{◌≡◌, ◌<◌, ◌≤◌, IfOk, None, Ok, OnErr, OnOk, length, nat_eq, take};
 ghost use Rattle.std.specs.Io.{WritesAtMost};
 ghost use Rattle.std.specs.Result.{result_err};
-ghost use Rattle.std.specs.Io.KnownBytes.{Keeps, WriteAppends};
+ghost use Rattle.std.specs.Io.KnownBytes.{Appends, Keeps, WriteAppends};
 ghost use Rattle.out.specs.Put.{PutsAll, PutsOne, count_of};
 
 use std::io;
@@ -72,6 +72,8 @@ impl<W: Write> Stream<W> {
         ensures bound { WritesAtMost result octets.now }
         ensures some { IfOk result (λ n. 0 < n) }
         ensures puts { IfOk result (λ n. PutsAll self.old.text (count_of self.old.waiting) (take n octets.now) self.new.text (count_of self.new.waiting)) }
+        ensures told { OnOk result (count_of self.new.waiting ≤ 4096) }
+        ensures failed { OnErr result (count_of self.new.waiting ≡ 4097) }
         ensures lost { OnErr result (PutsAll self.old.text (count_of self.old.waiting) octets.now self.new.text (count_of self.new.waiting)) }
     {
         if self.is_full() {
@@ -113,6 +115,8 @@ impl<W: Write> Write for Stream<W> {
         ensures bytes { WriteAppends None None result octets.now }
         ensures all { IfOk result (λ n. n ≡ length octets.now) }
         ensures puts { PutsAll self.old.text (count_of self.old.waiting) octets.now self.new.text (count_of self.new.waiting) }
+        ensures told { OnOk result (0 < length octets.now → count_of self.new.waiting ≤ 4096) }
+        ensures failed { OnErr result (count_of self.new.waiting ≡ 4097) }
     {
         let mut rest = octets;
         while !rest.is_empty() {
@@ -120,6 +124,16 @@ impl<W: Write> Write for Stream<W> {
             rest = &rest[n..];
         }
         Ok(octets.len())
+    }
+
+    // The same. What failed stays failed, so it asks once: std's own would go on asking after a write that was interrupted.
+    fn write_all(&mut self, octets: &[u8]) -> io::Result<()>
+        ensures bytes { OnOk result (Appends None None octets.now) }
+        ensures puts { PutsAll self.old.text (count_of self.old.waiting) octets.now self.new.text (count_of self.new.waiting) }
+        ensures told { OnOk result (0 < length octets.now → count_of self.new.waiting ≤ 4096) }
+        ensures failed { OnErr result (count_of self.new.waiting ≡ 4097) }
+    {
+        self.write(octets).map(|_| ())
     }
 
     fn flush(&mut self) -> io::Result<()>

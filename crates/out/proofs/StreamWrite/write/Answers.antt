@@ -11,4 +11,4 @@ then_rest t w xs u v n z r stretch rest =
     subst (λ l. PutsAll t w l z r) (take-append-drop n xs) (then_all t w (take n xs) u v (drop n xs) z r stretch (rw (← take_rest xs n) rest))
 
 pub loop-rest-preserved : goal.loop-rest-preserved
-loop-rest-preserved g c = λ z r rest. c.loop-rest.invariant z r (then_rest _ _ _ _ _ _ z r c.in_ok-n.ensures.puts rest)
+loop-rest-preserved g c = (λ z r rest. c.loop-rest.invariant.0 z r (then_rest _ _ _ _ _ _ z r c.in_ok-n.ensures.puts rest), λ _. c.in_ok-n.ensures.told)
