@@ -24,12 +24,24 @@ impl<'a> fmt::Display for Name<'a> {
 pub struct Hex<'a>(pub &'a [u8]);
 
 impl<'a> fmt::Display for Hex<'a> {
+    // Thirty-two octets at a time: a digit put by itself takes several times as long.
     fn fmt<W: fmt::Write>(&self, f: &mut fmt::Formatter<W>) -> fmt::Result {
-        for x in self.0 {
-            write!(f, "{x:02X}")?;
+        for part in self.0.chunks(32) {
+            let mut pairs = [[0u8; 2]; 32];
+            for (pair, x) in pairs.iter_mut().zip(part) {
+                *pair = [digit(x / 16), digit(x % 16)];
+            }
+            let text = octets::front(pairs.as_flattened(), part.len().wrapping_mul(2));
+            f.write_str(str::from_utf8(text).unwrap_or(""))?;
         }
         Ok(())
     }
+}
+
+// One digit of sixteen, as a character.
+fn digit(n: u8) -> u8 {
+    let d = n % 16;
+    if d < 10 { b'0' + d } else { b'A' + (d - 10) }
 }
 
 // The digits of an IMSI, the low half of each octet first. An F that fills the last octet is none.
@@ -47,7 +59,11 @@ impl<'a> fmt::Display for Imsi<'a> {
 }
 
 fn put_digit<W: fmt::Write>(f: &mut fmt::Formatter<W>, d: u8) -> fmt::Result {
-    if d < 10 { write!(f, "{d}") } else { Ok(()) }
+    if d < 10 {
+        f.write_char(char::from(b'0' + d))
+    } else {
+        Ok(())
+    }
 }
 
 // An IPv4 address, dotted.
