@@ -22,13 +22,14 @@ const LONGEST: usize = 292;
 // The most that one event can write.
 const MOST: usize = 16416;
 
-// A file of events through its window, and the node that they are charged on; what was done: events accepted whose records are written, these
-// records, and their octets.
+// A file of events through its window, the buffer for what an event writes, and the node that they are charged on; what was done: events
+// accepted whose records are written, these records, and their octets.
 #[derive(Drop)]
 struct Charge<'a, F> {
     command: Command<'a>,
     output: Stdout,
     input: Input<'a, F>,
+    out: [u8; MOST],
     node: Node,
     events: u64,
     records: u64,
@@ -38,21 +39,24 @@ struct Charge<'a, F> {
 impl<'a, F: Read> Turns for Charge<'a, F> {
     // Charges what is in the window, after more of the file was read, or its end, where less than an event may be there. Answers whether to go on.
     fn turn(&mut self) -> bool {
-        let mut out = [0u8; MOST];
         let read = !self.input.wants(LONGEST)
             || self.command.read_on(b"the file of events", &mut self.input);
-        let r = charging::charge(self.node, self.input.here(), self.input.ended, &mut out);
+        let now = self.node;
+        let ended = self.input.ended;
+        let Charge { input, out, .. } = self;
+        let r = charging::charge(now, input.here(), ended, out);
         self.node = r.node;
-        self.tell(&r, octets::front(&out, r.written)) && read
+        self.tell(&r) && read
     }
 }
 
 impl<'a, F: Read> Charge<'a, F> {
     // What was charged, and what it wrote. There was room for what one event can write, and no more: so where an event writes, its records go
     // out before the next is looked at, and where they could not be written, those before it had none. Answers whether more may follow.
-    fn tell(&mut self, r: &Charged, written: &[u8]) -> bool {
+    fn tell(&mut self, r: &Charged) -> bool {
         self.input.pass(r.came);
         self.events = self.events.wrapping_add(r.events as u64);
+        let written = octets::front(&self.out, r.written);
         if let Err(why) = self.output.write_all(written) {
             self.say_unwritten(r.last, why);
             self.events = self.events.wrapping_sub(1);
@@ -104,6 +108,7 @@ fn run<F: Read + Drop>(command: Command, output: Stdout, file: F, profile: Profi
         command,
         output,
         input: Input::new(file, &mut held),
+        out: [0; MOST],
         node: setup::node_of(profile),
         events: 0,
         records: 0,

@@ -127,12 +127,14 @@ fn ask(node: Node, batch: bool, octets: &[u8], out: &mut [u8]) -> Called {
     }
 }
 
-// A file of calls through its window, the node that they are run on, and the number of the next, from 1.
+// A file of calls through its window, the buffer of which each call is lent its room, the node that they are run on, and the number of the
+// next, from 1.
 #[derive(Drop)]
 struct Calls<'a, F> {
     command: Command<'a>,
     to: Stream,
     input: Input<'a, F>,
+    out: [u8; ROOM],
     node: Node,
     number: u64,
 }
@@ -163,23 +165,20 @@ impl<'a, F: Read> Calls<'a, F> {
 
     // Runs a call, and writes its line. Answers whether that could be written.
     fn run(&mut self, call: Call) -> bool {
-        let mut out = [0u8; ROOM];
-        let octets = octets::part(self.input.here(), 4, call.end);
-        let r = ask(
-            self.node,
-            call.batch,
-            octets,
-            crate::lent(&mut out, call.room),
-        );
+        let now = self.node;
+        let Calls { input, out, .. } = self;
+        let octets = octets::part(input.here(), 4, call.end);
+        let r = ask(now, call.batch, octets, crate::lent(out, call.room));
         self.node = r.node;
         self.number = self.number.wrapping_add(1);
         self.input.pass(call.end);
-        self.write_line(&r, octets::front(&out, r.written))
+        self.write_line(&r)
     }
 
     // Writes a line: the answer, of a list how many pairs were applied, how many octets were written, and these in hex.
-    fn write_line(&mut self, r: &Called, octets: &[u8]) -> bool {
-        let (answer, written, hex) = (r.answer, r.written, Hex(octets));
+    fn write_line(&mut self, r: &Called) -> bool {
+        let (answer, written) = (r.answer, r.written);
+        let hex = Hex(octets::front(&self.out, written));
         let _ = match r.applied {
             Some(applied) => writeln!(self.to, "batch {answer} {applied} {written} {hex}"),
             None => writeln!(self.to, "{answer} {written} {hex}"),
@@ -210,6 +209,7 @@ fn run<F: Read + Drop>(command: Command, output: Stdout, file: F, profile: Profi
         command,
         to: out::to_output(output),
         input: Input::new(file, &mut held),
+        out: [0; ROOM],
         node: setup::node_of(profile),
         number: 1,
     };
