@@ -90,40 +90,36 @@ fn whole(here: &[u8], room: usize, end: usize, batch: bool) -> Option<Call> {
     (end <= here.len()).then_some(Call { room, end, batch })
 }
 
-// What a call of either kind hands back: of a list, how many pairs were applied.
+// What a call of either kind answers beside the node: of a list, how many pairs were applied.
 #[derive(Clone, Copy)]
 struct Called {
     answer: u8,
     applied: Option<usize>,
-    node: Node,
     written: usize,
 }
 
-// A call of the node, by the octets of an event or of a list.
-fn ask(node: Node, batch: bool, octets: &[u8], out: &mut [u8]) -> Called {
+// A call of the node where it lies, by the octets of an event or of a list.
+fn ask(node: &mut Node, batch: bool, octets: &[u8], out: &mut [u8]) -> Called {
     if batch {
-        let r = reports::told(node, octets, out);
-        Called {
+        let r = reports::told(*node, octets, out);
+        *node = r.node;
+        return Called {
             answer: refusal::answer_of(r.refusal),
             applied: Some(r.applied),
-            node: r.node,
             written: r.written,
+        };
+    }
+    let (answer, written) = match node::step::step(*node, octets, out) {
+        Ok(stepped) => {
+            *node = stepped.node;
+            (0, stepped.written)
         }
-    } else {
-        match node::step::step(node, octets, out) {
-            Ok(stepped) => Called {
-                answer: 0,
-                applied: None,
-                node: stepped.node,
-                written: stepped.written,
-            },
-            Err(refusal) => Called {
-                answer: refusal.into(),
-                applied: None,
-                node,
-                written: 0,
-            },
-        }
+        Err(refusal) => (refusal.into(), 0),
+    };
+    Called {
+        answer,
+        applied: None,
+        written,
     }
 }
 
@@ -165,11 +161,14 @@ impl<'a, F: Read> Calls<'a, F> {
 
     // Runs a call, and writes its line. Answers whether that could be written.
     fn run(&mut self, call: Call) -> bool {
-        let now = self.node;
-        let Calls { input, out, .. } = self;
+        let Calls {
+            input,
+            out,
+            node,
+            ..
+        } = self;
         let octets = octets::part(input.here(), 4, call.end);
-        let r = ask(now, call.batch, octets, crate::lent(out, call.room));
-        self.node = r.node;
+        let r = ask(node, call.batch, octets, crate::lent(out, call.room));
         self.number = self.number.wrapping_add(1);
         self.input.pass(call.end);
         self.write_line(&r)
