@@ -38,6 +38,17 @@ impl<'a> fmt::Display for Hex<'a> {
     }
 }
 
+// An octet as its two digits of sixteen.
+#[derive(Clone, Copy)]
+struct Octet(u8);
+
+impl fmt::Display for Octet {
+    fn fmt<W: fmt::Write>(&self, f: &mut fmt::Formatter<W>) -> fmt::Result {
+        let digits = [digit(self.0 / 16), digit(self.0 % 16)];
+        f.write_str(str::from_utf8(&digits).unwrap_or(""))
+    }
+}
+
 // One digit of sixteen, as a character.
 fn digit(n: u8) -> u8 {
     let d = n % 16;
@@ -59,11 +70,7 @@ impl<'a> fmt::Display for Imsi<'a> {
 }
 
 fn put_digit<W: fmt::Write>(f: &mut fmt::Formatter<W>, d: u8) -> fmt::Result {
-    if d < 10 {
-        f.write_char(char::from(b'0' + d))
-    } else {
-        Ok(())
-    }
+    if d < 10 { write!(f, "{d}") } else { Ok(()) }
 }
 
 // An IPv4 address, dotted.
@@ -119,9 +126,20 @@ fn put_time<W: fmt::Write>(
     let sign = char::from(sign);
     write!(
         f,
-        "20{year:02X}-{month:02X}-{day:02X}{before_hour}{hour:02X}:{minute:02X}:{second:02X}"
+        "20{}-{}-{}{before_hour}{}:{}:{}",
+        Octet(year),
+        Octet(month),
+        Octet(day),
+        Octet(hour),
+        Octet(minute),
+        Octet(second)
     )?;
-    write!(f, "{before_zone}{sign}{zone_hour:02X}:{zone_minute:02X}")
+    write!(
+        f,
+        "{before_zone}{sign}{}:{}",
+        Octet(zone_hour),
+        Octet(zone_minute)
+    )
 }
 
 // The containers that a record has.
